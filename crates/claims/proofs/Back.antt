@@ -7,15 +7,15 @@ use Rattle.life_base.specs.declared.kind.Kind.{Kind}
 use Rattle.life_base.specs.declared.kind.Kind.TheVariants as kinds
 use Rattle.life_base.specs.declared.fault.Fault.{Fault}
 use Rattle.life_mc.specs.Macrocell.{Macrocell as LayerFile}
-use Rattle.life_mc.specs.Reading.{AreMacrocell, broken, rule_in_force, generation_in_force, squares_of, square_on, is_leaf, leaf_bytes, is_leaf_byte, quad_of}
+use Rattle.life_mc.specs.Reading.{AreMacrocell, broken_rule, rule_in_force, generation_in_force, squares_of, square_on, is_leaf, leaf_bytes, is_leaf_byte, quad_of_numbers}
 use Rattle.life_mc.specs.declared.line.Line.{Line}
 use Rattle.life_mc.specs.declared.line.Line.TheVariants.{Leaf}
 use Rattle.life_rle.specs.Grammar.{IsSomeRle}
 use Rattle.life_rle.proofs.DecidedLaw.{decided as rle_decided}
 use Rattle.claims.specs.Pattern.{Pattern}
-use Rattle.claims.specs.Files.{fault_at, macrocell_of, read_lines, end_of_rle}
-use Rattle.claims.specs.Rle.{with_line as with_rle_line}
-use Rattle.claims.specs.Counting.{is_node_line, has_leaves}
+use Rattle.claims.specs.Files.{claimed_fault_at, macrocell_of, read_lines, end_of_rle}
+use Rattle.claims.specs.Rle.{with_rle_line}
+use Rattle.claims.specs.Counting.{is_claimed_node_line, has_leaves}
 use Rattle.claims.proofs.McFile.{macrocell_refuses}
 use Rattle.claims.proofs.RleFile.{rle_refuses, rle_lacks, begun}
 
@@ -25,15 +25,15 @@ not_both (Err g) x fault e f = cc
 
 -- the line breaks a rule
 abbrev broken_at : List (List ℕ) → ℕ → Option Kind
-broken_at lines k = broken 62 (take k lines) (slice_index_or lines k [])
+broken_at lines k = broken_rule 62 (take k lines) (slice_index_or lines k [])
 
 -- no line before m does, or one is the first that does
 pub record FirstBroken (lines : List (List ℕ)) (m : ℕ) : Type 0 where
   pub k : ℕ
   pub below : k < m
   pub kind : Kind
-  pub here : broken 62 (take k lines) (slice_index_or lines k []) ≡ Some kind
-  pub before : (i : ℕ) → i < k → broken 62 (take i lines) (slice_index_or lines i []) ≡ None
+  pub here : broken_rule 62 (take k lines) (slice_index_or lines k []) ≡ Some kind
+  pub before : (i : ℕ) → i < k → broken_rule 62 (take i lines) (slice_index_or lines i []) ≡ None
 
 more_unbroken : (lines : List (List ℕ)) (m : ℕ) → ((i : ℕ) → i < m → broken_at lines i ≡ None) → broken_at lines m ≡ None → (i : ℕ) → i < suc m
     → broken_at lines i ≡ None
@@ -59,28 +59,28 @@ macrocell_back (line ∷ lines) pattern e = elim (search_broken (line ∷ lines)
     record { rule = rule_in_force (line ∷ lines); generation = generation_in_force (line ∷ lines); lines = squares_of (line ∷ lines) },
     record { header = omega arith; unbroken = h; rule = refl; generation = refl; squares = refl },
   )
-  | inr f ↦ absurd (not_both (macrocell_of (line ∷ lines)) pattern (fault_at (f.k + 1) f.kind) e
+  | inr f ↦ absurd (not_both (macrocell_of (line ∷ lines)) pattern (claimed_fault_at (f.k + 1) f.kind) e
       (macrocell_refuses (line ∷ lines) f.k f.kind f.below f.before f.here))
 ]
 
 pub rle_back : (lines : List (List ℕ)) (pattern : Pattern) → read_lines with_rle_line end_of_rle 1 begun lines ≡ Ok pattern → IsSomeRle 62 lines
 rle_back lines pattern e = elim (rle_decided 62 lines).0 [
   | inl h ↦ h
-  | inr (inl h) ↦ absurd (not_both (read_lines with_rle_line end_of_rle 1 begun lines) pattern (fault_at (1 + length lines) kinds.NoHeader) e
+  | inr (inl h) ↦ absurd (not_both (read_lines with_rle_line end_of_rle 1 begun lines) pattern (claimed_fault_at (1 + length lines) kinds.NoHeader) e
       (rle_lacks lines h.0 h.1))
   | inr (inr h) ↦
-      absurd (not_both (read_lines with_rle_line end_of_rle 1 begun lines) pattern (fault_at (1 + length h.front) h.kind) e
+      absurd (not_both (read_lines with_rle_line end_of_rle 1 begun lines) pattern (claimed_fault_at (1 + length h.front) h.kind) e
       (ap (read_lines with_rle_line end_of_rle 1 begun) h.whole ∙ rle_refuses h.front h.rest h.line h.kind h.breaks))
 ]
 
 -- ---- leaves
 
 -- a line that gives a leaf is a leaf line
-leaf_line : (line rows : List ℕ) → square_on line ≡ Some (Leaf rows) → (is_node_line line && is_leaf_byte (slice_index (trim line) 0)) ≡ true
+leaf_line : (line rows : List ℕ) → square_on line ≡ Some (Leaf rows) → (is_claimed_node_line line && is_leaf_byte (slice_index (trim line) 0)) ≡ true
 leaf_line line rows e = by (not (is_blank line) && not (begins_with line (codes "#"))) (is_leaf_byte (slice_index (trim line) 0)) (is_leaf (trim line))
     (list_all is_digit_text (words_of (trim line))) e
   where
-    no_quad : (numbers : List ℕ) → quad_of numbers ≡ Some (Leaf rows) → ⊥
+    no_quad : (numbers : List ℕ) → quad_of_numbers numbers ≡ Some (Leaf rows) → ⊥
     no_quad [] h = cc
     no_quad (a ∷ []) h = cc
     no_quad (a ∷ b ∷ []) h = cc
@@ -90,7 +90,8 @@ leaf_line line rows e = by (not (is_blank line) && not (begins_with line (codes 
     no_quad (a ∷ b ∷ c ∷ d ∷ e ∷ f ∷ numbers) h = cc
 
     by : (node first whole digits : Bool)
-        → cond node (cond first (cond whole (Some (Leaf (leaf_bytes (trim line)))) None) (cond digits (quad_of (map value_of (words_of (trim line)))) None))
+        → cond node (cond first (cond whole (Some (Leaf (leaf_bytes (trim line)))) None)
+        (cond digits (quad_of_numbers (map value_of (words_of (trim line)))) None))
         None ≡ Some (Leaf rows)
         → (node && first) ≡ true
     by true true whole digits h = refl
@@ -98,18 +99,19 @@ leaf_line line rows e = by (not (is_blank line) && not (begins_with line (codes 
     by true false whole false h = cc
     by false first whole digits h = cc
 
-no_leaf_in : (lines : List (List ℕ)) (i : ℕ) (rows : List ℕ) → list_any (λ line. is_node_line line && is_leaf_byte (slice_index (trim line) 0)) lines ≡ false
+no_leaf_in : (lines : List (List ℕ)) (i : ℕ) (rows : List ℕ) → list_any (λ line. is_claimed_node_line line && is_leaf_byte (slice_index (trim line) 0)) lines
+    ≡ false
     → slice_get (filter_map square_on lines) i ≡ Some (Leaf rows) → ⊥
 no_leaf_in [] i rows h e = cc
 no_leaf_in (line ∷ lines) i rows h e =
-    by (square_on line) refl i (λ j. no_leaf_in lines j rows (or_parts (is_node_line line && is_leaf_byte (slice_index (trim line) 0)) _ h).1) e
+    by (square_on line) refl i (λ j. no_leaf_in lines j rows (or_parts (is_claimed_node_line line && is_leaf_byte (slice_index (trim line) 0)) _ h).1) e
   where
     by : (o : Option Line) → square_on line ≡ o → (j : ℕ) → ((k : ℕ) → slice_get (filter_map square_on lines) k ≡ Some (Leaf rows) → ⊥)
         → slice_get (cons_option o (filter_map square_on lines)) j ≡ Some (Leaf rows) → ⊥
     by None f j below g = below j g
     by (Some found) f zero below g =
-        true≢false (sym (leaf_line line rows (f ∙ g)) ∙ (or_parts (is_node_line line && is_leaf_byte (slice_index (trim line) 0))
-        (list_any (λ l. is_node_line l && is_leaf_byte (slice_index (trim l) 0)) lines) h).0)
+        true≢false (sym (leaf_line line rows (f ∙ g)) ∙ (or_parts (is_claimed_node_line line && is_leaf_byte (slice_index (trim line) 0))
+        (list_any (λ l. is_claimed_node_line l && is_leaf_byte (slice_index (trim l) 0)) lines) h).0)
     by (Some found) f (suc j) below g = below j g
 
 -- a file without leaf lines has no leaf
@@ -118,6 +120,6 @@ pub no_leaves : (bytes : List ℕ) (file : LayerFile) → AreMacrocell 62 (lines
 no_leaves bytes file are h i rows e = at (lines_of bytes) (ap (λ (t : List Line). slice_get t i) (sym are.squares) ∙ e) h
   where
     at : (lines : List (List ℕ)) → slice_get (squares_of lines) i ≡ Some (Leaf rows)
-        → list_any (λ line. is_node_line line && is_leaf_byte (slice_index (trim line) 0)) (drop 1 lines) ≡ false → ⊥
+        → list_any (λ line. is_claimed_node_line line && is_leaf_byte (slice_index (trim line) 0)) (drop 1 lines) ≡ false → ⊥
     at [] g k = cc
     at (header ∷ lines) g k = no_leaf_in lines i rows k g

@@ -2,7 +2,7 @@
 use Rattle.std.proofs.Common.{◌≡◌, ℕ, suc, ◌<◌, List, [], ◌∷◌, length, refl, ◌∙◌, sym, subst, arith, ◌⊎◌, inl, inr, ℤ, Contains, AllPairs, ◌<ℤ◌}
 use Rattle.std.proofs.lemmas.Int.{ints}
 use Rattle.life_base.specs.declared.cell.Cell.{Cell}
-use Rattle.claims.specs.Generation.{AreCells, HasMoreCells}
+use Rattle.claims.specs.Generation.{AreClaimedCells, HasMoreClaimedCells}
 use Rattle.life_base.proofs.Members.{in_cases, in_tail, in_head}
 
 abbrev Before : Cell → Cell → Type 0
@@ -47,7 +47,7 @@ one_list (a ∷ ones) (b ∷ others) h l f g =
     by (inr k) (inr m) = absurd (asymmetric a b (first_before a ones h b m) (first_before b others l a k))
 
 -- as many cells are never more
-pub never_more : (cell : ℤ → ℤ → ℕ) (cells : List Cell) (most : ℕ) → AreCells cell cells → (most < length cells → ⊥) → HasMoreCells most cell → ⊥
+pub never_more : (cell : ℤ → ℤ → ℕ) (cells : List Cell) (most : ℕ) → AreClaimedCells cell cells → (most < length cells → ⊥) → HasMoreClaimedCells most cell → ⊥
 never_more cell cells most are few more =
     let other = more.1 in
     let e : cells ≡ more.0 =

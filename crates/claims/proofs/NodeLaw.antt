@@ -9,18 +9,18 @@ use Rattle.life_base.specs.declared.kind.Kind.{Kind}
 use Rattle.life_base.specs.declared.kind.Kind.TheVariants as kinds
 use Rattle.life_base.specs.declared.rule.Rule.{Rule as LayerRule}
 use Rattle.life_base.specs.declared.rule.Rule.TheVariants.{Life, Named}
-use Rattle.life_mc.specs.Macrocell.{is_level, is_quarter, level_of as line_level, numbered as layer_numbered, largest_state as layer_largest, is_child as layer_child}
-use Rattle.life_mc.specs.Reading.{leaf_rows, is_leaf, is_at_end, row_byte, square_of, broken_by_node, broken_by_square, quad_of as layer_quad_of}
+use Rattle.life_mc.specs.Macrocell.{is_level, is_quarter, level_of as line_level, item_of_number as layer_numbered, largest_state as layer_largest, is_child as layer_child}
+use Rattle.life_mc.specs.Reading.{leaf_rows, is_leaf, is_at_end, byte_of_row, square_of_text, broken_by_node, broken_by_square, quad_of_numbers as layer_quad_of}
 use Rattle.life_mc.specs.declared.line.Line.{Line}
 use Rattle.life_mc.specs.declared.line.Line.TheVariants.{Leaf, Quad}
 use Rattle.claims.specs.Outcomes.{◌>>=◌}
-use Rattle.claims.specs.Rules.{largest_state}
-use Rattle.claims.specs.Macrocell.{Node, leaf, quad, level_of, is_end, quad_of, node_of, numbered, has_level, is_child, with_node, is_leaf_byte}
+use Rattle.claims.specs.Rules.{claimed_largest_state}
+use Rattle.claims.specs.Macrocell.{Node, leaf, quad, claimed_level_of, is_end, claimed_quad_of, node_of, node_of_number, has_level, is_claimed_child, with_node, is_claimed_leaf_byte}
 use Rattle.claims.proofs.RuleLaw.{rule_in}
 
 -- a square in the words of the layer
 abbrev pub line_in : Node → Line
-line_in (leaf rows) = Leaf (take 8 (map row_byte rows ++ replicate 8 0))
+line_in (leaf rows) = Leaf (take 8 (map byte_of_row rows ++ replicate 8 0))
 line_in (quad level nw ne sw se) = Quad level nw ne sw se
 
 -- the levels of squares
@@ -34,11 +34,11 @@ end_is ((b ∷ row) ∷ []) = refl
 end_is ([] ∷ next ∷ rows) = refl
 end_is ((b ∷ row) ∷ next ∷ rows) = refl
 
-pub largest_is : (rule : LayerRule) → largest_state (rule_in rule) ≡ layer_largest rule
+pub largest_is : (rule : LayerRule) → claimed_largest_state (rule_in rule) ≡ layer_largest rule
 largest_is (Life rule) = refl
 largest_is (Named name) = refl
 
-pub level_is : (node : Node) → line_level (line_in node) ≡ level_of node
+pub level_is : (node : Node) → line_level (line_in node) ≡ claimed_level_of node
 level_is (leaf rows) = refl
 level_is (quad level nw ne sw se) = refl
 
@@ -47,11 +47,12 @@ has_level_at level [] i = refl
 has_level_at level (node ∷ nodes) zero = ap (λ n. n == level) (sym (level_is node))
 has_level_at level (node ∷ nodes) (suc i) = has_level_at level nodes i
 
-has_level_is : (level : ℕ) (nodes : List Node) (number : ℕ) → has_level level (numbered nodes number) ≡ is_level level (layer_numbered (levels_of nodes) number)
+has_level_is : (level : ℕ) (nodes : List Node) (number : ℕ) → has_level level (node_of_number nodes number)
+    ≡ is_level level (layer_numbered (levels_of nodes) number)
 has_level_is level nodes zero = refl
 has_level_is level nodes (suc i) = has_level_at level nodes i
 
-child_is : (nodes : List Node) (level number : ℕ) → is_child nodes level number ≡ layer_child (levels_of nodes) level number
+child_is : (nodes : List Node) (level number : ℕ) → is_claimed_child nodes level number ≡ layer_child (levels_of nodes) level number
 child_is nodes level number = ap (λ v. number == 0 || v) (has_level_is level nodes number)
 
 all_is : (p q : ℕ → Bool) → ((n : ℕ) → p n ≡ q n) → (ns : List ℕ) → list_all p ns ≡ list_all q ns
@@ -92,9 +93,9 @@ node_fits rule nodes (quad level nw ne sw se) =
     let ns = nw ∷ ne ∷ sw ∷ se ∷ [] in
     let one = level == 1 in
     let p : ℕ → Bool = λ n. nat_le n (layer_largest rule) in
-    let p' : ℕ → Bool = λ n. nat_le n (largest_state (rule_in rule)) in
+    let p' : ℕ → Bool = λ n. nat_le n (claimed_largest_state (rule_in rule)) in
     let q : ℕ → Bool = λ n. layer_child (levels_of nodes) (level - 1) n in
-    let q' : ℕ → Bool = λ n. is_child nodes (level - 1) n in
+    let q' : ℕ → Bool = λ n. is_claimed_child nodes (level - 1) n in
     let next = nodes ++ quad level nw ne sw se ∷ [] in
     let rest : Option Kind = cond (list_all (is_quarter rule (levels_of nodes) level) ns) None (cond one (Some kinds.StateRange) (Some kinds.BadChild)) in
     moved P
@@ -115,7 +116,7 @@ Adds nodes square next = map line_in next ≡ map line_in nodes ++ option_to_lis
 
 quads_fit : (rule : LayerRule) (nodes : List Node) (numbers : List ℕ)
     → Fits (Adds nodes (layer_quad_of numbers)) (broken_by_square 62 rule (levels_of nodes) (layer_quad_of numbers))
-    (quad_of numbers >>= λ node. with_node (rule_in rule) nodes node)
+    (claimed_quad_of numbers >>= λ node. with_node (rule_in rule) nodes node)
 quads_fit rule nodes [] = fails kinds.BadNode
 quads_fit rule nodes (a ∷ []) = fails kinds.BadNode
 quads_fit rule nodes (a ∷ b ∷ []) = fails kinds.BadNode
@@ -127,24 +128,24 @@ quads_fit rule nodes (a ∷ b ∷ c ∷ d ∷ e ∷ f ∷ numbers) = fails kinds
 text_step : (rule : LayerRule) (nodes : List Node) (first whole digits : Bool) (rows : List (List ℕ)) (numbers : List ℕ)
     → let square : Option Line = cond first (cond whole (Some (line_in (leaf rows))) None) (cond digits (layer_quad_of numbers) None) in
     Fits (Adds nodes square) (cond (first && not whole) (Some kinds.BadLeaf) (broken_by_square 62 rule (levels_of nodes) square))
-    (cond first (cond whole (Ok (leaf rows)) (Err kinds.BadLeaf)) (cond digits (quad_of numbers) (Err kinds.BadNode)) >>= λ node.
+    (cond first (cond whole (Ok (leaf rows)) (Err kinds.BadLeaf)) (cond digits (claimed_quad_of numbers) (Err kinds.BadNode)) >>= λ node.
     with_node (rule_in rule) nodes node)
 text_step rule nodes true true digits rows numbers = node_fits rule nodes (leaf rows)
 text_step rule nodes true false digits rows numbers = fails kinds.BadLeaf
 text_step rule nodes false whole true rows numbers = quads_fit rule nodes numbers
 text_step rule nodes false whole false rows numbers = fails kinds.BadNode
 
-leaf_is : (text : List ℕ) → (list_all is_leaf_byte text && list_all (λ row. nat_le (length row) 8) (leaf_rows text) && is_end (drop 8 (leaf_rows text)))
+leaf_is : (text : List ℕ) → (list_all is_claimed_leaf_byte text && list_all (λ row. nat_le (length row) 8) (leaf_rows text) && is_end (drop 8 (leaf_rows text)))
     ≡ is_leaf text
-leaf_is text = ap (λ v. list_all is_leaf_byte text && list_all (λ row. nat_le (length row) 8) (leaf_rows text) && v) (end_is (drop 8 (leaf_rows text)))
+leaf_is text = ap (λ v. list_all is_claimed_leaf_byte text && list_all (λ row. nat_le (length row) 8) (leaf_rows text) && v) (end_is (drop 8 (leaf_rows text)))
 
 -- the square of a node line behind others, in both
 pub text_fits : (rule : LayerRule) (nodes : List Node) (text : List ℕ)
-    → Fits (Adds nodes (square_of text)) (broken_by_node 62 rule (levels_of nodes) text) (node_of text >>= λ node. with_node (rule_in rule) nodes node)
+    → Fits (Adds nodes (square_of_text text)) (broken_by_node 62 rule (levels_of nodes) text) (node_of text >>= λ node. with_node (rule_in rule) nodes node)
 text_fits rule nodes text =
-    let first = is_leaf_byte (slice_index text 0) in
+    let first = is_claimed_leaf_byte (slice_index text 0) in
     let digits = list_all is_digit_text (words_of text) in
-    moved (Adds nodes (square_of text)) refl
+    moved (Adds nodes (square_of_text text)) refl
     (ap (λ v. cond first (cond v (Ok (leaf (leaf_rows text))) (Err kinds.BadLeaf))
-    (cond digits (quad_of (map value_of (words_of text))) (Err kinds.BadNode)) >>= λ node. with_node (rule_in rule) nodes node) (leaf_is text))
+    (cond digits (claimed_quad_of (map value_of (words_of text))) (Err kinds.BadNode)) >>= λ node. with_node (rule_in rule) nodes node) (leaf_is text))
     (text_step rule nodes first (is_leaf text) digits (leaf_rows text) (map value_of (words_of text)))

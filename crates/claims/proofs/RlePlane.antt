@@ -12,10 +12,10 @@ use Rattle.life_rle.specs.declared.item.Item.{Item as LayerItem}
 use Rattle.life_rle.specs.declared.item.Item.TheVariants.{Cells, RowEnds}
 use Rattle.life_rle.specs.declared.position.Position.{Position as LayerPosition}
 use Rattle.life_rle.specs.States.{is_state_of}
-use Rattle.life_rle.specs.Pattern.{Rle as LayerRle, is_row_end, placed_item, placed_behind, cell_among, placed_fault, rows_in as layer_rows, columns_in as layer_columns, cell as layer_cell}
-use Rattle.claims.specs.Rules.{largest_state}
+use Rattle.life_rle.specs.Pattern.{Rle as LayerRle, is_row_end, placed_item, placed_after, cell_among, placed_fault, rows_in as layer_rows, columns_in as layer_columns, rle_cell as layer_cell}
+use Rattle.claims.specs.Rules.{claimed_largest_state}
 use Rattle.claims.specs.Pattern.{coordinate_bound}
-use Rattle.claims.specs.Rle.{Item, run, row_ends, Rle, PositionFields, rows_in, ends_rows, columns_in, row_after, column_after, state_by, cell, with_item}
+use Rattle.claims.specs.Rle.{Item, run, row_ends, ClaimedRle, PositionFields, claimed_rows_in, ends_rows, claimed_columns_in, row_after, column_after, claimed_state_by, claimed_rle_cell, with_item}
 use Rattle.claims.proofs.RuleLaw.{rule_in}
 
 abbrev pub item_in : LayerItem → Item
@@ -25,10 +25,10 @@ item_in (RowEnds count) = row_ends count
 abbrev pub position_in : LayerPosition → PositionFields
 position_in position = record { x = position.x; y = position.y; generation = position.generation }
 
-abbrev pub file_in : LayerRle → Rle
+abbrev pub file_in : LayerRle → ClaimedRle
 file_in file = record { rule = rule_in file.rule; position = position_in file.position; items = map item_in file.items }
 
-rows_are : (items : List LayerItem) → rows_in (map item_in items) ≡ layer_rows items
+rows_are : (items : List LayerItem) → claimed_rows_in (map item_in items) ≡ layer_rows items
 rows_are [] = refl
 rows_are (Cells count state ∷ items) = rows_are items
 rows_are (RowEnds count ∷ items) = ap (λ n. count + n) (rows_are items)
@@ -38,10 +38,10 @@ ends_are [] = refl
 ends_are (Cells count state ∷ items) = ends_are items
 ends_are (RowEnds count ∷ items) = refl
 
-columns_are : (items : List LayerItem) → columns_in (map item_in items) ≡ layer_columns items
+columns_are : (items : List LayerItem) → claimed_columns_in (map item_in items) ≡ layer_columns items
 columns_are [] = refl
 columns_are (Cells count state ∷ items) =
-    ap (λ v. cond v (columns_in (map item_in items)) (count + columns_in (map item_in items))) (ends_are items)
+    ap (λ v. cond v (claimed_columns_in (map item_in items)) (count + claimed_columns_in (map item_in items))) (ends_are items)
     ∙ ap (λ n. cond (list_any is_row_end items) n (count + n)) (columns_are items)
 columns_are (RowEnds count ∷ items) = columns_are items
 
@@ -53,13 +53,13 @@ column_is : (position : LayerPosition) (items : List LayerItem)
 column_is position items = ap (λ n. position.x +ℤ pos n) (columns_are items)
 
 state_is : (position : LayerPosition) (before items : List LayerItem) (x y : ℤ)
-    → state_by (position_in position) (map item_in before) (map item_in items) x y ≡ cell_among (placed_behind position before items) x y
+    → claimed_state_by (position_in position) (map item_in before) (map item_in items) x y ≡ cell_among (placed_after position before items) x y
 state_is position before [] x y = refl
 state_is position before (RowEnds count ∷ items) x y =
-    ap (λ (b : List Item). state_by (position_in position) b (map item_in items) x y) (sym (map-append item_in before (RowEnds count ∷ [])))
+    ap (λ (b : List Item). claimed_state_by (position_in position) b (map item_in items) x y) (sym (map-append item_in before (RowEnds count ∷ [])))
     ∙ state_is position (before ++ RowEnds count ∷ []) items x y
 state_is position before (Cells count state ∷ items) x y =
-    let rest = state_by (position_in position) (map item_in before ++ run count state ∷ []) (map item_in items) x y in
+    let rest = claimed_state_by (position_in position) (map item_in before ++ run count state ∷ []) (map item_in items) x y in
     let b = map item_in before in
     ap (λ z. cond (int_eq y (row_after (position_in position) b) && int_le z x && int_lt x (z +ℤ pos count)) state rest) (column_is position before)
     ∙ ap (λ z. cond (int_eq y z && int_le (position.x +ℤ pos (layer_columns before)) x && int_lt x
@@ -68,7 +68,7 @@ state_is position before (Cells count state ∷ items) x y =
     (int_lt x ((position.x +ℤ pos (layer_columns before)) +ℤ pos count)) state rest
     ∙ ap (λ n. cond (int_eq y (position.y +ℤ pos (layer_rows before)) &&
     (int_le (position.x +ℤ pos (layer_columns before)) x && int_lt x ((position.x +ℤ pos (layer_columns before)) +ℤ pos count))) state n)
-    (ap (λ (c : List Item). state_by (position_in position) c (map item_in items) x y) (sym (map-append item_in before (Cells count state ∷ [])))
+    (ap (λ (c : List Item). claimed_state_by (position_in position) c (map item_in items) x y) (sym (map-append item_in before (Cells count state ∷ [])))
     ∙ state_is position (before ++ Cells count state ∷ []) items x y)
   where
     both : (u v w : Bool) (a b : ℕ) → cond (u && v && w) a b ≡ cond (u && (v && w)) a b
@@ -76,17 +76,17 @@ state_is position before (Cells count state ∷ items) x y =
     both false v w a b = refl
 
 -- the state of each cell is that of the layer
-pub rle_cell_is : (file : LayerRle) (x y : ℤ) → cell (file_in file) x y ≡ layer_cell file x y
+pub rle_cell_is : (file : LayerRle) (x y : ℤ) → claimed_rle_cell (file_in file) x y ≡ layer_cell file x y
 rle_cell_is file x y = state_is file.position [] file.items x y
 
 -- ---- one item more
 
 -- an answer as the fault of the layer, or a file with the item
-abbrev pub item_answer : LayerRle → LayerItem → Option Kind → Result Rle Kind
+abbrev pub item_answer : LayerRle → LayerItem → Option Kind → Result ClaimedRle Kind
 item_answer file item (Some kind) = Err kind
 item_answer file item None = Ok (file_in (record file { items = file.items ++ item ∷ [] }))
 
-larger_is : (rule : LayerRule) (state : ℕ) → nat_lt (largest_state (rule_in rule)) state ≡ not (is_state_of rule state)
+larger_is : (rule : LayerRule) (state : ℕ) → nat_lt (claimed_largest_state (rule_in rule)) state ≡ not (is_state_of rule state)
 larger_is (Life rule) state = grind (arith, nat_tests)
 larger_is (Named name) state = grind (arith, nat_tests)
 
@@ -110,7 +110,7 @@ pub with_item_is : (file : LayerRle) (item : LayerItem)
     → with_item (file_in file) (item_in item) ≡ item_answer file item (placed_fault 62 file.rule (placed_item file.position file.items item))
 with_item_is file (Cells count state) =
     let next = map item_in file.items ++ run count state ∷ [] in
-    let done : Result Rle Kind = Ok (record { rule = rule_in file.rule; position = position_in file.position; items = next }) in
+    let done : Result ClaimedRle Kind = Ok (record { rule = rule_in file.rule; position = position_in file.position; items = next }) in
     let row = row_after (position_in file.position) (map item_in file.items) in
     let column = column_after (position_in file.position) (map item_in file.items) in
     let row' = file.position.y +ℤ pos (layer_rows file.items) in
@@ -125,7 +125,7 @@ with_item_is file (Cells count state) =
     (sym (map-append item_in file.items (Cells count state ∷ [])))
 with_item_is file (RowEnds count) =
     let next = map item_in file.items ++ row_ends count ∷ [] in
-    let done : Result Rle Kind = Ok (record { rule = rule_in file.rule; position = position_in file.position; items = next }) in
+    let done : Result ClaimedRle Kind = Ok (record { rule = rule_in file.rule; position = position_in file.position; items = next }) in
     ap (λ z. cond (int_le (z +ℤ pos count) coordinate_bound) done (Err kinds.OutOfPlane)) (row_is file.position file.items)
     ∙ ends_step file count next (int_le ((file.position.y +ℤ pos (layer_rows file.items)) +ℤ pos count) coordinate_bound)
     (sym (map-append item_in file.items (RowEnds count ∷ [])))

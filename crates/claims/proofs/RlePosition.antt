@@ -13,10 +13,10 @@ use Rattle.life_base.specs.Text.{begins_with, is_digit_text, is_empty, value_of,
 use Rattle.life_base.specs.declared.kind.Kind.{Kind}
 use Rattle.life_base.specs.declared.kind.Kind.TheVariants as kinds
 use Rattle.life_rle.specs.declared.position.Position.{Position as LayerPosition}
-use Rattle.life_rle.specs.Position.{Field, Corner, Generation, Other, signed_number, corner_of, corner_in, field_of, and_then, position_with, position_of, default_position, with_field as layer_with_field}
+use Rattle.life_rle.specs.Position.{Field, Corner, Generation, Other, signed_number, corner_of, corner_in, field_of, and_then, position_with, position_of, default_position, position_with_field as layer_with_field}
 use Rattle.claims.specs.Outcomes.{◌>>=◌}
-use Rattle.claims.specs.Pattern.{is_coordinate}
-use Rattle.claims.specs.Rle.{PositionFields, number_of, with_corner, with_field, with_fields, no_position_fields}
+use Rattle.claims.specs.Pattern.{is_claimed_coordinate}
+use Rattle.claims.specs.Rle.{PositionFields, claimed_number_of, with_corner, claimed_with_field, with_fields, no_position_fields}
 use Rattle.claims.proofs.McLaw.{generation_is}
 use Rattle.claims.proofs.McPlane.{all_at}
 use Rattle.claims.proofs.RlePlane.{position_in}
@@ -40,7 +40,7 @@ sign_step : (v : Bool) (a b : List ℕ)
 sign_step true a b = digits_step (is_digit_text a) _
 sign_step false a b = digits_step (is_digit_text b) _
 
-number_is : (text : List ℕ) → number_of text ≡ number_found (signed_number text)
+number_is : (text : List ℕ) → claimed_number_of text ≡ number_found (signed_number text)
 number_is text = sign_step (begins_with text (codes "-")) (drop 1 text) text
 
 -- ---- a text with a comma is no number
@@ -104,9 +104,9 @@ less_or_same n m h = grind arith
 
 two_numbers : (left right : Option ℤ) (p : LayerPosition)
     → (number_found left >>= λ x. number_found right >>= λ y.
-    cond (is_coordinate x && is_coordinate y) (Ok (record (position_in p) { x = x; y = y })) (Err kinds.OutOfPlane))
+    cond (is_claimed_coordinate x && is_claimed_coordinate y) (Ok (record (position_in p) { x = x; y = y })) (Err kinds.OutOfPlane))
     ≡ result_map (λ found. position_in (layer_with_field p found)) (corner_of 62 left right)
-two_numbers (Some x) (Some y) p = by (is_coordinate x && is_coordinate y)
+two_numbers (Some x) (Some y) p = by (is_claimed_coordinate x && is_claimed_coordinate y)
   where
     by : (v : Bool) → cond v (Ok (record (position_in p) { x = x; y = y })) (Err kinds.OutOfPlane)
         ≡ result_map (λ found. position_in (layer_with_field p found)) (cond v (Ok (Corner x y)) (Err kinds.OutOfPlane))
@@ -139,11 +139,11 @@ corner_is p text = elim (less_or_same (position_or_len is_comma text) (length te
     rest right = elim (less_or_same (position_or_len is_comma right) (length right) (bound right)) [
       | inr e ↦
           ap (λ (t : List (List ℕ)). with_corner (position_in p) (before_first is_comma text ∷ t)) (alone right e)
-          ∙ ap (λ (n : Result ℤ Kind). n >>= λ x. number_of right >>= λ y. cond (is_coordinate x && is_coordinate y)
+          ∙ ap (λ (n : Result ℤ Kind). n >>= λ x. claimed_number_of right >>= λ y. cond (is_claimed_coordinate x && is_claimed_coordinate y)
           (Ok (record (position_in p) { x = x; y = y })) (Err kinds.OutOfPlane))
           (number_is (before_first is_comma text))
           ∙ ap (λ (n : Result ℤ Kind). number_found (signed_number (before_first is_comma text)) >>= λ x. n >>= λ y.
-          cond (is_coordinate x && is_coordinate y) (Ok (record (position_in p) { x = x; y = y })) (Err kinds.OutOfPlane))
+          cond (is_claimed_coordinate x && is_claimed_coordinate y) (Ok (record (position_in p) { x = x; y = y })) (Err kinds.OutOfPlane))
           (number_is right)
           ∙ two_numbers (signed_number (before_first is_comma text)) (signed_number right) p
       | inl l ↦
@@ -178,7 +178,7 @@ field_step false true a b p a' b' e f = f
 field_step false false a b p a' b' e f = refl
 
 field_is : (p : LayerPosition) (field : List ℕ)
-    → with_field (position_in p) field ≡ result_map (λ found. position_in (layer_with_field p found)) (field_of 62 field)
+    → claimed_with_field (position_in p) field ≡ result_map (λ found. position_in (layer_with_field p found)) (field_of 62 field)
 field_is p field =
     field_step (begins_with field (codes "Pos=")) (begins_with field (codes "Gen=")) _ _ p _ _ (corner_is p (drop 4 field))
     (ap (λ (r : Result ℕ Kind). r >>= λ generation. Ok (record (position_in p) { generation = generation })) (generation_is (drop 4 field))

@@ -12,15 +12,15 @@ use Rattle.life_base.specs.Rules.{rule_text as layer_rule_text}
 use Rattle.life_base.specs.declared.rule.Rule.{Rule as LayerRule}
 use Rattle.life_base.specs.declared.rule.Rule.TheVariants.{Life, Named}
 use Rattle.life_rle.specs.States.{state_text as layer_state_text}
-use Rattle.life_rle.specs.Written.{box_of, with_gap, with_cells, way_to, items_from, wrapped, generation_text, position_text, header_text, span, rle_text, item_text as layer_item_text}
+use Rattle.life_rle.specs.Written.{box_of, with_gap, with_cells, way_to, items_from, wrapped_lines, generation_text, position_text, header_text, box_side, rle_text, item_text as layer_item_text}
 use Rattle.life_rle.specs.declared.item.Item.{Item as LayerItem}
 use Rattle.life_rle.specs.declared.item.Item.TheVariants.{Cells, RowEnds}
 use Rattle.claims.specs.Pattern.{Pattern}
-use Rattle.claims.specs.Rules.{rule_text}
+use Rattle.claims.specs.Rules.{claimed_rule_text}
 use Rattle.claims.specs.Rle.{Item, run, row_ends}
-use Rattle.claims.specs.Generation.{AreCells}
-use Rattle.claims.specs.Shown.{IsLeastBox, IsBox}
-use Rattle.claims.specs.RleText.{state_text, item_text, gap, after_run, items_of_cells, in_lines, rle_lines, box_lines, IsRleOfPattern}
+use Rattle.claims.specs.Generation.{AreClaimedCells}
+use Rattle.claims.specs.Shown.{IsClaimedBoundingBox, IsBox}
+use Rattle.claims.specs.RleText.{claimed_state_text, claimed_item_text, gap, after_run, items_of_cells, in_lines, claimed_rle_lines, box_lines, IsRleOfPattern}
 use Rattle.claims.proofs.RlePlane.{item_in}
 use Rattle.claims.proofs.RuleLaw.{rule_in}
 use Rattle.life_base.proofs.Basics.{int_le_trans}
@@ -85,16 +85,16 @@ in_box c (d ∷ cells) e h =
 
 module _ (cell : ℤ → ℤ → ℕ) where
   -- a cell of the list isn't 0
-  live : (cells : List Cell) → AreCells cell cells → (e : Cell) → Contains cells e → cell e.x e.y ≢ 0
+  live : (cells : List Cell) → AreClaimedCells cell cells → (e : Cell) → Contains cells e → cell e.x e.y ≢ 0
   live cells are e h z = let t = are.true_cells e h in t.1 (sym t.0 ∙ z)
 
-  at_column : (cells : List Cell) → AreCells cell cells → (x : ℤ) → (e : Cell) × Contains cells e × (e.x ≡ x) → (y : ℤ) × (cell x y ≢ 0)
+  at_column : (cells : List Cell) → AreClaimedCells cell cells → (x : ℤ) → (e : Cell) × Contains cells e × (e.x ≡ x) → (y : ℤ) × (cell x y ≢ 0)
   at_column cells are x (e, h, same) = (e.y, subst (λ z. cell z e.y ≢ 0) same (live cells are e h))
 
-  at_row : (cells : List Cell) → AreCells cell cells → (y : ℤ) → (e : Cell) × Contains cells e × (e.y ≡ y) → (x : ℤ) × (cell x y ≢ 0)
+  at_row : (cells : List Cell) → AreClaimedCells cell cells → (y : ℤ) → (e : Cell) × Contains cells e × (e.y ≡ y) → (x : ℤ) × (cell x y ≢ 0)
   at_row cells are y (e, h, same) = (e.x, subst (λ z. cell e.x z ≢ 0) same (live cells are e h))
 
-  pub least_box : (c : Cell) (cells : List Cell) → AreCells cell (c ∷ cells) → IsLeastBox cell (box_of c cells)
+  pub least_box : (c : Cell) (cells : List Cell) → AreClaimedCells cell (c ∷ cells) → IsClaimedBoundingBox cell (box_of c cells)
   least_box c cells are = record {
     at_left = at_column (c ∷ cells) are _ (at_side (λ d. d.x) (λ b. b.left) (λ d. refl) (λ d e more. min_is d.x (box_of e more).left) c cells);
     at_right = at_column (c ∷ cells) are _ (at_side (λ d. d.x) (λ b. b.right) (λ d. refl) (λ d e more. max_is d.x (box_of e more).right) c cells);
@@ -103,7 +103,7 @@ module _ (cell : ℤ → ℤ → ℕ) where
     inside = λ x y n. in_box c cells (record { x = x; y = y; state = cell x y }) (are.all_cells (record { x = x; y = y; state = cell x y }) refl n);
   }
 
-  pub no_box : AreCells cell [] → (x y : ℤ) → cell x y ≡ 0
+  pub no_box : AreClaimedCells cell [] → (x y : ℤ) → cell x y ≡ 0
   no_box are x y = by (cell x y) (λ n. none (are.all_cells (record { x = x; y = y; state = cell x y }) refl n))
     where
       none : Contains {X = Cell} [] (record { x = x; y = y; state = cell x y }) → ⊥
@@ -114,11 +114,11 @@ module _ (cell : ℤ → ℤ → ℕ) where
 
 -- ---- the items
 
-state_is : (rule : LayerRule) (state : ℕ) → state_text (rule_in rule) state ≡ layer_state_text rule state
+state_is : (rule : LayerRule) (state : ℕ) → claimed_state_text (rule_in rule) state ≡ layer_state_text rule state
 state_is (Life rule) state = refl
 state_is (Named name) state = refl
 
-item_is : (rule : LayerRule) (item : LayerItem) → item_text (rule_in rule) (item_in item) ≡ layer_item_text rule item
+item_is : (rule : LayerRule) (item : LayerItem) → claimed_item_text (rule_in rule) (item_in item) ≡ layer_item_text rule item
 item_is rule (Cells count state) = ap (λ (t : List ℕ). cond (count == 1) [] (decimal count) ++ t) (state_is rule state)
 item_is rule (RowEnds count) = refl
 
@@ -158,11 +158,11 @@ items_are left x y (c ∷ cells) =
 
 -- ---- the lines
 
-texts_are : (rule : LayerRule) (items : List LayerItem) → map (item_text (rule_in rule)) (map item_in items) ≡ map (layer_item_text rule) items
+texts_are : (rule : LayerRule) (items : List LayerItem) → map (claimed_item_text (rule_in rule)) (map item_in items) ≡ map (layer_item_text rule) items
 texts_are rule [] = refl
 texts_are rule (item ∷ items) = λ i. item_is rule item i ∷ texts_are rule items i
 
-lines_are : (line : List ℕ) (texts : List (List ℕ)) → in_lines line texts ≡ wrapped line texts
+lines_are : (line : List ℕ) (texts : List (List ℕ)) → in_lines line texts ≡ wrapped_lines line texts
 lines_are line [] = refl
 lines_are line (text ∷ texts) = λ i. cond (nat_le (length line + length text) 70) (lines_are (line ++ text) texts i) (line ∷ lines_are text texts i)
 
@@ -173,24 +173,24 @@ generation_is (suc n) = ap (λ v. cond v [] (codes " Gen=" ++ decimal (suc n))) 
     some : (n : ℕ) → (suc n == 0) ≡ false
     some n = grind (arith, nat_tests)
 
-module _ (rule_is : (rule : LayerRule) → rule_text (rule_in rule) ≡ layer_rule_text rule) where
+module _ (rule_is : (rule : LayerRule) → claimed_rule_text (rule_in rule) ≡ layer_rule_text rule) where
   all_lines : (rule : LayerRule) (generation : ℕ) (x y : ℤ) (width height : ℕ) (items : List LayerItem)
-      → rle_lines (rule_in rule) generation x y width height (map item_in items)
-      ≡ position_text x y generation ∷ header_text width height rule ∷ wrapped [] (map (layer_item_text rule) items ++ codes "!" ∷ [])
+      → claimed_rle_lines (rule_in rule) generation x y width height (map item_in items)
+      ≡ position_text x y generation ∷ header_text width height rule ∷ wrapped_lines [] (map (layer_item_text rule) items ++ codes "!" ∷ [])
   all_lines rule generation x y width height items =
       let place = codes "#CXRLE Pos=" ++ signed_decimal x in
       let sides = codes "x = " ++ decimal width in
       let first : place ++ codes "," ++ signed_decimal y ++ cond (generation == 0) [] (codes " Gen=" ++ decimal generation) ≡ position_text x y generation =
       λ i. append_assoc place (codes ",") (signed_decimal y) i ++ generation_is generation i in
-      let second : sides ++ codes ", y = " ++ decimal height ++ codes ", rule = " ++ rule_text (rule_in rule) ≡ header_text width height rule =
-      append_assoc (sides ++ codes ", y = " ++ decimal height) (codes ", rule = ") (rule_text (rule_in rule))
+      let second : sides ++ codes ", y = " ++ decimal height ++ codes ", rule = " ++ claimed_rule_text (rule_in rule) ≡ header_text width height rule =
+      append_assoc (sides ++ codes ", y = " ++ decimal height) (codes ", rule = ") (claimed_rule_text (rule_in rule))
       ∙ (λ i. append_assoc sides (codes ", y = ") (decimal height) i ++ (codes ", rule = " ++ rule_is rule i)) in
       λ i. first i ∷ second i
       ∷ (ap (λ (t : List (List ℕ)). in_lines [] (t ++ codes "!" ∷ [])) (texts_are rule items) ∙ lines_are []
       (map (layer_item_text rule) items ++ codes "!" ∷ []))
       i
 
-  pub rle_of_pattern : (rule : LayerRule) (generation : ℕ) (cell : ℤ → ℤ → ℕ) (cells : List Cell) → AreCells cell cells
+  pub rle_of_pattern : (rule : LayerRule) (generation : ℕ) (cell : ℤ → ℤ → ℕ) (cells : List Cell) → AreClaimedCells cell cells
       → IsRleOfPattern (record { rule = rule_in rule; generation = generation; cell = cell }) (rle_text rule generation cells)
   rle_of_pattern rule generation cell [] are = record {
     cells = [];
@@ -202,14 +202,14 @@ module _ (rule_is : (rule : LayerRule) → rule_text (rule_in rule) ≡ layer_ru
   rle_of_pattern rule generation cell (c ∷ cells) are =
       let box = box_of c cells in
       let items = items_from box.left box.left box.top (c ∷ cells) in
-      let wide = span box.left box.right in
-      let high = span box.top box.bottom in
+      let wide = box_side box.left box.right in
+      let high = box_side box.top box.bottom in
       record {
         cells = c ∷ cells;
         are = are;
         box = Some box;
         is_box = least_box cell c cells are;
         is = ap (flat_map (λ (line : List ℕ). line ++ codes "\n"))
-            (sym (ap (rle_lines (rule_in rule) generation box.left box.top wide high) (items_are box.left box.left box.top (c ∷ cells))
+            (sym (ap (claimed_rle_lines (rule_in rule) generation box.left box.top wide high) (items_are box.left box.left box.top (c ∷ cells))
             ∙ all_lines rule generation box.left box.top wide high items));
       }

@@ -7,14 +7,14 @@ use Rattle.life_base.specs.declared.fault.Fault.{Fault}
 use Rattle.life_base.specs.declared.kind.Kind.{Kind}
 use Rattle.life_base.specs.declared.kind.Kind.TheVariants as kinds
 use Rattle.claims.specs.Outcomes.{◌>>=◌}
-use Rattle.claims.specs.Rules.{Rule, counting, named, rule_of, digits_of, rule_text}
+use Rattle.claims.specs.Rules.{Rule, counting, named, claimed_rule_of, claimed_digits_of, claimed_rule_text}
 use Rattle.claims.specs.Pattern.{Pattern}
-use Rattle.claims.specs.Macrocell.{Macrocell, first_line, with_line}
-use Rattle.claims.specs.Rle.{PositionFields, Rle, before_header, after_header, after_end, state_of, with_line as with_rle_line}
-use Rattle.claims.specs.Files.{pattern_of, fault_at}
-use Rattle.claims.specs.Generation.{next_life}
+use Rattle.claims.specs.Macrocell.{ClaimedMacrocell, first_line, with_macrocell_line}
+use Rattle.claims.specs.Rle.{PositionFields, ClaimedRle, before_header, after_header, after_end, claimed_state_of, with_rle_line}
+use Rattle.claims.specs.Files.{pattern_of, claimed_fault_at}
+use Rattle.claims.specs.Generation.{claimed_next_life}
 use Rattle.claims.specs.Shown.{box_line}
-use Rattle.claims.specs.Canonical.{middle_square, square_text}
+use Rattle.claims.specs.Canonical.{middle_square, claimed_square_text}
 use Rattle.claims.specs.RleText.{box_lines}
 use Rattle.life_base.proofs.Texts.{too_long}
 
@@ -46,8 +46,8 @@ form_rows =
     row (Ok (counting 4 (4 ∷ []) (4 ∷ []))) (codes "B4/S4V" ∷ []) ∷
     []
 
-forms_are_read : Each rule_of form_rows
-unfolding rule_of digits_of
+forms_are_read : Each claimed_rule_of form_rows
+unfolding claimed_rule_of claimed_digits_of
 forms_are_read = refl
 
 -- texts that name no rule
@@ -60,8 +60,8 @@ unruly_rows =
     codes "B1/S4VV" ∷ codes "B2-a/S12" ∷ codes "B2/" ∷ codes "B9/S1" ∷ codes "B3/23" ∷ codes "345/2/4" ∷ []) ∷
     []
 
-unruly_are_refused : Each rule_of unruly_rows
-unfolding rule_of digits_of
+unruly_are_refused : Each claimed_rule_of unruly_rows
+unfolding claimed_rule_of claimed_digits_of
 unruly_are_refused = refl
 
 -- all others are names, kept byte for byte, without the blanks around them
@@ -69,12 +69,12 @@ abbrev names : List (List ℕ)
 names =
     codes "B3" ∷ codes "V" ∷ codes "B2-aS12" ∷ codes "B3S23VV" ∷ codes "B9S1" ∷ codes "WireWorld" ∷ codes "w22" ∷ replicate 255 97 ∷ []
 
-names_are_kept : map rule_of names ≡ map (λ name. Ok (named name)) names
-unfolding rule_of digits_of
+names_are_kept : map claimed_rule_of names ≡ map (λ name. Ok (named name)) names
+unfolding claimed_rule_of claimed_digits_of
 names_are_kept = refl
 
-blanks_are_cut : rule_of (codes " Life\r") ≡ Ok (named (codes "Life"))
-unfolding rule_of digits_of
+blanks_are_cut : claimed_rule_of (codes " Life\r") ≡ Ok (named (codes "Life"))
+unfolding claimed_rule_of claimed_digits_of
 blanks_are_cut = refl
 
 -- the canonical text of the rule that a text names
@@ -86,8 +86,8 @@ rule_text_rows =
     row (Ok (codes "Life")) (codes "Life" ∷ []) ∷
     []
 
-rules_are_told : Each (λ text. rule_of text >>= λ rule. Ok (rule_text rule)) rule_text_rows
-unfolding rule_of digits_of
+rules_are_told : Each (λ text. claimed_rule_of text >>= λ rule. Ok (claimed_rule_text rule)) rule_text_rows
+unfolding claimed_rule_of claimed_digits_of
 rules_are_told = refl
 
 -- ---- states of extended RLE
@@ -106,7 +106,7 @@ state_rows =
     row (Some 255) (codes "yO" ∷ []) ∷
     []
 
-states_are_read : Each state_of state_rows
+states_are_read : Each claimed_state_of state_rows
 states_are_read = refl
 
 -- ---- files
@@ -127,7 +127,7 @@ abbrev says : Rule → ℕ → Seen
 says rule generation = Ok (rule, generation, [])
 
 abbrev refused : ℕ → Kind → Seen
-refused line kind = Err (fault_at line kind)
+refused line kind = Err (claimed_fault_at line kind)
 
 -- five cells of a glider, and three others
 abbrev glider_places : List (ℤ × ℤ)
@@ -138,14 +138,14 @@ glider_places =
 glider_in_leaf :
     seen_at glider_places (pattern_of (codes "[M2] (any)\n#C x\r\n#R 23/3\n#G 7\n$$..*$...*$.***$$$$\n\n4 0 0 0 1"))
     ≡ Ok (b3s23, 7, 1 ∷ 1 ∷ 1 ∷ 1 ∷ 1 ∷ 0 ∷ 0 ∷ 0 ∷ [])
-unfolding pattern_of rule_of digits_of with_line
+unfolding pattern_of claimed_rule_of claimed_digits_of with_macrocell_line
 glider_in_leaf = refl
 
 -- the same glider in extended RLE
 glider_in_rle :
     seen_at glider_places (pattern_of (codes "#CXRLE Pos=1,2 Gen=7\nx = 3, y = 3, rule = B3/S23\nbo$2bo\n$3o!"))
     ≡ Ok (b3s23, 7, 1 ∷ 1 ∷ 1 ∷ 1 ∷ 1 ∷ 0 ∷ 0 ∷ 0 ∷ [])
-unfolding pattern_of rule_of digits_of with_rle_line
+unfolding pattern_of claimed_rule_of claimed_digits_of with_rle_line
 glider_in_rle = refl
 
 -- one cell at (4, 0), as it is written
@@ -153,7 +153,7 @@ one_cell :
     seen_at ((pos 4, pos 0) ∷ (pos 3, pos 0) ∷ (pos 4, pos 1) ∷ (neg_ℤ (pos 4), pos 0) ∷ [])
     (pattern_of (codes "[M2] (canonical 1)\n#R B3/S23\n....*$$$$$$$$\n4 0 0 0 1\n"))
     ≡ Ok (b3s23, 0, 1 ∷ 0 ∷ 0 ∷ 0 ∷ [])
-unfolding pattern_of rule_of digits_of with_line
+unfolding pattern_of claimed_rule_of claimed_digits_of with_macrocell_line
 one_cell = refl
 
 -- a leaf as the root has its middle at (0, 0)
@@ -161,7 +161,7 @@ leaf_root :
     seen_at ((neg_ℤ (pos 4), neg_ℤ (pos 4)) ∷ (neg_ℤ (pos 3), neg_ℤ (pos 4)) ∷ (pos 3, neg_ℤ (pos 3)) ∷ (pos 4, neg_ℤ (pos 3)) ∷ (pos 0, pos 0) ∷ [])
     (pattern_of (codes "[M2]\n*$.......*"))
     ≡ Ok (b3s23, 0, 1 ∷ 0 ∷ 1 ∷ 0 ∷ 0 ∷ [])
-unfolding pattern_of rule_of digits_of with_line
+unfolding pattern_of claimed_rule_of claimed_digits_of with_macrocell_line
 leaf_root = refl
 
 -- squares of mixed levels, under a name
@@ -169,7 +169,7 @@ mixed :
     seen_at ((neg_ℤ (pos 2), neg_ℤ (pos 2)) ∷ (neg_ℤ (pos 1), neg_ℤ (pos 2)) ∷ (pos 0, pos 0) ∷ (pos 1, pos 0) ∷ (pos 1, pos 1) ∷ (pos 2, pos 2) ∷ [])
     (pattern_of (codes "[M2]\r\n#R WireWorld\n#G 3\n#G 4\n1 1 2 0 255\r\n2 1 0 0 1\n"))
     ≡ Ok (named (codes "WireWorld"), 4, 1 ∷ 2 ∷ 1 ∷ 2 ∷ 255 ∷ 0 ∷ [])
-unfolding pattern_of rule_of digits_of with_line
+unfolding pattern_of claimed_rule_of claimed_digits_of with_macrocell_line
 mixed = refl
 
 -- a gun, in lines of data
@@ -178,7 +178,7 @@ gun :
     (pattern_of (codes "x = 36, y = 9, rule = B3/S23\n24bo11b$22bobo11b$12b2o6b2o12b2o$11bo3bo4b2o12b2o$2o8bo5bo3b2o14b$2o8b\n"
     ++ codes "o3bob2o4bobo11b$10bo5bo7bo11b$11bo3bo20b$12b2o!\nany thing"))
     ≡ Ok (b3s23, 0, 1 ∷ 0 ∷ 1 ∷ 1 ∷ 1 ∷ 1 ∷ [])
-unfolding pattern_of rule_of digits_of with_rle_line
+unfolding pattern_of claimed_rule_of claimed_digits_of with_rle_line
 gun = refl
 
 -- states by letters, at a place west and north of (0, 0), with rows that are skipped
@@ -186,7 +186,7 @@ lettered :
     seen_at ((neg_ℤ (pos 3), neg_ℤ (pos 2)) ∷ (neg_ℤ (pos 2), neg_ℤ (pos 2)) ∷ (neg_ℤ (pos 3), pos 1) ∷ (neg_ℤ (pos 2), pos 1) ∷ (pos 0, pos 1) ∷ [])
     (pattern_of (codes "#CXRLE Pos=-3,-2\nx = 0, y = 0, rule = A\nC3$2pAyO!"))
     ≡ Ok (named (codes "A"), 0, 3 ∷ 0 ∷ 25 ∷ 25 ∷ 0 ∷ [])
-unfolding pattern_of rule_of digits_of with_rle_line
+unfolding pattern_of claimed_rule_of claimed_digits_of with_rle_line
 lettered = refl
 
 -- macrocell files
@@ -224,7 +224,7 @@ macrocell_rows =
     []
 
 macrocells_are_told : Each seen macrocell_rows
-unfolding pattern_of rule_of digits_of with_line with_rle_line
+unfolding pattern_of claimed_rule_of claimed_digits_of with_macrocell_line with_rle_line
 macrocells_are_told = refl
 
 -- extended RLE
@@ -269,7 +269,7 @@ rle_rows =
     []
 
 rles_are_told : Each seen rle_rows
-unfolding pattern_of rule_of digits_of with_rle_line
+unfolding pattern_of claimed_rule_of claimed_digits_of with_rle_line
 rles_are_told = refl
 
 -- ---- almost accepted
@@ -304,11 +304,11 @@ is_accepted (Ok said) = true
 is_accepted (Err fault) = false
 
 nearly_accepted : map (λ row. is_accepted (seen_at [] (pattern_of row.0))) near_rows ≡ map (λ row. true) near_rows
-unfolding pattern_of rule_of digits_of with_line with_rle_line
+unfolding pattern_of claimed_rule_of claimed_digits_of with_macrocell_line with_rle_line
 nearly_accepted = refl
 
 nearly_refused : map (λ row. seen_at [] (pattern_of row.1)) near_rows ≡ map (λ row. refused row.2 row.3) near_rows
-unfolding pattern_of rule_of digits_of with_line with_rle_line
+unfolding pattern_of claimed_rule_of claimed_digits_of with_macrocell_line with_rle_line
 nearly_refused = refl
 
 -- ---- lines of more than 2 ^ 20 bytes, and a first line without `[M2]`
@@ -316,19 +316,19 @@ nearly_refused = refl
 first_too_long : (line : List ℕ) → 2 ^ 20 < length line → first_line line ≡ Err kinds.LineTooLong
 first_too_long line h = rw (too_long line h) refl
 
-later_too_long : (file : Macrocell) (line : List ℕ) → 2 ^ 20 < length line → with_line file line ≡ Err kinds.LineTooLong
-unfolding with_line
+later_too_long : (file : ClaimedMacrocell) (line : List ℕ) → 2 ^ 20 < length line → with_macrocell_line file line ≡ Err kinds.LineTooLong
+unfolding with_macrocell_line
 later_too_long file line h = rw (too_long line h) refl
 
 open_too_long : (position : PositionFields) (line : List ℕ) → 2 ^ 20 < length line → with_rle_line (before_header position) line ≡ Err kinds.LineTooLong
 unfolding with_rle_line
 open_too_long position line h = rw (too_long line h) refl
 
-data_too_long : (file : Rle) (line : List ℕ) → 2 ^ 20 < length line → with_rle_line (after_header file) line ≡ Err kinds.LineTooLong
+data_too_long : (file : ClaimedRle) (line : List ℕ) → 2 ^ 20 < length line → with_rle_line (after_header file) line ≡ Err kinds.LineTooLong
 unfolding with_rle_line
 data_too_long file line h = rw (too_long line h) refl
 
-ended_is_free : (file : Rle) (line : List ℕ) → with_rle_line (after_end file) line ≡ Ok (after_end file)
+ended_is_free : (file : ClaimedRle) (line : List ℕ) → with_rle_line (after_end file) line ≡ Ok (after_end file)
 unfolding with_rle_line
 ended_is_free file line = refl
 
@@ -347,17 +347,17 @@ nine cell =
 -- what is next to the cells that a file says
 abbrev next_nine : List ℕ → List ℕ
 next_nine bytes = elim (pattern_of bytes) [
-  | Ok pattern ↦ elim pattern.rule [ counting n births survivals ↦ nine (next_life n births survivals pattern.cell) | named name ↦ [] ]
+  | Ok pattern ↦ elim pattern.rule [ counting n births survivals ↦ nine (claimed_next_life n births survivals pattern.cell) | named name ↦ [] ]
   | Err fault ↦ []
 ]
 
 -- three cells in a row, whose neighbours are eight; and under the same digits four
 blinker : next_nine (codes "#CXRLE Pos=-1,0\nx=3,y=1\n3o!") ≡ 0 ∷ 1 ∷ 0 ∷ 0 ∷ 1 ∷ 0 ∷ 0 ∷ 1 ∷ 0 ∷ []
-unfolding pattern_of rule_of digits_of with_rle_line
+unfolding pattern_of claimed_rule_of claimed_digits_of with_rle_line
 blinker = refl
 
 four : next_nine (codes "#CXRLE Pos=-1,0\nx=3,y=1,rule=B1/S2V\n3o!") ≡ 1 ∷ 1 ∷ 1 ∷ 0 ∷ 1 ∷ 0 ∷ 1 ∷ 1 ∷ 1 ∷ []
-unfolding pattern_of rule_of digits_of with_rle_line
+unfolding pattern_of claimed_rule_of claimed_digits_of with_rle_line
 four = refl
 
 -- ---- what is shown
@@ -374,7 +374,7 @@ unboxed = refl
 -- the text of the square of this level about the middle of the plane, of what a file says
 abbrev text_at : ℕ → List ℕ → List ℕ
 text_at level bytes = elim (pattern_of bytes) [
-  | Ok pattern ↦ square_text pattern.rule pattern.generation (middle_square pattern.cell level)
+  | Ok pattern ↦ claimed_square_text pattern.rule pattern.generation (middle_square pattern.cell level)
   | Err fault ↦ []
 ]
 
@@ -382,47 +382,47 @@ abbrev header : List ℕ
 header = codes "[M2] (canonical 1)\n"
 
 glider_text : text_at 3 (codes "x = 3, y = 3, rule = B3/S23\nbo$2bo$3o!\n") ≡ header ++ codes "#R B3/S23\n$$$$.....*$......*$....***$$\n"
-unfolding pattern_of rule_of digits_of with_rle_line
+unfolding pattern_of claimed_rule_of claimed_digits_of with_rle_line
 glider_text = refl
 
 blank_text : text_at 3 (codes "x = 0, y = 0, rule = 23/3\n!\n") ≡ header ++ codes "#R B3/S23\n"
-unfolding pattern_of rule_of digits_of with_rle_line
+unfolding pattern_of claimed_rule_of claimed_digits_of with_rle_line
 blank_text = refl
 
 one_cell_text : text_at 4 (codes "#CXRLE Pos=4,0\nx = 1, y = 1, rule = B3/S23\no!\n") ≡ header ++ codes "#R B3/S23\n....*$$$$$$$$\n4 0 0 0 1\n"
-unfolding pattern_of rule_of digits_of with_rle_line digits
+unfolding pattern_of claimed_rule_of claimed_digits_of with_rle_line digits
 one_cell_text = refl
 
 -- equal quarters have one line
 shared_text : text_at 4 (codes "#CXRLE Pos=-4,0\nx = 9, y = 1, rule = B3/S23\no7bo!\n") ≡ header ++ codes "#R B3/S23\n....*$$$$$$$$\n4 0 0 1 1\n"
-unfolding pattern_of rule_of digits_of with_rle_line digits
+unfolding pattern_of claimed_rule_of claimed_digits_of with_rle_line digits
 shared_text = refl
 
 -- a higher root, squares below the leaves, a leaf twice, and a square that the root doesn't reach
 higher_text :
     text_at 4 (codes "[M2] (golly 4.2)\n#R B3/S23\n....*$$$$$$$$\n4 1 0 0 0\n5 2 0 0 0\n6 3 0 0 0\n7 4 0 0 0\n8 5 0 0 0\n9 0 0 0 6\n")
     ≡ header ++ codes "#R B3/S23\n....*$$$$$$$$\n4 0 0 0 1\n"
-unfolding pattern_of rule_of digits_of with_line digits
+unfolding pattern_of claimed_rule_of claimed_digits_of with_macrocell_line digits
 higher_text = refl
 
 below_leaves_text : text_at 4 (codes "[M2]\n1 1 0 0 0\n2 1 0 0 0\n3 0 2 0 0\n4 0 0 0 3\n") ≡ header ++ codes "#R B3/S23\n....*$$$$$$$$\n4 0 0 0 1\n"
-unfolding pattern_of rule_of digits_of with_line digits
+unfolding pattern_of claimed_rule_of claimed_digits_of with_macrocell_line digits
 below_leaves_text = refl
 
 repeated_text :
     text_at 4 (codes "[M2]\n#R B3/S23\n....*$$$$$$$$\n....*$$$$$$$$\n*$$$$$$$$\n4 0 0 1 2\n")
     ≡ header ++ codes "#R B3/S23\n....*$$$$$$$$\n4 0 0 1 1\n"
-unfolding pattern_of rule_of digits_of with_line digits
+unfolding pattern_of claimed_rule_of claimed_digits_of with_macrocell_line digits
 repeated_text = refl
 
 -- a name, whose squares have lines from level 1 on, and a generation
 named_text : text_at 1 (codes "#CXRLE Pos=-1,-1 Gen=7\nx = 2, y = 1, rule = WireWorld\nApA!\n") ≡ header ++ codes "#R WireWorld\n#G 7\n1 1 25 0 0\n"
-unfolding pattern_of rule_of digits_of with_rle_line digits
+unfolding pattern_of claimed_rule_of claimed_digits_of with_rle_line digits
 named_text = refl
 
 -- leaves are numbered in the order in which a walk visits them, which is not that of the file
 walked_text : text_at 4 (codes "[M2]\n*$\n.*$\n4 2 1 0 0\n") ≡ header ++ codes "#R B3/S23\n.*$$$$$$$$\n*$$$$$$$$\n4 1 2 0 0\n"
-unfolding pattern_of rule_of digits_of with_line digits
+unfolding pattern_of claimed_rule_of claimed_digits_of with_macrocell_line digits
 walked_text = refl
 
 -- ---- texts in extended RLE

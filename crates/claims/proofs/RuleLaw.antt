@@ -13,7 +13,7 @@ use Rattle.life_base.specs.declared.rule.Near.{Near}
 use Rattle.life_base.specs.declared.rule.Near.TheVariants.{Moore, VonNeumann}
 use Rattle.life_base.specs.declared.rule.Rule.{Rule as LayerRule}
 use Rattle.life_base.specs.declared.rule.Rule.TheVariants.{Life, Named}
-use Rattle.claims.specs.Rules.{Rule, counting, named, neighbour_counts, counts_in, has, Digits, digits_by_marks, digits_of, counting_rule, are_up_to_four, lettered_rule, word_rule, other_rule, rule_of}
+use Rattle.claims.specs.Rules.{Rule, counting, named, neighbour_counts, counts_in, has, Digits, digits_by_marks, claimed_digits_of, counting_rule, are_up_to_four, lettered_rule, word_rule, claimed_other_rule, claimed_rule_of}
 use Rattle.claims.proofs.Bits.{counts-digit_set, zero-digit_set, four-digit_set}
 
 -- a rule of the layer in the words of the claims
@@ -51,8 +51,8 @@ form_is marks ([] ∷ a ∷ [] ∷ b ∷ c ∷ texts) = refl
 form_is marks ([] ∷ a ∷ (x ∷ b) ∷ c ∷ d' ∷ texts) = refl
 form_is marks ((x ∷ a) ∷ b ∷ c ∷ d' ∷ e ∷ texts) = refl
 
-sets_are : (text : List ℕ) → option_map sets_in (digits_of text) ≡ life_sets text
-unfolding digits_of life_sets
+sets_are : (text : List ℕ) → option_map sets_in (claimed_digits_of text) ≡ life_sets text
+unfolding claimed_digits_of life_sets
 sets_are text = form_is (marks text) (digit_groups text)
 
 -- the rule of digits
@@ -131,7 +131,7 @@ lettered_is word (Some digits) =
     (unsupported_step (bytes_eq (letter_of word) (codes "V")) (bytes_eq (letter_of word) (codes "H")) (list_any (λ b. b == 47) word) word)
   where
     rest : Result Rule Kind
-    rest = cond (bytes_eq (letter_of word) (codes "V") || bytes_eq (letter_of word) (codes "H")) (Err kinds.UnsupportedRule) (other_rule word)
+    rest = cond (bytes_eq (letter_of word) (codes "V") || bytes_eq (letter_of word) (codes "H")) (Err kinds.UnsupportedRule) (claimed_other_rule word)
 
     step : (b v f : Bool) (x y : Result Rule Kind) → x ≡ result_map rule_in (life_rule VonNeumann (sets_in digits))
         → y ≡ result_map rule_in (other_of word (Some (sets_in digits)))
@@ -146,7 +146,7 @@ word_is : (word : List ℕ) (found : Option Digits) → option_map sets_in found
 unfolding four_sets
 word_is word (Some digits) e = counting_is Moore digits
 word_is word None e =
-    lettered_is word (digits_of (front_of word))
+    lettered_is word (claimed_digits_of (front_of word))
     ∙ ap (λ (s : Option DigitSets). result_map rule_in (four_or word s (four_of word s))) (sets_are (front_of word)) ∙ same_or
   where
     same_or : result_map rule_in (four_or word (life_sets (front_of word)) (four_of word (life_sets (front_of word))))
@@ -161,9 +161,9 @@ tests_are false true x y e = refl
 tests_are false false x y e = e
 
 -- a text names the rule that the layer below reads in it, and is refused where it is there
-pub rule_of_is : (text : List ℕ) → rule_of text ≡ result_map rule_in (layer_rule_of text)
-unfolding rule_of layer_rule_of
+pub rule_of_is : (text : List ℕ) → claimed_rule_of text ≡ result_map rule_in (layer_rule_of text)
+unfolding claimed_rule_of layer_rule_of
 rule_of_is text =
     let word = trim text in
     tests_are (is_bad_text word) (list_any (λ b. b == 58) word) _ _
-    (word_is word (digits_of word) (sets_are word) ∙ ap (λ (s : Option DigitSets). result_map rule_in (life_or_other word s)) (sets_are word))
+    (word_is word (claimed_digits_of word) (sets_are word) ∙ ap (λ (s : Option DigitSets). result_map rule_in (life_or_other word s)) (sets_are word))

@@ -4,7 +4,7 @@ use Rattle.std.specs.Prelude.{◌≡◌, ◌≤◌, ℕ, zero, suc, ◌+◌, ◌
 use Rattle.std.specs.List.{list_any, position_or_len}
 use Rattle.std.specs.Str.{byte}
 use Rattle.life_base.specs.Text.{without_last}
-use Rattle.claims.specs.Rules.{Rule, counting, named, is_counting, rule_text}
+use Rattle.claims.specs.Rules.{Rule, counting, named, is_counting, claimed_rule_text}
 use Rattle.claims.specs.Pattern.{Pattern}
 
 -- a square by its cells: one cell with a state, or four squares of one size, north-west, north-east, south-west and south-east
@@ -13,15 +13,16 @@ pub data Square : Type 0 where
   quarters : (nw ne sw se : Square) → Square
 
 -- the square of a level, 2 ^ level cells wide, whose north-west cell is (x, y)
-abbrev pub square_at : (ℤ → ℤ → ℕ) → (level : ℕ) → ℤ → ℤ → Square
-square_at cell zero x y = point (cell x y)
-square_at cell (suc level) x y =
+abbrev pub claimed_square_at : (ℤ → ℤ → ℕ) → (level : ℕ) → ℤ → ℤ → Square
+claimed_square_at cell zero x y = point (cell x y)
+claimed_square_at cell (suc level) x y =
     let side = pos (2 ^ level) in
-    quarters (square_at cell level x y) (square_at cell level (x +ℤ side) y) (square_at cell level x (y +ℤ side)) (square_at cell level (x +ℤ side) (y +ℤ side))
+    quarters (claimed_square_at cell level x y) (claimed_square_at cell level (x +ℤ side) y) (claimed_square_at cell level x (y +ℤ side))
+    (claimed_square_at cell level (x +ℤ side) (y +ℤ side))
 
 -- the square of a level about the middle of the plane: its columns and rows are those from -2 ^ (level - 1) to 2 ^ (level - 1) - 1
 abbrev pub middle_square : (ℤ → ℤ → ℕ) → ℕ → Square
-middle_square cell level = let west = neg_ℤ (pos (2 ^ (level - 1))) in square_at cell level west west
+middle_square cell level = let west = neg_ℤ (pos (2 ^ (level - 1))) in claimed_square_at cell level west west
 
 abbrev pub is_in_middle : ℕ → ℤ → Bool
 is_in_middle level z = let half = pos (2 ^ (level - 1)) in int_le (neg_ℤ half) z && int_lt z half
@@ -31,9 +32,9 @@ abbrev pub HoldsAllCells : (ℤ → ℤ → ℕ) → ℕ → Type 0
 HoldsAllCells cell level = (x y : ℤ) → (is_in_middle level x && is_in_middle level y) ≡ false → cell x y ≡ 0
 
 -- the level of the least squares that have lines: 3 under a B/S rule, where they are leaves, and 1 under a name
-abbrev pub least_level : Rule → ℕ
-least_level (counting neighbours births survivals) = 3
-least_level (named name) = 1
+abbrev pub claimed_least_level : Rule → ℕ
+claimed_least_level (counting neighbours births survivals) = 3
+claimed_least_level (named name) = 1
 
 abbrev pub square_level : Square → ℕ
 square_level (point state) = 0
@@ -51,11 +52,11 @@ same_square (quarters a b c d) (quarters e f g h) = same_square a e && same_squa
 same_square _ _ = false
 
 -- the squares that a walk visits: the quarters of a square, and then the square itself, but for blank squares and those below the least level
-abbrev pub walk : (least : ℕ) → Square → List Square
-walk least (point state) = []
-walk least (quarters nw ne sw se) =
+abbrev pub claimed_walk : (least : ℕ) → Square → List Square
+claimed_walk least (point state) = []
+claimed_walk least (quarters nw ne sw se) =
     if is_blank_square (quarters nw ne sw se) || nat_lt (square_level nw + 1) least then []
-    else walk least nw ++ walk least ne ++ walk least sw ++ walk least se ++ quarters nw ne sw se ∷ []
+    else claimed_walk least nw ++ claimed_walk least ne ++ claimed_walk least sw ++ claimed_walk least se ++ quarters nw ne sw se ∷ []
 
 -- the squares that were visited, and after them the others of a list, each at its first place alone
 abbrev pub first_visits : (visited squares : List Square) → List Square
@@ -84,16 +85,16 @@ square_line rule squares (quarters nw ne sw se) =
     else decimal (square_level nw + 1) ++ flat_map (λ quarter. codes " " ++ decimal (child_number squares quarter)) (nw ∷ ne ∷ sw ∷ se ∷ [])) ++ codes "\n"
 
 -- the text of a rule, a generation and a square; a generation of 0 has no line
-abbrev pub square_text : Rule → ℕ → Square → List ℕ
-square_text rule generation square =
-    let squares = first_visits [] (walk (least_level rule) square) in
-    codes "[M2] (canonical 1)\n#R " ++ rule_text rule ++ codes "\n" ++ (if generation == 0 then [] else codes "#G " ++ decimal generation ++ codes "\n")
+abbrev pub claimed_square_text : Rule → ℕ → Square → List ℕ
+claimed_square_text rule generation square =
+    let squares = first_visits [] (claimed_walk (claimed_least_level rule) square) in
+    codes "[M2] (canonical 1)\n#R " ++ claimed_rule_text rule ++ codes "\n" ++ (if generation == 0 then [] else codes "#G " ++ decimal generation ++ codes "\n")
     ++ flat_map (square_line rule squares) squares
 
 -- the canonical text of a pattern: that of the least square about the middle of the plane which holds every cell with a state other than 0
 pub record IsTextOfPattern (pattern : Pattern) (text : List ℕ) : Type 0 where
   pub level : ℕ
-  pub high : least_level pattern.rule ≤ level
+  pub high : claimed_least_level pattern.rule ≤ level
   pub holds : HoldsAllCells pattern.cell level
-  pub least : (lower : ℕ) → least_level pattern.rule ≤ lower → HoldsAllCells pattern.cell lower → level ≤ lower
-  pub is : text ≡ square_text pattern.rule pattern.generation (middle_square pattern.cell level)
+  pub least : (lower : ℕ) → claimed_least_level pattern.rule ≤ lower → HoldsAllCells pattern.cell lower → level ≤ lower
+  pub is : text ≡ claimed_square_text pattern.rule pattern.generation (middle_square pattern.cell level)

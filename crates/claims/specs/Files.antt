@@ -7,18 +7,18 @@ use Rattle.life_base.specs.declared.kind.Kind.TheVariants.{NoHeader, Full, Memor
 use Rattle.life_base.specs.declared.fault.Fault.{Fault}
 use Rattle.claims.specs.Outcomes.{◌>>=◌}
 use Rattle.claims.specs.Pattern.{Pattern}
-use Rattle.claims.specs.Macrocell.{first_line, with_line, cell}
+use Rattle.claims.specs.Macrocell.{first_line, with_macrocell_line, claimed_macrocell_cell}
 use Rattle.claims.specs.Rle.{Lines, before_header, after_header, after_end, no_position_fields}
-use Rattle.claims.specs.Rle.{with_line as with_rle_line, cell as rle_cell}
+use Rattle.claims.specs.Rle.{with_rle_line, claimed_rle_cell as rle_cell}
 
 -- the fault of a line; a number above 2 ^ 64 - 1 is told as that
-abbrev pub fault_at : ℕ → Kind → Fault
-fault_at number kind = record { place = record { line = min number (2 ^ 64 - 1) }; kind = kind }
+abbrev pub claimed_fault_at : ℕ → Kind → Fault
+claimed_fault_at number kind = record { place = record { line = min number (2 ^ 64 - 1) }; kind = kind }
 
 -- an answer, or a kind as the fault of a line
 abbrev pub on_line : {A : Type 0} → ℕ → Result A Kind → Result A Fault
 on_line number (Ok a) = Ok a
-on_line number (Err kind) = Err (fault_at number kind)
+on_line number (Err kind) = Err (claimed_fault_at number kind)
 
 -- What lines from this number on say after what is said already, and then what their end says; or the fault of the first line that has one. Where
 -- only the end is refused, its line is the number of lines plus one.
@@ -29,10 +29,11 @@ read_lines with_one at_end number said (line ∷ lines) =
 
 -- a macrocell file
 abbrev pub macrocell_of : List (List ℕ) → Result Pattern Fault
-macrocell_of [] = Err (fault_at 1 NoHeader)
+macrocell_of [] = Err (claimed_fault_at 1 NoHeader)
 macrocell_of (line ∷ lines) =
     on_line 1 (first_line line) >>= λ begun.
-    read_lines with_line (λ file. Ok (record { rule = file.rule; generation = file.generation; cell = cell file.nodes })) 2 begun lines
+    read_lines with_macrocell_line (λ file. Ok (record { rule = file.rule; generation = file.generation; cell = claimed_macrocell_cell file.nodes })) 2 begun
+    lines
 
 -- what lines of extended RLE say at their end: `!` may be lacking, and a header may not
 abbrev pub end_of_rle : Lines → Result Pattern Kind
@@ -47,15 +48,15 @@ pattern_of bytes =
     else read_lines with_rle_line end_of_rle 1 (before_header no_position_fields) (lines_of bytes)
 
 -- the fault of no line
-abbrev pub fault_of : Kind → Fault
-fault_of kind = record { place = record { line = 0 }; kind = kind }
+abbrev pub claimed_fault_of : Kind → Fault
+claimed_fault_of kind = record { place = record { line = 0 }; kind = kind }
 
 -- room in the store or memory was wanted; that is of no line
-abbrev pub IsWant : Fault → Type 0
-IsWant fault = (fault ≡ fault_of Full) ⊎ (fault ≡ fault_of Memory)
+abbrev pub IsShortage : Fault → Type 0
+IsShortage fault = (fault ≡ claimed_fault_of Full) ⊎ (fault ≡ claimed_fault_of Memory)
 
 -- Both are files, of one rule and one generation, and each cell has one state in both.
-pub record Same (a b : List ℕ) : Type 0 where
+pub record SayOnePattern (a b : List ℕ) : Type 0 where
   pub first : Pattern
   pub second : Pattern
   pub first_is : pattern_of a ≡ Ok first

@@ -7,17 +7,17 @@ use Rattle.life_base.specs.declared.cell.Cell.{Cell}
 use Rattle.life_base.specs.declared.fault.Fault.{Fault}
 use Rattle.life_base.specs.declared.kind.Kind.TheVariants.{NeedsTable, GenerationTooLarge, TooManyCells, OutOfPlane}
 use Rattle.claims.specs.Rules.{counting, named}
-use Rattle.claims.specs.Table.{Table, Answer, becomes, decided}
-use Rattle.claims.specs.Files.{pattern_of, fault_of}
+use Rattle.claims.specs.Table.{Table, ClaimedAnswer, becomes, claimed_decision}
+use Rattle.claims.specs.Files.{pattern_of, claimed_fault_of}
 use Rattle.claims.specs.Canonical.{IsTextOfPattern}
-use Rattle.claims.specs.Pattern.{Pattern, is_coordinate}
+use Rattle.claims.specs.Pattern.{Pattern, is_claimed_coordinate}
 
 -- the states of the neighbours of a cell from north clockwise, of four or of eight
-abbrev pub four_around : (ℤ → ℤ → ℕ) → ℤ → ℤ → List ℕ
-four_around cell x y = cell x (y +ℤ negsuc 0) ∷ cell (x +ℤ pos 1) y ∷ cell x (y +ℤ pos 1) ∷ cell (x +ℤ negsuc 0) y ∷ []
+abbrev pub claimed_four_around : (ℤ → ℤ → ℕ) → ℤ → ℤ → List ℕ
+claimed_four_around cell x y = cell x (y +ℤ negsuc 0) ∷ cell (x +ℤ pos 1) y ∷ cell x (y +ℤ pos 1) ∷ cell (x +ℤ negsuc 0) y ∷ []
 
-abbrev pub eight_around : (ℤ → ℤ → ℕ) → ℤ → ℤ → List ℕ
-eight_around cell x y =
+abbrev pub claimed_eight_around : (ℤ → ℤ → ℕ) → ℤ → ℤ → List ℕ
+claimed_eight_around cell x y =
     let north = y +ℤ negsuc 0 in
     let south = y +ℤ pos 1 in
     let west = x +ℤ negsuc 0 in
@@ -25,56 +25,57 @@ eight_around cell x y =
     cell x north ∷ cell east north ∷ cell east y ∷ cell east south ∷ cell x south ∷ cell west south ∷ cell west y ∷ cell west north ∷ []
 
 -- a cell of state 0 is born, and one of state 1 stays, by the number of its neighbours in state 1
-abbrev pub next_life : ℕ → List ℕ → List ℕ → (ℤ → ℤ → ℕ) → ℤ → ℤ → ℕ
-next_life neighbours births survivals cell x y =
-    let around = if neighbours == 4 then four_around cell x y else eight_around cell x y in
+abbrev pub claimed_next_life : ℕ → List ℕ → List ℕ → (ℤ → ℤ → ℕ) → ℤ → ℤ → ℕ
+claimed_next_life neighbours births survivals cell x y =
+    let around = if neighbours == 4 then claimed_four_around cell x y else claimed_eight_around cell x y in
     let live = count_by (λ state. state == 1) around in
     let alive_at = if cell x y == 0 then births else if cell x y == 1 then survivals else [] in
     if list_any (λ n. n == live) alive_at then 1 else 0
 
 -- the list has every cell with a state other than 0, once, row by row from the north, and in a row from the west
-pub record AreCells (cell : ℤ → ℤ → ℕ) (cells : List Cell) : Type 0 where
+pub record AreClaimedCells (cell : ℤ → ℤ → ℕ) (cells : List Cell) : Type 0 where
   pub in_order : AllPairs (λ (a b : Cell). (a.y <ℤ b.y) ⊎ ((a.y ≡ b.y) × (a.x <ℤ b.x))) cells
   pub true_cells : (c : Cell) → Contains cells c → (cell c.x c.y ≡ c.state) × (c.state ≢ 0)
   pub all_cells : (c : Cell) → cell c.x c.y ≡ c.state → c.state ≢ 0 → Contains cells c
 
 -- more cells than this have a state other than 0
-abbrev pub HasMoreCells : ℕ → (ℤ → ℤ → ℕ) → Type 0
-HasMoreCells most cell = (cells : List Cell) × AreCells cell cells × (most < length cells)
+abbrev pub HasMoreClaimedCells : ℕ → (ℤ → ℤ → ℕ) → Type 0
+HasMoreClaimedCells most cell = (cells : List Cell) × AreClaimedCells cell cells × (most < length cells)
 
 -- the bytes are a file of a pattern in which more cells than this have a state other than 0
 abbrev pub SaysMoreCells : ℕ → List ℕ → Type 0
-SaysMoreCells most bytes = (pattern : Pattern) × (pattern_of bytes ≡ Ok pattern) × HasMoreCells most pattern.cell
+SaysMoreCells most bytes = (pattern : Pattern) × (pattern_of bytes ≡ Ok pattern) × HasMoreClaimedCells most pattern.cell
 
 -- what a table decides for the cell (x, y)
-abbrev pub decided_at : Table → (ℤ → ℤ → ℕ) → ℤ → ℤ → Answer
+abbrev pub decided_at : Table → (ℤ → ℤ → ℕ) → ℤ → ℤ → ClaimedAnswer
 decided_at table cell x y =
-    let around = if unwrap_or table.neighbours 0 == 4 then four_around cell x y else eight_around cell x y in
-    decided table (cell x y) around table.transitions
+    let around = if unwrap_or table.neighbours 0 == 4 then claimed_four_around cell x y else claimed_eight_around cell x y in
+    claimed_decision table (cell x y) around table.transitions
 
 -- a cell outside the plane would not become 0
-abbrev pub LeavesPlane : (ℤ → ℤ → ℕ) → Type 0
-LeavesPlane next = (x : ℤ) × (y : ℤ) × ((is_coordinate x && is_coordinate y) ≡ false) × (next x y ≢ 0)
+abbrev pub LeavesClaimedPlane : (ℤ → ℤ → ℕ) → Type 0
+LeavesClaimedPlane next = (x : ℤ) × (y : ℤ) × ((is_claimed_coordinate x && is_claimed_coordinate y) ≡ false) × (next x y ≢ 0)
 
 -- a pattern has a next one under its B/S rule: none of the three reasons against it holds, and each cell of the plane and outside it gets its next state
-pub record IsNext (neighbours : ℕ) (births survivals : List ℕ) (now next : Pattern) : Type 0 where
+pub record IsClaimedNext (neighbours : ℕ) (births survivals : List ℕ) (now next : Pattern) : Type 0 where
   pub rule : now.rule ≡ counting neighbours births survivals
   pub same_rule : next.rule ≡ now.rule
   pub generation : next.generation ≡ now.generation + 1
   pub not_last : now.generation ≢ 2 ^ 64 - 1
-  pub few : HasMoreCells (2 ^ 20) now.cell → ⊥
-  pub inside : LeavesPlane (next_life neighbours births survivals now.cell) → ⊥
-  pub cells : (x y : ℤ) → next.cell x y ≡ next_life neighbours births survivals now.cell x y
+  pub few : HasMoreClaimedCells (2 ^ 20) now.cell → ⊥
+  pub inside : LeavesClaimedPlane (claimed_next_life neighbours births survivals now.cell) → ⊥
+  pub cells : (x y : ℤ) → next.cell x y ≡ claimed_next_life neighbours births survivals now.cell x y
 
 -- why a pattern has no next one under its rule without a table: the first of four reasons that holds, which is the fault of no line
 pub data IsFirstReason (now : Pattern) : Fault → Type 0 where
-  no_table : (name : List ℕ) → now.rule ≡ named name → IsFirstReason now (fault_of NeedsTable)
+  no_table : (name : List ℕ) → now.rule ≡ named name → IsFirstReason now (claimed_fault_of NeedsTable)
   last_generation : (neighbours : ℕ) (births survivals : List ℕ) → now.rule ≡ counting neighbours births survivals → now.generation ≡ 2 ^ 64 - 1
-      → IsFirstReason now (fault_of GenerationTooLarge)
+      → IsFirstReason now (claimed_fault_of GenerationTooLarge)
   many_cells : (neighbours : ℕ) (births survivals : List ℕ) → now.rule ≡ counting neighbours births survivals → now.generation ≢ 2 ^ 64 - 1
-      → HasMoreCells (2 ^ 20) now.cell → IsFirstReason now (fault_of TooManyCells)
+      → HasMoreClaimedCells (2 ^ 20) now.cell → IsFirstReason now (claimed_fault_of TooManyCells)
   leaves_plane : (neighbours : ℕ) (births survivals : List ℕ) → now.rule ≡ counting neighbours births survivals → now.generation ≢ 2 ^ 64 - 1
-      → (HasMoreCells (2 ^ 20) now.cell → ⊥) → LeavesPlane (next_life neighbours births survivals now.cell) → IsFirstReason now (fault_of OutOfPlane)
+      → (HasMoreClaimedCells (2 ^ 20) now.cell → ⊥) → LeavesClaimedPlane (claimed_next_life neighbours births survivals now.cell)
+      → IsFirstReason now (claimed_fault_of OutOfPlane)
 
 -- the bytes are a file of a pattern that has no next one under its rule without a table, for this reason
 abbrev pub IsUnstepped : List ℕ → Fault → Type 0
@@ -87,13 +88,13 @@ pub record IsNextByTable (table : Table) (now next : Pattern) : Type 0 where
   pub same_rule : next.rule ≡ now.rule
   pub generation : next.generation ≡ now.generation + 1
   pub not_last : now.generation ≢ 2 ^ 64 - 1
-  pub few : HasMoreCells (2 ^ 20) now.cell → ⊥
+  pub few : HasMoreClaimedCells (2 ^ 20) now.cell → ⊥
   pub known : (x y : ℤ) → now.cell x y < unwrap_or table.n_states 0
-  pub inside : (x y : ℤ) → (is_coordinate x && is_coordinate y) ≡ false → next.cell x y ≡ 0
+  pub inside : (x y : ℤ) → (is_claimed_coordinate x && is_claimed_coordinate y) ≡ false → next.cell x y ≡ 0
   pub cells : (x y : ℤ) → decided_at table now.cell x y ≡ becomes (next.cell x y)
 
 -- the bytes are a file with a next pattern under its B/S rule, and the text is a file of that one, and its canonical text
-pub record IsStepped (bytes text : List ℕ) : Type 0 where
+pub record IsClaimedStep (bytes text : List ℕ) : Type 0 where
   pub now : Pattern
   pub next : Pattern
   pub now_is : pattern_of bytes ≡ Ok now
@@ -101,5 +102,5 @@ pub record IsStepped (bytes text : List ℕ) : Type 0 where
   pub neighbours : ℕ
   pub births : List ℕ
   pub survivals : List ℕ
-  pub is : IsNext neighbours births survivals now next
+  pub is : IsClaimedNext neighbours births survivals now next
   pub canonical : IsTextOfPattern next text

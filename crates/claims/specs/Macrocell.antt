@@ -15,7 +15,7 @@ use Rattle.life_base.specs.Text.{is_empty, is_blank, is_too_long, begins_with, t
 use Rattle.life_base.specs.declared.kind.Kind.{Kind}
 use Rattle.life_base.specs.declared.kind.Kind.TheVariants.{NoHeader, BadNumber, TooLarge, StateRange, LateHeader, BadNode, BadLevel, BadChild, BadLeaf, Timeline, LineTooLong}
 use Rattle.claims.specs.Outcomes.{◌>>=◌}
-use Rattle.claims.specs.Rules.{Rule, rule_of, default_rule, largest_state}
+use Rattle.claims.specs.Rules.{Rule, claimed_rule_of, claimed_default_rule, claimed_largest_state}
 
 -- A square: a leaf, 8 cells wide, by the texts of its rows; or a level, and what stands for its quarters north-west, north-east, south-west and
 -- south-east.
@@ -24,12 +24,12 @@ pub data Node : Type 0 where
   quad : (level nw ne sw se : ℕ) → Node
 
 -- the level of a square, which is 2 ^ level cells wide; that of a line of eight rows is 3
-abbrev pub level_of : Node → ℕ
-level_of (leaf rows) = 3
-level_of (quad level nw ne sw se) = level
+abbrev pub claimed_level_of : Node → ℕ
+claimed_level_of (leaf rows) = 3
+claimed_level_of (quad level nw ne sw se) = level
 
 -- what the lines so far say: the squares are numbered from 1
-pub record Macrocell : Type 0 where
+pub record ClaimedMacrocell : Type 0 where
   pub rule : Rule
   pub generation : ℕ
   pub nodes : List Node
@@ -37,8 +37,8 @@ pub record Macrocell : Type 0 where
 -- ---- a node line
 
 -- `.`, `*` or `$`
-abbrev pub is_leaf_byte : ℕ → Bool
-is_leaf_byte b = b == byte "." || b == byte "*" || b == byte "$"
+abbrev pub is_claimed_leaf_byte : ℕ → Bool
+is_claimed_leaf_byte b = b == byte "." || b == byte "*" || b == byte "$"
 
 -- nothing stands after the eighth `$`
 abbrev pub is_end : List (List ℕ) → Bool
@@ -51,31 +51,31 @@ is_end _ = false
 abbrev pub leaf_of : List ℕ → Result Node Kind
 leaf_of text =
     let rows = slice_split (λ b. b == byte "$") text in
-    if list_all is_leaf_byte text && list_all (λ row. nat_le (length row) 8) rows && is_end (drop 8 rows) then Ok (leaf rows) else Err BadLeaf
+    if list_all is_claimed_leaf_byte text && list_all (λ row. nat_le (length row) 8) rows && is_end (drop 8 rows) then Ok (leaf rows) else Err BadLeaf
 
 -- five numbers, separated by any whitespace (in Golly Help by single spaces)
-abbrev pub quad_of : List ℕ → Result Node Kind
-quad_of (level ∷ nw ∷ ne ∷ sw ∷ se ∷ []) = Ok (quad level nw ne sw se)
-quad_of _ = Err BadNode
+abbrev pub claimed_quad_of : List ℕ → Result Node Kind
+claimed_quad_of (level ∷ nw ∷ ne ∷ sw ∷ se ∷ []) = Ok (quad level nw ne sw se)
+claimed_quad_of _ = Err BadNode
 
 -- the square that a node line writes, whose first byte tells a leaf
 abbrev pub node_of : List ℕ → Result Node Kind
 node_of text =
-    if is_leaf_byte (slice_index text 0) then leaf_of text
-    else if list_all is_digit_text (words_of text) then quad_of (map value_of (words_of text)) else Err BadNode
+    if is_claimed_leaf_byte (slice_index text 0) then leaf_of text
+    else if list_all is_digit_text (words_of text) then claimed_quad_of (map value_of (words_of text)) else Err BadNode
 
 -- the square of a number, if there is one
-abbrev pub numbered : List Node → ℕ → Option Node
-numbered nodes zero = None
-numbered nodes (suc i) = slice_get nodes i
+abbrev pub node_of_number : List Node → ℕ → Option Node
+node_of_number nodes zero = None
+node_of_number nodes (suc i) = slice_get nodes i
 
 abbrev pub has_level : ℕ → Option Node → Bool
 has_level level None = false
-has_level level (Some node) = level_of node == level
+has_level level (Some node) = claimed_level_of node == level
 
 -- a quarter of this level: 0, which is the empty square, or the number of an earlier square of this level
-abbrev pub is_child : List Node → ℕ → ℕ → Bool
-is_child nodes level number = number == 0 || has_level level (numbered nodes number)
+abbrev pub is_claimed_child : List Node → ℕ → ℕ → Bool
+is_claimed_child nodes level number = number == 0 || has_level level (node_of_number nodes number)
 
 -- The squares with one more after them, if it may stand there. A leaf may stand under any rule, and so may a quarter line of each level from 1 to
 -- 62: of level 1 with states that the rule has, and above it with quarters of the level below.
@@ -85,15 +85,15 @@ with_node rule nodes (quad level nw ne sw se) =
     let quarters = nw ∷ ne ∷ sw ∷ se ∷ [] in
     if level == 0 || nat_lt 62 level then Err BadLevel
     else if level == 1
-    then (if list_all (λ state. nat_le state (largest_state rule)) quarters then Ok (nodes ++ quad level nw ne sw se ∷ []) else Err StateRange)
-    else if list_all (is_child nodes (level - 1)) quarters then Ok (nodes ++ quad level nw ne sw se ∷ []) else Err BadChild
+    then (if list_all (λ state. nat_le state (claimed_largest_state rule)) quarters then Ok (nodes ++ quad level nw ne sw se ∷ []) else Err StateRange)
+    else if list_all (is_claimed_child nodes (level - 1)) quarters then Ok (nodes ++ quad level nw ne sw se ∷ []) else Err BadChild
 
 -- ---- the lines
 
 -- The line begins with this word, and whitespace or its end follows. (Golly Help asks for the word alone:
 -- there `#RB36/S23` is a rule, and here it is a comment.)
-abbrev pub is_command : List ℕ → List ℕ → Bool
-is_command word line = begins_with line word && is_blank (take 1 (drop (length word) line))
+abbrev pub is_claimed_command : List ℕ → List ℕ → Bool
+is_claimed_command word line = begins_with line word && is_blank (take 1 (drop (length word) line))
 
 -- a whole number below 2 ^ 64
 abbrev pub generation_of : List ℕ → Result ℕ Kind
@@ -101,22 +101,22 @@ generation_of text = if not (is_digit_text text) then Err BadNumber else if nat_
 
 -- What the lines so far say with one more after them, or the first rule that this one breaks. Of several rules the last one counts, and so of
 -- generations. A word is told by the first bytes of the line as it stands, while a node line is taken without the whitespace at its ends.
-unfoldable pub with_line : Macrocell → List ℕ → Result Macrocell Kind
-with_line file line =
+unfoldable pub with_macrocell_line : ClaimedMacrocell → List ℕ → Result ClaimedMacrocell Kind
+with_macrocell_line file line =
     if is_too_long line then Err LineTooLong
     else if is_blank line then Ok file
     else if begins_with line (codes "#FRAME") then Err Timeline
-    else if (is_command (codes "#R") line || is_command (codes "#G") line) && not (is_empty file.nodes) then Err LateHeader
-    else if is_command (codes "#R") line then (rule_of (drop 2 line) >>= λ rule. Ok (record file { rule = rule }))
-    else if is_command (codes "#G") line then (generation_of (trim (drop 2 line)) >>= λ generation. Ok (record file { generation = generation }))
+    else if (is_claimed_command (codes "#R") line || is_claimed_command (codes "#G") line) && not (is_empty file.nodes) then Err LateHeader
+    else if is_claimed_command (codes "#R") line then (claimed_rule_of (drop 2 line) >>= λ rule. Ok (record file { rule = rule }))
+    else if is_claimed_command (codes "#G") line then (generation_of (trim (drop 2 line)) >>= λ generation. Ok (record file { generation = generation }))
     else if begins_with line (codes "#") then Ok file
     else (node_of (trim line) >>= λ node. with_node file.rule file.nodes node >>= λ nodes. Ok (record file { nodes = nodes }))
 
 -- The first line begins with `[M2]`, and what follows on it is passed over. The rule is B3/S23 and the generation 0 until a line says another.
-abbrev pub first_line : List ℕ → Result Macrocell Kind
+abbrev pub first_line : List ℕ → Result ClaimedMacrocell Kind
 first_line line =
     if is_too_long line then Err LineTooLong
-    else if begins_with line (codes "[M2]") then Ok (record { rule = default_rule; generation = 0; nodes = [] }) else Err NoHeader
+    else if begins_with line (codes "[M2]") then Ok (record { rule = claimed_default_rule; generation = 0; nodes = [] }) else Err NoHeader
 
 -- ---- the plane
 
@@ -125,36 +125,36 @@ abbrev pub leaf_state : List (List ℕ) → ℕ → ℕ → ℕ
 leaf_state rows column row = if slice_index (slice_index_or rows row []) column == byte "*" then 1 else 0
 
 -- that of the four quarters, each of this side, in which a column and a row lie
-abbrev pub quarter_at : ℕ → ℕ → ℕ → ℕ → ℕ → ℕ → ℕ → ℕ
-quarter_at side column row nw ne sw se = if nat_lt row side then (if nat_lt column side then nw else ne) else (if nat_lt column side then sw else se)
+abbrev pub claimed_quarter_at : ℕ → ℕ → ℕ → ℕ → ℕ → ℕ → ℕ → ℕ
+claimed_quarter_at side column row nw ne sw se = if nat_lt row side then (if nat_lt column side then nw else ne) else (if nat_lt column side then sw else se)
 
 -- The state in a column and a row, from the north-west corner, of the square of this level that a number stands for. At level 0 the number is the
 -- state; above, it is that of a node line, or 0 for the empty square.
-abbrev pub state_in : List Node → (level number column row : ℕ) → ℕ
-state_in nodes zero number column row = number
-state_in nodes (suc level) number column row = elim (numbered nodes number) [
+abbrev pub claimed_state_in : List Node → (level number column row : ℕ) → ℕ
+claimed_state_in nodes zero number column row = number
+claimed_state_in nodes (suc level) number column row = elim (node_of_number nodes number) [
   | None ↦ 0
   | Some node ↦ elim node [
     | leaf rows ↦ leaf_state rows column row
     | quad _ nw ne sw se ↦
         let side = 2 ^ level in
-        state_in nodes level (quarter_at side column row nw ne sw se) (column % side) (row % side)
+        claimed_state_in nodes level (claimed_quarter_at side column row nw ne sw se) (column % side) (row % side)
   ]
 ]
 
 -- the level of the root, which is the last square, whether or not it is the largest; 0 without squares
-abbrev pub root_level : List Node → ℕ
-root_level [] = 0
-root_level (node ∷ []) = level_of node
-root_level (node ∷ next ∷ nodes) = root_level (next ∷ nodes)
+abbrev pub claimed_root_level : List Node → ℕ
+claimed_root_level [] = 0
+claimed_root_level (node ∷ []) = claimed_level_of node
+claimed_root_level (node ∷ next ∷ nodes) = claimed_root_level (next ∷ nodes)
 
 -- The state of the cell (x, y). A root of level k covers the columns and rows from -2 ^ (k - 1) to 2 ^ (k - 1) - 1, so that its south-east quarter
 -- begins at (0, 0), and not at (0, 1) as in Golly Help. Outside the root all cells are 0, and so they are in a file without squares.
-abbrev pub cell : List Node → ℤ → ℤ → ℕ
-cell [] x y = 0
-cell (node ∷ nodes) x y =
+abbrev pub claimed_macrocell_cell : List Node → ℤ → ℤ → ℕ
+claimed_macrocell_cell [] x y = 0
+claimed_macrocell_cell (node ∷ nodes) x y =
     let all = node ∷ nodes in
-    let level = root_level all in
+    let level = claimed_root_level all in
     let half = pos (2 ^ (level - 1)) in
     if int_le (neg_ℤ half) x && int_lt x half && int_le (neg_ℤ half) y && int_lt y half
-    then state_in all level (length all) (unsigned_abs (x +ℤ half)) (unsigned_abs (y +ℤ half)) else 0
+    then claimed_state_in all level (length all) (unsigned_abs (x +ℤ half)) (unsigned_abs (y +ℤ half)) else 0

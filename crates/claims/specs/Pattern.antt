@@ -12,5 +12,5 @@ pub record Pattern : Type 0 where
 abbrev pub coordinate_bound : ℤ
 coordinate_bound = pos (2 ^ 61)
 
-abbrev pub is_coordinate : ℤ → Bool
-is_coordinate z = int_le (neg_ℤ coordinate_bound) z && int_lt z coordinate_bound
+abbrev pub is_claimed_coordinate : ℤ → Bool
+is_claimed_coordinate z = int_le (neg_ℤ coordinate_bound) z && int_lt z coordinate_bound

@@ -50,8 +50,8 @@ digits_by_marks marks (d ∷ e ∷ []) = if bytes_eq marks (codes "/") then Some
 digits_by_marks marks _ = None
 
 -- the digits of a text of one of the five forms, where a small letter is as good as a capital one
-unfoldable pub digits_of : List ℕ → Option Digits
-digits_of word = digits_by_marks (map to_ascii_uppercase (filter is_mark word)) (slice_split is_mark word)
+unfoldable pub claimed_digits_of : List ℕ → Option Digits
+claimed_digits_of word = digits_by_marks (map to_ascii_uppercase (filter is_mark word)) (slice_split is_mark word)
 
 -- the rule of these digits, unless cells are born on 0
 abbrev pub counting_rule : ℕ → Digits → Result Rule Kind
@@ -63,18 +63,18 @@ abbrev pub are_up_to_four : Digits → Bool
 are_up_to_four digits = list_all (λ n. nat_le n 4) (counts_in digits.births) && list_all (λ n. nat_le n 4) (counts_in digits.survivals)
 
 -- the rule of a word of none of the five forms
-abbrev pub other_rule : List ℕ → Result Rule Kind
-other_rule word = if has word (byte "/") then Err UnsupportedRule else Ok (named word)
+abbrev pub claimed_other_rule : List ℕ → Result Rule Kind
+claimed_other_rule word = if has word (byte "/") then Err UnsupportedRule else Ok (named word)
 
 -- The rule of a word that may be one of the five forms with a letter after it. After a form that begins with `B`, and has no digit above 4, `V`
 -- means four neighbours, north, east, south and west (Golly Help, after `BD/SD`; after `BDSD` it is this project's own); any other `V`, and `H`, means
 -- neighbours that aren't supported.
 abbrev pub lettered_rule : List ℕ → List ℕ → List ℕ → Option Digits → Result Rule Kind
-lettered_rule word front letter None = other_rule word
+lettered_rule word front letter None = claimed_other_rule word
 lettered_rule word front letter (Some digits) =
     if begins_with front (codes "B") && bytes_eq letter (codes "V") && are_up_to_four digits then counting_rule 4 digits
     else if bytes_eq letter (codes "V") || bytes_eq letter (codes "H") then Err UnsupportedRule
-    else other_rule word
+    else claimed_other_rule word
 
 -- the rule of a word, by its digits where it is of one of the five forms
 abbrev pub word_rule : List ℕ → Option Digits → Result Rule Kind
@@ -82,24 +82,24 @@ word_rule word (Some digits) = counting_rule 8 digits
 word_rule word None =
     let front = take (length word - 1) word in
     let letter = drop (length word - 1) word in
-    lettered_rule word (map to_ascii_uppercase front) (map to_ascii_uppercase letter) (digits_of front)
+    lettered_rule word (map to_ascii_uppercase front) (map to_ascii_uppercase letter) (claimed_digits_of front)
 
 -- the rule that a text names; whitespace at its ends counts for nothing
-unfoldable pub rule_of : List ℕ → Result Rule Kind
-rule_of text =
+unfoldable pub claimed_rule_of : List ℕ → Result Rule Kind
+claimed_rule_of text =
     let word = trim text in
     if is_empty word || nat_lt 255 (length word) || not (list_all is_ascii_graphic word) then Err BadRule
     else if has word (byte ":") then Err BoundedGrid
-    else word_rule word (digits_of word)
+    else word_rule word (claimed_digits_of word)
 
 -- the rule of a file that names none, B3/S23 (this project's own)
-abbrev pub default_rule : Rule
-default_rule = counting 8 (3 ∷ []) (2 ∷ 3 ∷ [])
+abbrev pub claimed_default_rule : Rule
+claimed_default_rule = counting 8 (3 ∷ []) (2 ∷ 3 ∷ [])
 
 -- the greatest state of a cell; under a name 255, whatever states Golly gives that rule
-abbrev pub largest_state : Rule → ℕ
-largest_state (counting neighbours births survivals) = 1
-largest_state (named name) = 255
+abbrev pub claimed_largest_state : Rule → ℕ
+claimed_largest_state (counting neighbours births survivals) = 1
+claimed_largest_state (named name) = 255
 
 -- a B/S rule
 abbrev pub is_counting : Rule → Bool
@@ -107,7 +107,7 @@ is_counting (counting neighbours births survivals) = true
 is_counting (named name) = false
 
 -- the canonical text of a rule
-abbrev pub rule_text : Rule → List ℕ
-rule_text (counting neighbours births survivals) =
+abbrev pub claimed_rule_text : Rule → List ℕ
+claimed_rule_text (counting neighbours births survivals) =
     codes "B" ++ map (λ n. byte "0" + n) births ++ codes "/S" ++ map (λ n. byte "0" + n) survivals ++ (if neighbours == 4 then codes "V" else [])
-rule_text (named name) = name
+claimed_rule_text (named name) = name

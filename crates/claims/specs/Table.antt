@@ -20,8 +20,8 @@ use Rattle.life_base.specs.Text.{lines_of, is_empty, is_blank, is_whitespace, is
 use Rattle.life_base.specs.declared.kind.Kind.{Kind}
 use Rattle.life_base.specs.declared.kind.Kind.TheVariants.{LineTooLong, NoRuleLine, NoTable, BadDescriptor, UnsupportedNeighborhood, UnsupportedSymmetry, BadVariable, BadTransition, UnboundOutput, NotQuiet}
 use Rattle.claims.specs.Outcomes.{◌>>=◌}
-use Rattle.claims.specs.Rules.{Rule, named, rule_of, has}
-use Rattle.claims.specs.Macrocell.{is_command}
+use Rattle.claims.specs.Rules.{Rule, named, claimed_rule_of, has}
+use Rattle.claims.specs.Macrocell.{is_claimed_command}
 
 -- what stands in a place of a transition: a state, or the variable of this number, counted from 0
 pub data Entry : Type 0 where
@@ -67,13 +67,13 @@ abbrev pub symmetries_of : ℕ → List (List ℕ)
 symmetries_of neighbours = if neighbours == 8 then every_symmetry ++ codes "rotate8" ∷ codes "rotate8reflect" ∷ [] else every_symmetry
 
 -- a symmetry is listed for a neighbourhood, where both were given
-abbrev pub agree : Option ℕ → Option (List ℕ) → Bool
-agree (Some neighbours) (Some word) = list_any (bytes_eq word) (symmetries_of neighbours)
-agree neighbours word = true
+abbrev pub claimed_symmetry_agrees : Option ℕ → Option (List ℕ) → Bool
+claimed_symmetry_agrees (Some neighbours) (Some word) = list_any (bytes_eq word) (symmetries_of neighbours)
+claimed_symmetry_agrees neighbours word = true
 
 abbrev pub with_neighbours : Table → Option ℕ → Result Table Kind
 with_neighbours table None = Err UnsupportedNeighborhood
-with_neighbours table (Some n) = if agree (Some n) table.symmetry then Ok (record table { neighbours = Some n }) else Err UnsupportedSymmetry
+with_neighbours table (Some n) = if claimed_symmetry_agrees (Some n) table.symmetry then Ok (record table { neighbours = Some n }) else Err UnsupportedSymmetry
 
 abbrev pub neighbours_named : List ℕ → Option ℕ
 neighbours_named word = if bytes_eq word (codes "vonNeumann") then Some 4 else if bytes_eq word (codes "Moore") then Some 8 else None
@@ -82,7 +82,7 @@ neighbours_named word = if bytes_eq word (codes "vonNeumann") then Some 4 else i
 abbrev pub with_descriptor : Table → List ℕ → List ℕ → Result Table Kind
 with_descriptor table key value =
     let is_count = is_digit_text value && nat_le 2 (value_of value) && nat_le (value_of value) 256 in
-    let is_listed = list_any (bytes_eq value) (symmetries_of 8) && agree table.neighbours (Some value) in
+    let is_listed = list_any (bytes_eq value) (symmetries_of 8) && claimed_symmetry_agrees table.neighbours (Some value) in
     if bytes_eq key (codes "n_states") && is_none table.n_states
     then (if is_count then Ok (record table { n_states = Some (value_of value) }) else Err BadDescriptor)
     else if (bytes_eq key (codes "neighborhood") || bytes_eq key (codes "neighbourhood")) && is_none table.neighbours
@@ -94,23 +94,23 @@ with_descriptor table key value =
 -- ---- entries
 
 -- the entry of a text: a state below the number of states, or an earlier variable
-abbrev pub entry_of : Table → List ℕ → Option Entry
-entry_of table text =
+abbrev pub claimed_entry_of : Table → List ℕ → Option Entry
+claimed_entry_of table text =
     if is_digit_text text then (if nat_lt (value_of text) (unwrap_or table.n_states 0) then Some (fixed (value_of text)) else None)
     else elim (position (λ (v : Variable). bytes_eq v.name text) table.variables) [ None ↦ None | Some number ↦ Some (variable number) ]
 
 -- the entries of texts, if each is one
-abbrev pub entries_of : Table → List (List ℕ) → Option (List Entry)
-entries_of table [] = Some []
-entries_of table (text ∷ texts) = elim (entry_of table text) [
+abbrev pub claimed_entries_of : Table → List (List ℕ) → Option (List Entry)
+claimed_entries_of table [] = Some []
+claimed_entries_of table (text ∷ texts) = elim (claimed_entry_of table text) [
   | None ↦ None
-  | Some entry ↦ elim (entries_of table texts) [ None ↦ None | Some entries ↦ Some (entry ∷ entries) ]
+  | Some entry ↦ elim (claimed_entries_of table texts) [ None ↦ None | Some entries ↦ Some (entry ∷ entries) ]
 ]
 
 -- the states of an entry
-abbrev pub states_of : List Variable → Entry → List ℕ
-states_of variables (fixed state) = state ∷ []
-states_of variables (variable number) = elim (slice_get variables number) [ None ↦ [] | Some v ↦ v.states ]
+abbrev pub claimed_states_of : List Variable → Entry → List ℕ
+claimed_states_of variables (fixed state) = state ∷ []
+claimed_states_of variables (variable number) = elim (slice_get variables number) [ None ↦ [] | Some v ↦ v.states ]
 
 abbrev pub parts_of : List ℕ → List (List ℕ)
 parts_of text = map trim (slice_split (λ b. b == byte ",") text)
@@ -129,10 +129,10 @@ with_variable table text =
     let inner = take (length list - 2) (drop 1 list) in
     let braces = nat_le 2 (length list) && begins_with list (codes "{") && bytes_eq (drop (length list - 1) list) (codes "}") in
     if is_name name && not (list_any (λ (v : Variable). bytes_eq v.name name) table.variables) && braces
-    then elim (entries_of table (parts_of inner)) [
+    then elim (claimed_entries_of table (parts_of inner)) [
       | None ↦ Err BadVariable
       | Some entries ↦
-          let new : Variable = record { name = name; states = flat_map (states_of table.variables) entries } in
+          let new : Variable = record { name = name; states = flat_map (claimed_states_of table.variables) entries } in
           Ok (record table { variables = table.variables ++ new ∷ [] })
     ] else Err BadVariable
 
@@ -140,13 +140,13 @@ with_variable table text =
 abbrev pub transition_texts : List ℕ → List (List ℕ)
 transition_texts text = if has text (byte ",") then parts_of text else map (λ b. b ∷ []) (filter (λ b. not (is_whitespace b)) text)
 
-abbrev pub is_bound : List Entry → Entry → Bool
-is_bound inputs (fixed state) = true
-is_bound inputs (variable n) = list_any (λ (e : Entry). elim e [ fixed state ↦ false | variable m ↦ m == n ]) inputs
+abbrev pub is_claimed_bound : List Entry → Entry → Bool
+is_claimed_bound inputs (fixed state) = true
+is_claimed_bound inputs (variable n) = list_any (λ (e : Entry). elim e [ fixed state ↦ false | variable m ↦ m == n ]) inputs
 
 -- a transition fits a cell of state 0 whose neighbours all have state 0
-abbrev pub fits_zero : List Variable → Transition → Bool
-fits_zero variables line = list_all (λ entry. list_any (λ s. s == 0) (states_of variables entry)) line.inputs
+abbrev pub claimed_fits_zero : List Variable → Transition → Bool
+claimed_fits_zero variables line = list_all (λ entry. list_any (λ s. s == 0) (claimed_states_of variables entry)) line.inputs
 
 abbrev pub leaves_zero : Entry → Bool
 leaves_zero (fixed state) = not (state == 0)
@@ -156,8 +156,9 @@ leaves_zero (variable number) = false
 abbrev pub with_entries : Table → ℕ → List Entry → Entry → Result Table Kind
 with_entries table number inputs output =
     let line : Transition = record { line = min number (2 ^ 64 - 1); inputs = inputs; output = output } in
-    if not (is_bound inputs output) then Err UnboundOutput
-    else if fits_zero table.variables line && leaves_zero output && not (list_any (fits_zero table.variables) table.transitions) then Err NotQuiet
+    if not (is_claimed_bound inputs output) then Err UnboundOutput
+    else if claimed_fits_zero table.variables line && leaves_zero output
+    && not (list_any (claimed_fits_zero table.variables) table.transitions) then Err NotQuiet
     else Ok (record table { transitions = table.transitions ++ line ∷ [] })
 
 -- the same of the text of a transition
@@ -166,10 +167,10 @@ with_transition table number text =
     let texts = transition_texts text in
     let places = unwrap_or table.neighbours 0 + 1 in
     if not (length texts == places + 1) then Err BadTransition
-    else elim (entries_of table (take places texts)) [
+    else elim (claimed_entries_of table (take places texts)) [
       | None ↦ Err BadTransition
       | Some entries ↦
-          elim (entry_of table (slice_index_or texts places [])) [ None ↦ Err BadTransition | Some output ↦ with_entries table number entries output ]
+          elim (claimed_entry_of table (slice_index_or texts places [])) [ None ↦ Err BadTransition | Some output ↦ with_entries table number entries output ]
     ]
 
 -- ---- the lines
@@ -180,24 +181,24 @@ with_text table number text =
     if is_empty text then Ok table
     else if has text (byte ":") then with_descriptor table (trim (before_first (λ b. b == byte ":") text)) (trim (after_first (λ b. b == byte ":") text))
     else if not (is_complete table) then Err BadDescriptor
-    else if is_command (codes "var") text && nat_lt 3 (length text) then with_variable table (drop 3 text)
+    else if is_claimed_command (codes "var") text && nat_lt 3 (length text) then with_variable table (drop 3 text)
     else with_transition table number text
 
-abbrev pub rule_line : List ℕ → Result Rule Kind → Result Section Kind
-rule_line line (Ok (named name)) = if is_command (codes "@RULE") line then Ok (named_rule name) else Err NoRuleLine
-rule_line line _ = Err NoRuleLine
+abbrev pub with_rule_line : List ℕ → Result Rule Kind → Result Section Kind
+with_rule_line line (Ok (named name)) = if is_claimed_command (codes "@RULE") line then Ok (named_rule name) else Err NoRuleLine
+with_rule_line line _ = Err NoRuleLine
 
 abbrev pub new_table : List ℕ → Table
 new_table name = record { name = name; n_states = None; neighbours = None; symmetry = None; variables = []; transitions = [] }
 
 -- What the lines so far say with one more after them, or the first rule that this one breaks. A line that is too long is refused wherever it stands.
 -- Of the others blank lines and comments before the rule line are passed over, and every line between it and the table line, and behind the table.
-unfoldable pub with_line : Section → ℕ → List ℕ → Result Section Kind
-with_line section number line = if is_too_long line then Err LineTooLong else by_section section
+unfoldable pub with_table_line : Section → ℕ → List ℕ → Result Section Kind
+with_table_line section number line = if is_too_long line then Err LineTooLong else by_section section
   where
     by_section : Section → Result Section Kind
-    by_section ahead = if is_blank line || begins_with line (codes "#") then Ok ahead else rule_line line (rule_of (drop 5 line))
-    by_section (named_rule name) = if is_command (codes "@TABLE") line then Ok (in_table (new_table name)) else Ok (named_rule name)
+    by_section ahead = if is_blank line || begins_with line (codes "#") then Ok ahead else with_rule_line line (claimed_rule_of (drop 5 line))
+    by_section (named_rule name) = if is_claimed_command (codes "@TABLE") line then Ok (in_table (new_table name)) else Ok (named_rule name)
     by_section (in_table table) =
         if begins_with line (codes "@") then (if is_complete table then Ok (after_table table) else Err BadDescriptor)
         else (with_text table number (trim (before_first (λ b. b == byte "#") line)) >>= λ next. Ok (in_table next))
@@ -212,7 +213,7 @@ end_of_table (after_table table) = Ok table
 -- what lines from this number on say after what is said already, and then their end; or the fault of the first line that has one
 abbrev pub read_table_lines : ℕ → Section → List (List ℕ) → Result Table Fault
 read_table_lines number section [] = on_line number (end_of_table section)
-read_table_lines number section (line ∷ lines) = on_line number (with_line section number line) >>= λ next. read_table_lines (number + 1) next lines
+read_table_lines number section (line ∷ lines) = on_line number (with_table_line section number line) >>= λ next. read_table_lines (number + 1) next lines
 
 -- what the bytes of a rule file say
 unfoldable pub table_of : List ℕ → Result Table Fault
@@ -221,71 +222,71 @@ table_of bytes = read_table_lines 1 ahead (lines_of bytes)
 -- ---- what a table gives
 
 -- the turn by r, and the reflected one; the neighbours stand from north clockwise
-abbrev pub turn : List ℕ → ℕ → List ℕ
-turn v r = map (λ i. slice_index v ((i + r) % length v)) (range_with_len 0 (length v))
+abbrev pub claimed_turn : List ℕ → ℕ → List ℕ
+claimed_turn v r = map (λ i. slice_index v ((i + r) % length v)) (range_with_len 0 (length v))
 
-abbrev pub reflected : List ℕ → ℕ → List ℕ
-reflected v r = map (λ i. slice_index v ((length v - i + r) % length v)) (range_with_len 0 (length v))
+abbrev pub claimed_reflection : List ℕ → ℕ → List ℕ
+claimed_reflection v r = map (λ i. slice_index v ((length v - i + r) % length v)) (range_with_len 0 (length v))
 
 -- so many turns, each by a step more
-abbrev pub turns : (List ℕ → ℕ → List ℕ) → List ℕ → ℕ → ℕ → List (List ℕ)
-turns by v count step = map (λ k. by v (k * step)) (range_with_len 0 count)
+abbrev pub claimed_turns : (List ℕ → ℕ → List ℕ) → List ℕ → ℕ → ℕ → List (List ℕ)
+claimed_turns by v count step = map (λ k. by v (k * step)) (range_with_len 0 count)
 
 -- an item put at each place of a list
-abbrev pub insertions : (item : ℕ) → (items : List ℕ) → List (List ℕ)
-insertions x [] = (x ∷ []) ∷ []
-insertions x (y ∷ ys) = (x ∷ y ∷ ys) ∷ map (λ zs. y ∷ zs) (insertions x ys)
+abbrev pub claimed_insertions : (item : ℕ) → (items : List ℕ) → List (List ℕ)
+claimed_insertions x [] = (x ∷ []) ∷ []
+claimed_insertions x (y ∷ ys) = (x ∷ y ∷ ys) ∷ map (λ zs. y ∷ zs) (claimed_insertions x ys)
 
 -- every order of a list
-abbrev pub orders : List ℕ → List (List ℕ)
-orders [] = [] ∷ []
-orders (x ∷ xs) = flat_map (insertions x) (orders xs)
+abbrev pub claimed_orders : List ℕ → List (List ℕ)
+claimed_orders [] = [] ∷ []
+claimed_orders (x ∷ xs) = flat_map (claimed_insertions x) (claimed_orders xs)
 
 -- the orders of the neighbours that a symmetry lists, as in Golly's program
-unfoldable pub images : List ℕ → List ℕ → List (List ℕ)
-images word v =
+unfoldable pub claimed_images : List ℕ → List ℕ → List (List ℕ)
+claimed_images word v =
     let quarter = length v / 4 in
-    if bytes_eq word (codes "rotate4") then turns turn v 4 quarter
-    else if bytes_eq word (codes "rotate4reflect") then turns turn v 4 quarter ++ turns reflected v 4 quarter
-    else if bytes_eq word (codes "reflect_horizontal") then turn v 0 ∷ reflected v 0 ∷ []
-    else if bytes_eq word (codes "permute") then orders v
-    else if bytes_eq word (codes "rotate8") then turns turn v 8 1
-    else if bytes_eq word (codes "rotate8reflect") then turns turn v 8 1 ++ turns reflected v 8 1
+    if bytes_eq word (codes "rotate4") then claimed_turns claimed_turn v 4 quarter
+    else if bytes_eq word (codes "rotate4reflect") then claimed_turns claimed_turn v 4 quarter ++ claimed_turns claimed_reflection v 4 quarter
+    else if bytes_eq word (codes "reflect_horizontal") then claimed_turn v 0 ∷ claimed_reflection v 0 ∷ []
+    else if bytes_eq word (codes "permute") then claimed_orders v
+    else if bytes_eq word (codes "rotate8") then claimed_turns claimed_turn v 8 1
+    else if bytes_eq word (codes "rotate8reflect") then claimed_turns claimed_turn v 8 1 ++ claimed_turns claimed_reflection v 8 1
     else v ∷ []
 
 -- the state that a variable takes: that of its first place, and 0 where it has none
-abbrev pub taken : List Entry → List ℕ → ℕ → ℕ
-taken [] states n = 0
-taken (entry ∷ entries) [] n = 0
-taken (fixed s ∷ entries) (state ∷ states) n = taken entries states n
-taken (variable m ∷ entries) (state ∷ states) n = if m == n then state else taken entries states n
+abbrev pub state_of_variable : List Entry → List ℕ → ℕ → ℕ
+state_of_variable [] states n = 0
+state_of_variable (entry ∷ entries) [] n = 0
+state_of_variable (fixed s ∷ entries) (state ∷ states) n = state_of_variable entries states n
+state_of_variable (variable m ∷ entries) (state ∷ states) n = if m == n then state else state_of_variable entries states n
 
 -- an entry allows its own state, and that of a variable one of the variable's states, which is the same at all its places
 abbrev pub allows : List Variable → (ℕ → ℕ) → Entry × ℕ → Bool
 allows variables value (fixed s, state) = s == state
-allows variables value (variable n, state) = value n == state && list_any (λ s. s == state) (states_of variables (variable n))
+allows variables value (variable n, state) = value n == state && list_any (λ s. s == state) (claimed_states_of variables (variable n))
 
 -- the state that a line gives a cell for one order of its neighbours, if it fits them
-abbrev pub given : List Variable → Transition → List ℕ → Option ℕ
-given variables line states =
-    let value = taken line.inputs states in
+abbrev pub claimed_state_given : List Variable → Transition → List ℕ → Option ℕ
+claimed_state_given variables line states =
+    let value = state_of_variable line.inputs states in
     if list_all (allows variables value) (zip line.inputs states)
     then Some (elim line.output [ fixed s ↦ s | variable n ↦ value n ]) else None
 
 -- all states that a line gives a cell with these neighbours
-abbrev pub gives : Table → ℕ → List ℕ → Transition → List ℕ
-gives table centre around line =
-    filter_map (λ image. given table.variables line (centre ∷ image)) (images (unwrap_or table.symmetry []) around)
+abbrev pub claimed_states_given : Table → ℕ → List ℕ → Transition → List ℕ
+claimed_states_given table centre around line =
+    filter_map (λ image. claimed_state_given table.variables line (centre ∷ image)) (claimed_images (unwrap_or table.symmetry []) around)
 
 -- a state, or the number of the line that gives two (where Golly takes one of them)
-pub data Answer : Type 0 where
-  becomes : (state : ℕ) → Answer
-  ambiguous : (line : ℕ) → Answer
+pub data ClaimedAnswer : Type 0 where
+  becomes : (state : ℕ) → ClaimedAnswer
+  ambiguous : (line : ℕ) → ClaimedAnswer
 
 -- what the first of these lines that gives anything decides; the cell keeps its state where none does
-abbrev pub decided : Table → ℕ → List ℕ → List Transition → Answer
-decided table centre around [] = becomes centre
-decided table centre around (line ∷ lines) = elim (gives table centre around line) [
-  | [] ↦ decided table centre around lines
+abbrev pub claimed_decision : Table → ℕ → List ℕ → List Transition → ClaimedAnswer
+claimed_decision table centre around [] = becomes centre
+claimed_decision table centre around (line ∷ lines) = elim (claimed_states_given table centre around line) [
+  | [] ↦ claimed_decision table centre around lines
   | state ∷ states ↦ if list_all (λ s. s == state) states then becomes state else ambiguous line.line
 ]

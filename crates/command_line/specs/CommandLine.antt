@@ -74,15 +74,15 @@ abbrev pub keys_line : App
 keys_line = with_rule (files_line (codes "keys")) (flag (codes "json"))
 
 -- the program without its commands, of which it wants one; it has a version
-abbrev pub named : App
-named =
+abbrev pub named_program : App
+named_program =
     let bare = new_app (codes "golly_canon") in
     record bare { top = record bare.top { subcommand_required = true; has_version = true } }
 
 -- the program
 abbrev pub program : App
 program =
-    with_subcommand (with_subcommand (with_subcommand (with_subcommand (with_subcommand (with_subcommand (with_subcommand named
+    with_subcommand (with_subcommand (with_subcommand (with_subcommand (with_subcommand (with_subcommand (with_subcommand named_program
     canon_line.top)
     convert_line.top)
     same_line.top)

@@ -10,5 +10,5 @@ IsOriginOf word Standard = word ≡ codes "-"
 IsOriginOf word (File name) = (name.now ≡ word) × (word ≢ codes "-")
 
 -- a call of an opener, from one of its states to the next, gave this for what the word names
-abbrev pub Gives : {F X : Type 0} → (F → Origin → Result X IoError → F → Type 0) → List ℕ → F → Result X IoError → F → Type 0
-Gives step word before given after = (origin : Origin) × IsOriginOf word origin × step before origin given after
+abbrev pub OpenerGives : {F X : Type 0} → (F → Origin → Result X IoError → F → Type 0) → List ℕ → F → Result X IoError → F → Type 0
+OpenerGives step word before given after = (origin : Origin) × IsOriginOf word origin × step before origin given after

@@ -70,8 +70,8 @@ HasSecond StepTable = Unit {0}
 HasSecond _ = ⊥
 
 -- the only file is FILE
-abbrev pub HoldsFile : List Row → TaskPlan → Type 0
-HoldsFile rows p = (first_of (codes "FILE") rows ≡ Some (string_bytes p.first)) × (p.second ≡ None)
+abbrev pub HasOneFile : List Row → TaskPlan → Type 0
+HasOneFile rows p = (first_of (codes "FILE") rows ≡ Some (string_bytes p.first)) × (p.second ≡ None)
 
 -- the files are those under these two names
 abbrev pub HoldsFiles : Text → Text → List Row → TaskPlan → Type 0
@@ -85,11 +85,11 @@ HoldsForm default rows form =
 
 -- the plan's files and options are those that were found for the task's command
 abbrev pub HoldsMatches : Task → List Row → TaskPlan → Type 0
-HoldsMatches (Canon form) rows p = HoldsFile rows p × HoldsForm Placed rows form
-HoldsMatches (Convert target) rows p = HoldsFile rows p × (first_of (codes "to") rows ≡ Some (target_word target))
+HoldsMatches (Canon form) rows p = HasOneFile rows p × HoldsForm Placed rows form
+HoldsMatches (Convert target) rows p = HasOneFile rows p × (first_of (codes "to") rows ≡ Some (target_word target))
 HoldsMatches (Same form) rows p = HoldsFiles (codes "A") (codes "B") rows p × HoldsForm Placed rows form
-HoldsMatches Show rows p = HoldsFile rows p
-HoldsMatches Step rows p = HoldsFile rows p × (first_of (codes "table") rows ≡ None)
+HoldsMatches Show rows p = HasOneFile rows p
+HoldsMatches Step rows p = HasOneFile rows p × (first_of (codes "table") rows ≡ None)
 HoldsMatches StepTable rows p = HoldsFiles (codes "FILE") (codes "table") rows p
 
 -- all values that were found under this name
@@ -152,19 +152,19 @@ IfWork Holds (Keys p) = Unit {0}
 IfWork Holds (Duplicates p) = Unit {0}
 
 -- something was found under this name
-abbrev pub IsFound : Text → List Row → Type 0
-IsFound id rows = IsSome (first_of id rows)
+abbrev pub IsFoundAmong : Text → List Row → Type 0
+IsFoundAmong id rows = IsSome (first_of id rows)
 
 -- the files and options were found without which the task can't be done
-abbrev pub HasWanted : Task → List Row → Type 0
-HasWanted (Convert target) rows = IsFound (codes "FILE") rows × IsFound (codes "to") rows
-HasWanted (Same form) rows = IsFound (codes "A") rows × IsFound (codes "B") rows
-HasWanted _ rows = IsFound (codes "FILE") rows
+abbrev pub HasRequired : Task → List Row → Type 0
+HasRequired (Convert target) rows = IsFoundAmong (codes "FILE") rows × IsFoundAmong (codes "to") rows
+HasRequired (Same form) rows = IsFoundAmong (codes "A") rows × IsFoundAmong (codes "B") rows
+HasRequired _ rows = IsFoundAmong (codes "FILE") rows
 
 -- the matches are those of a task's command, with what the task wants
 abbrev pub AreOfTask : Option (Text × List Row) → Type 0
 AreOfTask None = ⊥
-AreOfTask (Some matches) = (task : Task) × (matches.0 ≡ command_of task) × HasWanted task matches.1
+AreOfTask (Some matches) = (task : Task) × (matches.0 ≡ command_of task) × HasRequired task matches.1
 
 -- the same, or those of a command over any number of files, in which `clap` wants nothing
 abbrev pub AreWhole : Option (Text × List Row) → Type 0

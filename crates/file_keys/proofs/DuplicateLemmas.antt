@@ -9,7 +9,7 @@ use Rattle.life_base.specs.Text.{is_empty}
 use Rattle.life_base.specs.Writing.{WritesPrefix}
 use Rattle.life_base.proofs.WritingLemmas.{prefix-after, prefix-grows}
 use Rattle.file_keys.specs.Duplicates.{Class, classes_in, classes_of, kept_groups, kept_names, next_names}
-use Rattle.file_keys.specs.Groups.{distinct, ended_name, files_with, group_names, groups_of, has_several, IsGroupStatus, keys_in, name_bytes, names_text, printed_names, status_by}
+use Rattle.file_keys.specs.Groups.{distinct_keys, ended_name, files_with, group_names, groups_of, has_several, IsGroupStatus, keys_in, name_bytes, names_text, printed_names, status_by}
 use Rattle.file_keys.specs.KeyRuns.{Taken}
 use Rattle.file_keys.specs.Keys.{IsStatus}
 use Rattle.file_keys.specs.declared.duplicates.groups.Group.{Group}
@@ -58,7 +58,7 @@ names_of_groups F (key ∷ keys) =
 pub kept_is : (groups : Groups) (taken : List Taken) → classes_in groups ≡ classes_of taken → kept_groups groups ≡ group_names taken
 kept_is groups taken is =
     ap (filter has_several) (names_of_entries groups.by_key.entries ∙ ap (map (λ (class : Class). class.1)) is)
-    ∙ sym (names_of_groups (λ (key : List ℕ). files_with key taken) (distinct (keys_in taken)))
+    ∙ sym (names_of_groups (λ (key : List ℕ). files_with key taken) (distinct_keys (keys_in taken)))
 
 pub none_is : (taken : List Taken) → is_empty (group_names taken) ≡ is_empty (groups_of taken)
 none_is taken = by (groups_of taken)

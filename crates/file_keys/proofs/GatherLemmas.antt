@@ -10,11 +10,11 @@ use Rattle.life_base.specs.Text.{is_empty}
 use Rattle.life_base.specs.Writing.{WritesPrefix}
 use Rattle.life_base.specs.declared.kind.Kind.{Kind}
 use Rattle.life_base.specs.declared.kind.Kind.TheVariants as kinds
-use Rattle.file_keys.specs.Duplicates.{broken_off, classes_in, classes_of, Gathers, kept_groups, Puts, RanDuplicates, through, with_outcome}
-use Rattle.pattern_sources.specs.Faults.{fault_line, refusal_of, status_of, Tells}
+use Rattle.file_keys.specs.Duplicates.{broken_off, classes_in, classes_of, Gathers, kept_groups, PutsFile, RanDuplicates, through, with_outcome}
+use Rattle.pattern_sources.specs.Faults.{fault_line, refusal_of, status_of, Reports}
 use Rattle.file_keys.specs.Groups.{group_names, groups_text, IsGroupStatus, status_by}
-use Rattle.file_keys.specs.KeyRuns.{bytes_of, error_line, errors_of, greatest_status, IsToldAs, list_word, Listed, Name, names_among, names_in, names_of, outcome_status, ReadsList, Taken, Takes, TakesAll, TellsOn, Took, Word, words_of}
-use Rattle.file_keys.specs.Keys.{end_of, IsStatus}
+use Rattle.file_keys.specs.KeyRuns.{bytes_of_name, error_line, errors_of, greatest_status, IsToldAs, list_word, Listed, Name, names_among, names_in, names_of, outcome_status, ReadsList, Taken, Takes, TakesAll, TellsOn, Took, Word, words_of_plan}
+use Rattle.file_keys.specs.Keys.{end_byte_of_name, IsStatus}
 use Rattle.file_keys.specs.declared.duplicates.gathered.Gathered.{Gathered}
 use Rattle.file_keys.specs.declared.keys.outcome.Outcome.{Outcome}
 use Rattle.file_keys.specs.declared.keys.outcome.Outcome.TheVariants.{Key, Refused, Unopened}
@@ -27,7 +27,7 @@ use Rattle.file_keys.proofs.KeyRunLemmas.{broken_tells, from_none, greatest_is, 
 
 -- the classes of files with one more, whatever came of it
 classes_with : (taken : List Taken) (name : Name) (outcome : Outcome)
-    → classes_of (taken ++ record { name = name; outcome = outcome } ∷ []) ≡ with_outcome (classes_of taken) outcome (bytes_of name)
+    → classes_of (taken ++ record { name = name; outcome = outcome } ∷ []) ≡ with_outcome (classes_of taken) outcome (bytes_of_name name)
 classes_with taken name (Key key) = classes_more taken (record { name = name; outcome = Key key }) key refl
 classes_with taken name (Refused fault) = classes_other taken (record { name = name; outcome = Refused fault }) refl (λ key. refl)
 classes_with taken name (Unopened kind) = classes_other taken (record { name = name; outcome = Unopened kind }) refl (λ key. refl)
@@ -57,7 +57,7 @@ module _ {F R E : Type 0} (step : F → Origin → Result R IoError → F → Ty
         ∙ ap (λ l. l ++ last) (sym (map-append (λ (t : Taken). t.name) p.taken q.taken));
     takes = takes_then (Takes step remaining reads_failed form) f p.taken g q.taken h p.takes q.takes;
     told = subst (TellsOn contents failures stalled a.tells c.tells x z)
-        (sym (flat_map-append (λ (t : Taken). error_line (bytes_of t.name) t.outcome) p.taken q.taken))
+        (sym (flat_map-append (λ (t : Taken). error_line (bytes_of_name t.name) t.outcome) p.taken q.taken))
         (tells_then contents failures stalled a.tells b.tells c.tells x y z (errors_of p.taken) (errors_of q.taken) p.told q.told);
     status = three a.status b.status c.status (greatest_status p.taken) (greatest_status q.taken) q.status p.status
         ∙ ap (max a.status) (sym (greatest_then p.taken q.taken));
@@ -67,15 +67,15 @@ module _ {F R E : Type 0} (step : F → Origin → Result R IoError → F → Ty
   -- one file
   gathers_one : (form : Form) (name : Name) (told : Outcome) (rest : List Name) (f g : F) (x y : E) (a b : Gathered)
       → Takes step remaining reads_failed form f (record { name = name; outcome = told }) g
-      → Puts contents failures stalled x y a b (bytes_of name) told
+      → PutsFile contents failures stalled x y a b (bytes_of_name name) told
       → Gathers step remaining reads_failed contents failures stalled form (name ∷ rest) rest f g x y a b
   gathers_one form name told rest f g x y a b takes puts = record {
     taken = record { name = name; outcome = told } ∷ [];
     split = refl;
     takes = (g, takes, refl);
-    told = subst (TellsOn contents failures stalled a.tells b.tells x y) (one_line (error_line (bytes_of name) told)) puts.told;
+    told = subst (TellsOn contents failures stalled a.tells b.tells x y) (one_line (error_line (bytes_of_name name) told)) puts.told;
     status = at b.status a.status (outcome_status told) puts.status;
-    kept = λ before is. puts.kept ∙ ap (λ classes. with_outcome classes told (bytes_of name)) is ∙ sym (classes_with before name told);
+    kept = λ before is. puts.kept ∙ ap (λ classes. with_outcome classes told (bytes_of_name name)) is ∙ sym (classes_with before name told);
   }
     where
       at : (m n s : ℕ) → m ≡ max n s → m ≡ max n (max s 0)
@@ -83,17 +83,17 @@ module _ {F R E : Type 0} (step : F → Origin → Result R IoError → F → Ty
 
   -- files, and then the next one
   pub gathers_next : (form form' : Form) (names rest rest' : List Name) (name : Name) (bytes : List ℕ) (outcome : Outcome) (f g h : F)
-      (x y z : E) (a b c : Gathered) → form' ≡ form → rest ≡ name ∷ rest' → bytes ≡ bytes_of name
+      (x y z : E) (a b c : Gathered) → form' ≡ form → rest ≡ name ∷ rest' → bytes ≡ bytes_of_name name
       → Gathers step remaining reads_failed contents failures stalled form names rest f g x y a b
       → Takes step remaining reads_failed form' g (record { name = name; outcome = outcome }) h
-      → (told : Outcome) × IsToldAs outcome told × Puts contents failures stalled y z b c bytes told
+      → (told : Outcome) × IsToldAs outcome told × PutsFile contents failures stalled y z b c bytes told
       → Gathers step remaining reads_failed contents failures stalled form names rest' f h x z a c
   gathers_next form form' names rest rest' name bytes outcome f g h x y z a b c is_form split is before takes (told, how, puts) =
       let these = told_takes step remaining reads_failed form g h name outcome told how
       (subst (λ k. Takes step remaining reads_failed k g (record { name = name; outcome = outcome }) h) is_form takes) in
       gathers_more form names rest rest' f g h x y z a b c before
       (subst (λ l. Gathers step remaining reads_failed contents failures stalled form l rest' g h y z b c) (sym split)
-      (gathers_one form name told rest' g h y z b c these (subst (λ l. Puts contents failures stalled y z b c l told) is puts)))
+      (gathers_one form name told rest' g h y z b c these (subst (λ l. PutsFile contents failures stalled y z b c l told) is puts)))
 
   -- all files
   pub gathers_all : (form : Form) (names rest : List Name) (f g : F) (x y : E) (a b : Gathered) → rest ≡ []
@@ -106,10 +106,10 @@ module _ {F R E : Type 0} (step : F → Origin → Result R IoError → F → Ty
   pub gathers_both : (form form' : Form) (zero_ended : Bool) (words : List (List ℕ)) (list : List ℕ) (f g h : F) (x y z : E) (a b c : Gathered)
       → form' ≡ form
       → Gathers step remaining reads_failed contents failures stalled form (map Word words) [] f g x y a b
-      → Gathers step remaining reads_failed contents failures stalled form' (map Listed (names_in (end_of zero_ended) list)) [] g h y z b c
+      → Gathers step remaining reads_failed contents failures stalled form' (map Listed (names_in (end_byte_of_name zero_ended) list)) [] g h y z b c
       → Gathers step remaining reads_failed contents failures stalled form (names_among zero_ended words list) [] f h x z a c
   gathers_both form form' zero_ended words list f g h x y z a b c is_form p q =
-      let more = map Listed (names_in (end_of zero_ended) list) in
+      let more = map Listed (names_in (end_byte_of_name zero_ended) list) in
       gathers_more form (names_among zero_ended words list) more [] f g h x y z a b c (record {
         taken = p.taken;
         split = ap (λ l. l ++ more) (p.split ∙ append-nil (names_of p.taken));
@@ -125,7 +125,7 @@ module _ {F R W E : Type 0} (step : F → Origin → Result R IoError → F → 
     (contents : E → Option (List ℕ)) (failures : E → ℕ) (stalled : E → Bool)
     (plan : KeysPlan) (opener ready last : F) (list : List ℕ) (form : Form) (names : List Name) (u v : W) (x y : E) (a b : Gathered)
     (read : ReadsList step remaining reads_failed (list_word plan) opener list ready) (is_form : form ≡ plan.form)
-    (same : names ≡ names_among plan.zero (words_of plan) list) (hears : a.tells ≡ true) (fresh : a.status ≡ 0) (new : classes_in a.groups ≡ [])
+    (same : names ≡ names_among plan.zero (words_of_plan plan) list) (hears : a.tells ≡ true) (fresh : a.status ≡ 0) (new : classes_in a.groups ≡ [])
     (p : Gathers step remaining reads_failed contents failures stalled form names [] ready last x y a b) where
   -- the files that a run took
   took_of : Took step remaining reads_failed plan opener p.taken []
@@ -166,12 +166,12 @@ module _ {F R W E : Type 0} (step : F → Origin → Result R IoError → F → 
   pub gathered_broken : (z : E) (flushed : Bool) (kind : Kind) (status : ℕ)
       → WritesPrefix (held u) (held v) (groups_text plan.zero (kept_groups b.groups)) → kind ≡ kinds.WriteFault
       → (w-failures v ≡ 1) ⊎ (w-stalled v ≡ true)
-      → (b.tells ≡ true → Tells (sink_run contents failures stalled y z) (fault_line (refusal_of (fault_of kind)))) → (b.tells ≡ false → z ≡ y)
+      → (b.tells ≡ true → Reports (sink_run contents failures stalled y z) (fault_line (refusal_of (fault_of kind)))) → (b.tells ≡ false → z ≡ y)
       → status ≡ status_of kind
       → RanDuplicates step remaining reads_failed plan opener (sink_run held w-failures w-stalled u v) (sink_run contents failures stalled x z) flushed
       status
   gathered_broken z flushed kind status written is cause told silent is_status = broken_off p.taken took_of
       (subst (λ groups. WritesPrefix (held u) (held v) (groups_text plan.zero groups)) groups_are written) cause
-      (subst (λ k. Tells (sink_run contents failures stalled x z) (errors_of p.taken ++ fault_line (refusal_of (fault_of k)))) is
+      (subst (λ k. Reports (sink_run contents failures stalled x z) (errors_of p.taken ++ fault_line (refusal_of (fault_of k)))) is
       (broken_tells contents failures stalled b.tells x y z (errors_of p.taken) _ heard told silent))
       (is_status ∙ ap status_of is)

@@ -3,7 +3,7 @@ use Rattle.std.proofs.Common.{◌≡◌, ◌⊎◌, ◌<◌, ℕ, zero, suc, Lis
 use Rattle.std.specs.List.{list_any}
 use Rattle.std.specs.Str.{bytes_eq}
 use Rattle.std.proofs.lemmas.Option.{slice_get_within, get_or_from_slice_get}
-use Rattle.file_keys.specs.Groups.{AreInOneGroup, distinct, files_with, groups_of, GroupsAreByKey, has_key, has_several, HaveOneKey, is_key, key_list, keys_in}
+use Rattle.file_keys.specs.Groups.{AreInOneGroup, distinct_keys, files_with, groups_of, GroupsAreByKey, has_key, has_several, HaveOneKey, is_key, key_list, keys_in}
 use Rattle.file_keys.specs.KeyRuns.{Taken}
 use Rattle.file_keys.specs.declared.keys.outcome.Outcome.{Outcome}
 use Rattle.file_keys.specs.declared.keys.outcome.Outcome.TheVariants.{Key, Refused, Unopened}
@@ -141,8 +141,8 @@ key_among key (s ∷ taken) t (inr c) is = by s.outcome (key_among key taken t c
 group_is : (taken group : List Taken) → In (groups_of taken) group
     → (key : List ℕ) × (files_with key taken ≡ group) × (has_several group ≡ true)
 group_is taken group c =
-    let kept = in_filter has_several (map (λ (key : List ℕ). files_with key taken) (distinct (keys_in taken))) group c in
-    let made = in_map (λ (key : List ℕ). files_with key taken) (distinct (keys_in taken)) group kept.0 in
+    let kept = in_filter has_several (map (λ (key : List ℕ). files_with key taken) (distinct_keys (keys_in taken))) group c in
+    let made = in_map (λ (key : List ℕ). files_with key taken) (distinct_keys (keys_in taken)) group kept.0 in
     (made.0, made.2, kept.1)
 
 -- a file of a group has its key
@@ -201,11 +201,11 @@ together taken i j s t before at_i at_j (key, first, second) =
     two_pass (has_key key) taken i j s t before in_j
     (subst (λ (u : Taken). has_key key u ≡ true) (sym is_s) (of_key key s.outcome first))
     (subst (λ (u : Taken). has_key key u ≡ true) (sym is_t) (of_key key t.outcome second)) in
-    let there = any_in key (distinct (keys_in taken)) (among_distinct key (keys_in taken) ∙ key_among key taken s has_s first) in (
+    let there = any_in key (distinct_keys (keys_in taken)) (among_distinct key (keys_in taken) ∙ key_among key taken s has_s first) in (
       files_with key taken,
       in_to (groups_of taken) (files_with key taken)
-          (filter_in has_several (map (λ (k : List ℕ). files_with k taken) (distinct (keys_in taken))) (files_with key taken)
-          (map_in (λ (k : List ℕ). files_with k taken) (distinct (keys_in taken)) key there) (lt-ltb 1 (length (files_with key taken)) several)),
+          (filter_in has_several (map (λ (k : List ℕ). files_with k taken) (distinct_keys (keys_in taken))) (files_with key taken)
+          (map_in (λ (k : List ℕ). files_with k taken) (distinct_keys (keys_in taken)) key there) (lt-ltb 1 (length (files_with key taken)) several)),
       in_to (files_with key taken) s (filter_in (has_key key) taken s has_s (of_key key s.outcome first)),
       in_to (files_with key taken) t (filter_in (has_key key) taken t has_t (of_key key t.outcome second)),
     )
@@ -225,7 +225,7 @@ groups_are_by_key taken = record {
   several = λ group there. ltb-true 1 (length group) (group_is taken group (in_from (groups_of taken) group there)).2;
   whole = λ group there. let is = group_is taken group (in_from (groups_of taken) group there) in (is.0, sym is.1);
   apart = λ a b group other t at_a at_b first second.
-      place_once (λ (key : List ℕ). files_with key taken) (same_key taken) (distinct (keys_in taken)) (distinct_apart (keys_in taken)) a b t
+      place_once (λ (key : List ℕ). files_with key taken) (same_key taken) (distinct_keys (keys_in taken)) (distinct_apart (keys_in taken)) a b t
       (slice_get_within (groups_of taken) a group at_a) (slice_get_within (groups_of taken) b other at_b)
       (subst (λ (l : List Taken). In l t) (sym (get_or_from_slice_get (groups_of taken) a group [] at_a)) (in_from group t first))
       (subst (λ (l : List Taken). In l t) (sym (get_or_from_slice_get (groups_of taken) b other [] at_b)) (in_from other t second));

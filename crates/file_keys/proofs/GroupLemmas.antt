@@ -10,7 +10,7 @@ use Rattle.std.proofs.lemmas.Slice.Eq.{bytes_eq-Decides}
 use Rattle.std.proofs.lemmas.Bool.{or_parts}
 use Rattle.indexmap.specs.IndexMap.{insert_entry}
 use Rattle.file_keys.specs.Duplicates.{Class, classes_of, kept_names, with_name}
-use Rattle.file_keys.specs.Groups.{distinct, files_with, has_key, is_key, key_list, keys_in, name_bytes}
+use Rattle.file_keys.specs.Groups.{distinct_keys, files_with, has_key, is_key, key_list, keys_in, name_bytes}
 use Rattle.file_keys.specs.KeyRuns.{Taken}
 use Rattle.file_keys.specs.declared.duplicates.groups.Group.{Group}
 use Rattle.file_keys.specs.declared.keys.outcome.Outcome.{Outcome}
@@ -124,10 +124,10 @@ apart_kept keep (key ∷ keys) apart = by (keep key) (apart_kept keep keys apart
     by true rest = (none_of_some (bytes_eq key) keep keys apart.0, rest)
     by false rest = rest
 
-pub distinct_apart : (keys : List (List ℕ)) → AreApart (distinct keys)
+pub distinct_apart : (keys : List (List ℕ)) → AreApart (distinct_keys keys)
 distinct_apart [] = tt
 distinct_apart (key ∷ keys) =
-    (none_other key (distinct keys), apart_kept (λ (other : List ℕ). not (bytes_eq key other)) (distinct keys) (distinct_apart keys))
+    (none_other key (distinct_keys keys), apart_kept (λ (other : List ℕ). not (bytes_eq key other)) (distinct_keys keys) (distinct_apart keys))
 
 -- a key is among others if it is another one
 among_others : (key own : List ℕ) (keys : List (List ℕ)) → bytes_eq own key ≡ false → list_any (bytes_eq own) (others key keys) ≡ list_any (bytes_eq own) keys
@@ -142,34 +142,34 @@ among_others key own (next ∷ keys) differ = by (bytes_eq key next) refl (among
     by false is rest = ap (λ c. bytes_eq own next || c) rest
 
 -- the keys of which each is there once are the same keys
-pub among_distinct : (own : List ℕ) (keys : List (List ℕ)) → list_any (bytes_eq own) (distinct keys) ≡ list_any (bytes_eq own) keys
+pub among_distinct : (own : List ℕ) (keys : List (List ℕ)) → list_any (bytes_eq own) (distinct_keys keys) ≡ list_any (bytes_eq own) keys
 among_distinct own [] = refl
 among_distinct own (key ∷ keys) = by (bytes_eq own key) refl (among_distinct own keys)
   where
-    by : (b : Bool) → bytes_eq own key ≡ b → list_any (bytes_eq own) (distinct keys) ≡ list_any (bytes_eq own) keys
-        → (b || list_any (bytes_eq own) (others key (distinct keys))) ≡ (b || list_any (bytes_eq own) keys)
+    by : (b : Bool) → bytes_eq own key ≡ b → list_any (bytes_eq own) (distinct_keys keys) ≡ list_any (bytes_eq own) keys
+        → (b || list_any (bytes_eq own) (others key (distinct_keys keys))) ≡ (b || list_any (bytes_eq own) keys)
     by true is rest = refl
-    by false is rest = among_others key own (distinct keys) is ∙ rest
+    by false is rest = among_others key own (distinct_keys keys) is ∙ rest
 
 -- one key more
 pub distinct_more : (keys : List (List ℕ)) (own : List ℕ)
-    → distinct (keys ++ own ∷ []) ≡ cond (list_any (bytes_eq own) keys) (distinct keys) (distinct keys ++ own ∷ [])
+    → distinct_keys (keys ++ own ∷ []) ≡ cond (list_any (bytes_eq own) keys) (distinct_keys keys) (distinct_keys keys ++ own ∷ [])
 distinct_more [] own = refl
 distinct_more (key ∷ keys) own =
     ap (λ (l : List (List ℕ)). key ∷ others key l) (distinct_more keys own) ∙ by (bytes_eq own key) (list_any (bytes_eq own) keys) refl
   where
     by : (c b : Bool) → bytes_eq own key ≡ c
-        → key ∷ others key (cond b (distinct keys) (distinct keys ++ own ∷ []))
-        ≡ cond (c || b) (key ∷ others key (distinct keys)) (key ∷ others key (distinct keys) ++ own ∷ [])
+        → key ∷ others key (cond b (distinct_keys keys) (distinct_keys keys ++ own ∷ []))
+        ≡ cond (c || b) (key ∷ others key (distinct_keys keys)) (key ∷ others key (distinct_keys keys) ++ own ∷ [])
     by true true is = refl
     by false true is = refl
     by true false is =
-        ap (λ (l : List (List ℕ)). key ∷ l) (filter-append (λ (other : List ℕ). not (bytes_eq key other)) (distinct keys) (own ∷ [])
-        ∙ ap (λ c. others key (distinct keys) ++ cond (not c) (own ∷ []) []) (either_way own key true is)
-        ∙ append-nil (others key (distinct keys)))
+        ap (λ (l : List (List ℕ)). key ∷ l) (filter-append (λ (other : List ℕ). not (bytes_eq key other)) (distinct_keys keys) (own ∷ [])
+        ∙ ap (λ c. others key (distinct_keys keys) ++ cond (not c) (own ∷ []) []) (either_way own key true is)
+        ∙ append-nil (others key (distinct_keys keys)))
     by false false is =
-        ap (λ (l : List (List ℕ)). key ∷ l) (filter-append (λ (other : List ℕ). not (bytes_eq key other)) (distinct keys) (own ∷ [])
-        ∙ ap (λ c. others key (distinct keys) ++ cond (not c) (own ∷ []) []) (either_way own key false is))
+        ap (λ (l : List (List ℕ)). key ∷ l) (filter-append (λ (other : List ℕ). not (bytes_eq key other)) (distinct_keys keys) (own ∷ [])
+        ∙ ap (λ c. others key (distinct_keys keys) ++ cond (not c) (own ∷ []) []) (either_way own key false is))
 
 -- ---- classes of files
 
@@ -261,9 +261,9 @@ classes_same f g (key ∷ keys) same = ap₂ (λ (l : List (List ℕ)) (more : L
 pub classes_more : (taken : List Taken) (t : Taken) (own : List ℕ) → t.outcome ≡ Key own
     → classes_of (taken ++ t ∷ []) ≡ with_name (classes_of taken) own (name_bytes t)
 classes_more taken t own is =
-    ap (λ (keys : List (List ℕ)). classes_by (names_with (taken ++ t ∷ [])) (distinct keys))
+    ap (λ (keys : List (List ℕ)). classes_by (names_with (taken ++ t ∷ [])) (distinct_keys keys))
     (keys_more taken t ∙ ap (λ (o : Outcome). keys_in taken ++ key_list o) is)
-    ∙ classes_same (names_with (taken ++ t ∷ [])) more (distinct (keys_in taken ++ own ∷ [])) (names_more taken t own is)
+    ∙ classes_same (names_with (taken ++ t ∷ [])) more (distinct_keys (keys_in taken ++ own ∷ [])) (names_more taken t own is)
     ∙ ap (classes_by more) (distinct_more (keys_in taken) own)
     ∙ by (list_any (bytes_eq own) (keys_in taken)) refl
   where
@@ -271,23 +271,23 @@ classes_more taken t own is =
     more = more_names (names_with taken) own (name_bytes t)
 
     by : (b : Bool) → list_any (bytes_eq own) (keys_in taken) ≡ b
-        → classes_by more (cond b (distinct (keys_in taken)) (distinct (keys_in taken) ++ own ∷ [])) ≡ with_name (classes_of taken) own (name_bytes t)
-    by true there = sym (with_name_there (names_with taken) (distinct (keys_in taken)) own (name_bytes t) (distinct_apart (keys_in taken))
+        → classes_by more (cond b (distinct_keys (keys_in taken)) (distinct_keys (keys_in taken) ++ own ∷ [])) ≡ with_name (classes_of taken) own (name_bytes t)
+    by true there = sym (with_name_there (names_with taken) (distinct_keys (keys_in taken)) own (name_bytes t) (distinct_apart (keys_in taken))
         (among_distinct own (keys_in taken) ∙ there))
     by false none =
-        let other : list_any (bytes_eq own) (distinct (keys_in taken)) ≡ false = among_distinct own (keys_in taken) ∙ none in
-        map-append (λ (key : List ℕ). (key, more key)) (distinct (keys_in taken)) (own ∷ [])
+        let other : list_any (bytes_eq own) (distinct_keys (keys_in taken)) ≡ false = among_distinct own (keys_in taken) ∙ none in
+        map-append (λ (key : List ℕ). (key, more key)) (distinct_keys (keys_in taken)) (own ∷ [])
         ∙ ap₂ (λ (l : List Class) (names : List (List ℕ)). l ++ (own, names) ∷ [])
-        (sym (with_none (names_with taken) (distinct (keys_in taken)) own (name_bytes t) other))
+        (sym (with_none (names_with taken) (distinct_keys (keys_in taken)) own (name_bytes t) other))
         (ap₂ (λ (l : List (List ℕ)) b. l ++ cond b (name_bytes t ∷ []) []) (no_names taken own none) (itself own))
-        ∙ sym (with_name_new (names_with taken) (distinct (keys_in taken)) own (name_bytes t) other)
+        ∙ sym (with_name_new (names_with taken) (distinct_keys (keys_in taken)) own (name_bytes t) other)
 
 -- and with one that has none
 pub classes_other : (taken : List Taken) (t : Taken) → key_list t.outcome ≡ [] → ((key : List ℕ) → has_key key t ≡ false)
     → classes_of (taken ++ t ∷ []) ≡ classes_of taken
 classes_other taken t none lacks =
-    ap (λ (keys : List (List ℕ)). classes_by (names_with (taken ++ t ∷ [])) (distinct keys))
+    ap (λ (keys : List (List ℕ)). classes_by (names_with (taken ++ t ∷ [])) (distinct_keys keys))
     (keys_more taken t ∙ ap (λ (l : List (List ℕ)). keys_in taken ++ l) none ∙ append-nil (keys_in taken))
-    ∙ classes_same (names_with (taken ++ t ∷ [])) (names_with taken) (distinct (keys_in taken)) (λ key.
+    ∙ classes_same (names_with (taken ++ t ∷ [])) (names_with taken) (distinct_keys (keys_in taken)) (λ key.
     ap (map name_bytes) (filter-append (has_key key) taken (t ∷ []) ∙ ap (λ b. files_with key taken ++ cond b (t ∷ []) []) (lacks key)
     ∙ append-nil (files_with key taken)))

@@ -3,7 +3,7 @@ use Rattle.std.proofs.Common.{◌≡◌, List, [], ◌∷◌, ◌++◌, true, fa
 use Rattle.std.specs.declared.io.ErrorKind.TheVariants as io
 use Rattle.life_base.specs.Refusal.{fault_of}
 use Rattle.life_base.specs.declared.kind.Kind.TheVariants.{Full}
-use Rattle.file_keys.specs.Groups.{distinct, group_names, groups_text, keys_in, printed_status}
+use Rattle.file_keys.specs.Groups.{distinct_keys, group_names, groups_text, keys_in, printed_status}
 use Rattle.file_keys.specs.KeyRuns.{Listed, Taken, Word}
 use Rattle.file_keys.specs.declared.keys.outcome.Outcome.TheVariants.{Key, Refused, Unopened}
 
@@ -13,7 +13,7 @@ taken = record { name = Word (codes "a"); outcome = Key (1 ∷ 171 ∷ []) } ∷
     ∷ record { name = Word (codes "bad"); outcome = Refused (fault_of Full) } ∷ record { name = Word (codes "c"); outcome = Key (7 ∷ []) }
     ∷ record { name = Listed (codes "d\ne"); outcome = Key (16 ∷ []) } ∷ record { name = Listed (codes "a"); outcome = Key (1 ∷ 171 ∷ []) } ∷ []
 
-keys : distinct (keys_in taken) ≡ (1 ∷ 171 ∷ []) ∷ (16 ∷ []) ∷ (7 ∷ []) ∷ []
+keys : distinct_keys (keys_in taken) ≡ (1 ∷ 171 ∷ []) ∷ (16 ∷ []) ∷ (7 ∷ []) ∷ []
 keys = refl
 
 -- a name that is given twice is in its group twice, and a file that is alone is in none

@@ -13,7 +13,7 @@ use Rattle.life_canon.specs.Files.{is_file_kind, Refuses}
 use Rattle.life_canon.specs.Laws.{RefusalsHaveKinds}
 use Rattle.life_canon.specs.Running.{RunRefuses}
 use Rattle.life_canon.specs.Running as running
-use Rattle.life_canon.specs.Store.{IsWant}
+use Rattle.life_canon.specs.Store.{IsShortageOf}
 use Rattle.pattern_sources.specs.Faults.{status_of}
 use Rattle.pattern_sources.specs.Forms.{IsTextIn}
 use Rattle.pattern_sources.specs.Sources.{by_file, by_input, by_length, by_source, by_want, ComesOf, HasNoText, HasText, InputRefuses, IsTooSmallFor, RefusesInForm}
@@ -75,7 +75,7 @@ kind_status kind = inr (fault_status kind)
 other_kind : (fault : Fault) (kind : Kind) → fault ≡ fault_of kind → (kind ≡ kinds.ReadFault → ⊥) → fault.kind ≡ kinds.ReadFault → ⊥
 other_kind fault kind is other read = other (sym (ap (λ (f : Fault). f.kind) is) ∙ read)
 
-want_kind : (store : Nodes) (fault : Fault) → IsWant store fault → fault.kind ≡ kinds.ReadFault → ⊥
+want_kind : (store : Nodes) (fault : Fault) → IsShortageOf store fault → fault.kind ≡ kinds.ReadFault → ⊥
 want_kind store fault (inl memory) = other_kind fault kinds.Memory memory (λ same. cc)
 want_kind store fault (inr full) = other_kind fault kinds.Full full.0 (λ same. cc)
 

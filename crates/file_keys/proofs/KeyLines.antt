@@ -7,7 +7,7 @@ use Rattle.std.proofs.KnownBytes.{Appends-trans}
 use Rattle.life_base.specs.Text.{onto_first}
 use Rattle.life_base.specs.Writing.{WritesPrefix, WritesText}
 use Rattle.life_base.proofs.WritingLemmas.{prefix-after, prefix-grows}
-use Rattle.file_keys.specs.Keys.{escaped, escaped_byte, is_special, pieces_of}
+use Rattle.file_keys.specs.Keys.{escaped_name, escaped_byte, is_special, pieces_of}
 
 by_tests : (a b c : Bool) (x y z w : List ℕ) → (a || b || c) ≡ false → cond a x (cond b y (cond c z w)) ≡ w
 by_tests true b c x y z w none = absurd cc
@@ -20,7 +20,7 @@ plain_byte b none = by_tests (b == 92) (b == 10) (b == 13) _ _ _ _ none
 
 -- bytes none of which is special are written as they are
 pub plain_run : (name : List ℕ) (k : ℕ) → k ≤ length name → ((j : ℕ) → 0 ≤ j → j < k → ¬ (is_special (slice_index name j) ≡ true))
-    → escaped (take k name) ≡ take k name
+    → escaped_name (take k name) ≡ take k name
 plain_run name zero lt none = refl
 plain_run [] (suc k) lt none = absurd (omega arith)
 plain_run (b ∷ name) (suc k) lt none =
@@ -34,14 +34,14 @@ none_special (b ∷ name) none =
     let here : is_special b ≡ false = false_from_ne_true (is_special b) (none 0 (omega arith) (omega arith)) in
     rw here (none_special name (λ j low high. none (suc j) (omega arith) (omega (arith, high))))
 
-escaped_both : (xs ys : List ℕ) → escaped (xs ++ ys) ≡ escaped xs ++ escaped ys
+escaped_both : (xs ys : List ℕ) → escaped_name (xs ++ ys) ≡ escaped_name xs ++ escaped_name ys
 escaped_both [] ys = refl
-escaped_both (x ∷ xs) ys = ap (λ l. escaped_byte x ++ l) (escaped_both xs ys) ∙ sym (append_assoc (escaped_byte x) (escaped xs) (escaped ys))
+escaped_both (x ∷ xs) ys = ap (λ l. escaped_byte x ++ l) (escaped_both xs ys) ∙ sym (append_assoc (escaped_byte x) (escaped_name xs) (escaped_name ys))
 
 -- a name behind a front that is written as it is
-pub escaped_behind : (name : List ℕ) (k : ℕ) → escaped (take k name) ≡ take k name → escaped name ≡ take k name ++ escaped (drop k name)
+pub escaped_behind : (name : List ℕ) (k : ℕ) → escaped_name (take k name) ≡ take k name → escaped_name name ≡ take k name ++ escaped_name (drop k name)
 escaped_behind name k plain =
-    ap escaped (sym (take-append-drop k name)) ∙ escaped_both (take k name) (drop k name) ∙ ap (λ l. l ++ escaped (drop k name)) plain
+    ap escaped_name (sym (take-append-drop k name)) ∙ escaped_both (take k name) (drop k name) ∙ ap (λ l. l ++ escaped_name (drop k name)) plain
 
 -- the first piece of a list that has an end
 pub piece_at : (end : ℕ) (list : List ℕ) (k : ℕ) → k < length list → ((j : ℕ) → 0 ≤ j → j < k → ¬ ((slice_index list j == end) ≡ true))
@@ -77,15 +77,15 @@ then_text a b c xs ys (Err e) first second = prefix-after a b c xs ys first seco
 
 -- what was written of a name, before what is left of it
 abbrev pub Written : Option (List ℕ) → Option (List ℕ) → List ℕ → List ℕ → Type 0
-Written a b name rest = (front : List ℕ) × (escaped name ≡ front ++ escaped rest) × Appends a b front
+Written a b name rest = (front : List ℕ) × (escaped_name name ≡ front ++ escaped_name rest) × Appends a b front
 
-pub written_further : (a b c : Option (List ℕ)) (name rest piece behind : List ℕ) → Written a b name rest → escaped rest ≡ piece ++ escaped behind
+pub written_further : (a b c : Option (List ℕ)) (name rest piece behind : List ℕ) → Written a b name rest → escaped_name rest ≡ piece ++ escaped_name behind
     → Appends b c piece → Written a c name behind
 written_further a b c name rest piece behind (front, is, written) split more =
-    (front ++ piece, is ∙ ap (λ l. front ++ l) split ∙ sym (append_assoc front piece (escaped behind)), Appends-trans a b c front piece written more)
+    (front ++ piece, is ∙ ap (λ l. front ++ l) split ∙ sym (append_assoc front piece (escaped_name behind)), Appends-trans a b c front piece written more)
 
-pub written_broken : (a b c : Option (List ℕ)) (name rest piece behind : List ℕ) → Written a b name rest → escaped rest ≡ piece ++ escaped behind
-    → WritesPrefix b c piece → WritesPrefix a c (escaped name)
+pub written_broken : (a b c : Option (List ℕ)) (name rest piece behind : List ℕ) → Written a b name rest → escaped_name rest ≡ piece ++ escaped_name behind
+    → WritesPrefix b c piece → WritesPrefix a c (escaped_name name)
 written_broken a b c name rest piece behind (front, is, written) split broken =
-    let whole = is ∙ ap (λ l. front ++ l) split ∙ sym (append_assoc front piece (escaped behind)) in
-    subst (WritesPrefix a c) (sym whole) (prefix-grows a c (front ++ piece) (escaped behind) (prefix-after a b c front piece written broken))
+    let whole = is ∙ ap (λ l. front ++ l) split ∙ sym (append_assoc front piece (escaped_name behind)) in
+    subst (WritesPrefix a c) (sym whole) (prefix-grows a c (front ++ piece) (escaped_name behind) (prefix-after a b c front piece written broken))

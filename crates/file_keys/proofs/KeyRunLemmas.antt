@@ -17,15 +17,15 @@ use Rattle.life_base.specs.declared.cell.TheConstants.{MAX_LEVEL}
 use Rattle.life_base.specs.declared.fault.Fault.{Fault}
 use Rattle.life_base.specs.declared.kind.Kind.{Kind}
 use Rattle.life_base.proofs.WritingLemmas.{prefix-after, prefix-grows}
-use Rattle.pattern_sources.specs.Faults.{fault_line, refusal_of, status_of, Tells}
+use Rattle.pattern_sources.specs.Faults.{fault_line, refusal_of, status_of, Reports}
 use Rattle.life_canon.specs.Laws.{RefusalsHaveKinds}
 use Rattle.pattern_sources.specs.Sources.{by_length, by_source, by_want, HasNoText, HasText, InputRefuses, RefusesInForm}
-use Rattle.file_keys.specs.KeyRuns.{broken_off, bytes_of, by_call, by_name, by_reading, Comes, greatest_status, IsOutcomeOf, IsToldAs, LacksBytes, LacksList, list_word, Listed, Name, names_among, names_in, names_of, outcome_status, output_line, output_of, Ran, ReadsList, report_line, reports_of, style_of, Taken, Takes, TakesAll, TakesFiles, TellsOn, through, Took, Word, words_of, Writes}
-use Rattle.command_line.specs.Origins.{Gives}
+use Rattle.file_keys.specs.KeyRuns.{broken_off, bytes_of_name, by_call, by_name, by_reading, Comes, greatest_status, IsOutcomeOf, IsToldAs, LacksBytes, LacksList, list_word, Listed, Name, names_among, names_in, names_of, outcome_status, output_line, output_of, KeysRan, ReadsList, report_line, reports_of, style_of, Taken, Takes, TakesAll, TakesFiles, TellsOn, through, Took, Word, words_of_plan, WritesFiles}
+use Rattle.command_line.specs.Origins.{OpenerGives}
 use Rattle.command_line.specs.declared.origins.Origin.{Origin}
 use Rattle.command_line.specs.declared.plans.Form.{Form}
 use Rattle.command_line.specs.declared.plans.KeysPlan.{KeysPlan}
-use Rattle.file_keys.specs.Keys.{end_of, IsKeyIn, IsStatus, pieces_of}
+use Rattle.file_keys.specs.Keys.{end_byte_of_name, IsKeyIn, IsStatus, pieces_of}
 use Rattle.file_keys.specs.declared.keys.outcome.Outcome.{Outcome}
 use Rattle.file_keys.specs.declared.keys.outcome.Outcome.TheVariants.{Key, Refused, Unopened}
 use Rattle.file_keys.specs.declared.keys.outputs.Outputs.{Outputs}
@@ -75,20 +75,20 @@ hears_on contents failures stalled false false x y s p is = absurd cc
 
 -- all that a run tells
 pub tells_all : {E : Type 0} (contents : E → Option (List ℕ)) (failures : E → ℕ) (stalled : E → Bool) (b : Bool) (x y : E) (s : List ℕ)
-    → TellsOn contents failures stalled true b x y s → Tells (sink_run contents failures stalled x y) s
+    → TellsOn contents failures stalled true b x y s → Reports (sink_run contents failures stalled x y) s
 tells_all contents failures stalled true x y s p = inl p.0
 tells_all contents failures stalled false x y s p = inr p
 
 module _ {W E : Type 0} (held : W → Option (List ℕ)) (contents : E → Option (List ℕ)) (failures : E → ℕ) (stalled : E → Bool) where
   -- nothing was written yet
   pub writes_none : (out : W) (err : E) (outputs : Outputs) → (outputs.tells ≡ true → failures err ≡ 0)
-      → Writes held contents failures stalled out out err err outputs outputs (Ok tt) [] [] 0
+      → WritesFiles held contents failures stalled out out err err outputs outputs (Ok tt) [] [] 0
   writes_none out err outputs hears =
       record { written = Appends-nil (held out); told = tells_none contents failures stalled outputs.tells err hears; status = omega arith }
 
   pub writes_then : (u v w : W) (x y z : E) (a b c : Outputs) (result : Result (Unit {0}) Kind) (s s' t t' : List ℕ) (m n : ℕ)
-      → Writes held contents failures stalled u v x y a b (Ok tt) s t m → Writes held contents failures stalled v w y z b c result s' t' n
-      → Writes held contents failures stalled u w x z a c result (s ++ s') (t ++ t') (max m n)
+      → WritesFiles held contents failures stalled u v x y a b (Ok tt) s t m → WritesFiles held contents failures stalled v w y z b c result s' t' n
+      → WritesFiles held contents failures stalled u w x z a c result (s ++ s') (t ++ t') (max m n)
   writes_then u v w x y z a b c result s s' t t' m n p q = record {
     written = then_text _ _ _ s s' result p.written q.written;
     told = tells_then contents failures stalled a.tells b.tells c.tells x y z t t' p.told q.told;
@@ -97,15 +97,15 @@ module _ {W E : Type 0} (held : W → Option (List ℕ)) (contents : E → Optio
 
   -- what was written of files, and then of further ones
   pub files_then : (u v w : W) (x y z : E) (a b c : Outputs) (result : Result (Unit {0}) Kind) (style : Style) (xs ys : List Taken)
-      → Writes held contents failures stalled u v x y a b (Ok tt) (output_of style xs) (reports_of style xs) (greatest_status xs)
-      → Writes held contents failures stalled v w y z b c result (output_of style ys) (reports_of style ys) (greatest_status ys)
-      → Writes held contents failures stalled u w x z a c result (output_of style (xs ++ ys)) (reports_of style (xs ++ ys))
+      → WritesFiles held contents failures stalled u v x y a b (Ok tt) (output_of style xs) (reports_of style xs) (greatest_status xs)
+      → WritesFiles held contents failures stalled v w y z b c result (output_of style ys) (reports_of style ys) (greatest_status ys)
+      → WritesFiles held contents failures stalled u w x z a c result (output_of style (xs ++ ys)) (reports_of style (xs ++ ys))
       (greatest_status (xs ++ ys))
   files_then u v w x y z a b c result style xs ys p q =
       let all = writes_then u v w x y z a b c result _ _ _ _ _ _ p q in
       rw (
-        flat_map-append (λ (t : Taken). output_line style (bytes_of t.name) t.outcome) xs ys,
-        flat_map-append (λ (t : Taken). report_line style (bytes_of t.name) t.outcome) xs ys,
+        flat_map-append (λ (t : Taken). output_line style (bytes_of_name t.name) t.outcome) xs ys,
+        flat_map-append (λ (t : Taken). report_line style (bytes_of_name t.name) t.outcome) xs ys,
         greatest_then xs ys,
       ) all
 
@@ -139,23 +139,23 @@ module _ {F R W E : Type 0} (step : F → Origin → Result R IoError → F → 
         ∙ ap (λ l. l ++ last) (sym (map-append (λ (t : Taken). t.name) p.taken q.taken));
     takes = takes_then (Takes step remaining reads_failed form) f p.taken g q.taken h p.takes q.takes;
     writes = files_then held contents failures stalled u v w x y z a b c result a.style p.taken q.taken p.writes
-        (subst (λ s. Writes held contents failures stalled v w y z b c result (output_of s q.taken) (reports_of s q.taken)
+        (subst (λ s. WritesFiles held contents failures stalled v w y z b c result (output_of s q.taken) (reports_of s q.taken)
         (greatest_status q.taken)) same q.writes);
   }
 
   -- one file
   pub takes_one : (form : Form) (name : Name) (told : Outcome) (rest : List Name) (f g : F) (u v : W) (x y : E) (a b : Outputs)
       (result : Result (Unit {0}) Kind) → Takes step remaining reads_failed form f (record { name = name; outcome = told }) g
-      → Writes held contents failures stalled u v x y a b result (output_line a.style (bytes_of name) told)
-      (report_line a.style (bytes_of name) told) (outcome_status told)
+      → WritesFiles held contents failures stalled u v x y a b result (output_line a.style (bytes_of_name name) told)
+      (report_line a.style (bytes_of_name name) told) (outcome_status told)
       → TakesFiles step remaining reads_failed held contents failures stalled form (name ∷ rest) rest f g u v x y a b result
   takes_one form name told rest f g u v x y a b result takes writes = record {
     taken = record { name = name; outcome = told } ∷ [];
     split = refl;
     takes = (g, takes, refl);
     writes = record {
-      written = subst (λ l. WritesText (held u) (held v) l result) (one_line (output_line a.style (bytes_of name) told)) writes.written;
-      told = subst (TellsOn contents failures stalled a.tells b.tells x y) (one_line (report_line a.style (bytes_of name) told)) writes.told;
+      written = subst (λ l. WritesText (held u) (held v) l result) (one_line (output_line a.style (bytes_of_name name) told)) writes.written;
+      told = subst (TellsOn contents failures stalled a.tells b.tells x y) (one_line (report_line a.style (bytes_of_name name) told)) writes.told;
       status = at b.status a.status (outcome_status told) writes.status;
     };
   }
@@ -191,16 +191,16 @@ module _ {F R W E : Type 0} (step : F → Origin → Result R IoError → F → 
     (held : W → Option (List ℕ)) (contents : E → Option (List ℕ)) (failures : E → ℕ) (stalled : E → Bool) where
   -- files, and then the next one
   pub takes_next : (form form' : Form) (names rest rest' : List Name) (name : Name) (bytes : List ℕ) (outcome : Outcome) (f g h : F) (u v w : W)
-      (x y z : E) (a b c : Outputs) (result : Result (Unit {0}) Kind) → form' ≡ form → b.style ≡ a.style → rest ≡ name ∷ rest' → bytes ≡ bytes_of name
+      (x y z : E) (a b c : Outputs) (result : Result (Unit {0}) Kind) → form' ≡ form → b.style ≡ a.style → rest ≡ name ∷ rest' → bytes ≡ bytes_of_name name
       → TakesFiles step remaining reads_failed held contents failures stalled form names rest f g u v x y a b (Ok tt)
       → Takes step remaining reads_failed form' g (record { name = name; outcome = outcome }) h
-      → (told : Outcome) × IsToldAs outcome told × Writes held contents failures stalled v w y z b c result (output_line b.style bytes told)
+      → (told : Outcome) × IsToldAs outcome told × WritesFiles held contents failures stalled v w y z b c result (output_line b.style bytes told)
       (report_line b.style bytes told) (outcome_status told)
       → TakesFiles step remaining reads_failed held contents failures stalled form names rest' f h u w x z a c result
   takes_next form form' names rest rest' name bytes outcome f g h u v w x y z a b c result is_form is_style split is before takes (told, how, writes) =
       let these = told_takes step remaining reads_failed form g h name outcome told how
       (subst (λ k. Takes step remaining reads_failed k g (record { name = name; outcome = outcome }) h) is_form takes) in
-      let lines = subst (λ l. Writes held contents failures stalled v w y z b c result (output_line b.style l told)
+      let lines = subst (λ l. WritesFiles held contents failures stalled v w y z b c result (output_line b.style l told)
       (report_line b.style l told) (outcome_status told)) is writes in
       takes_more step remaining reads_failed held contents failures stalled form names rest rest' f g h u v w x y z a b c result is_style before
       (subst (λ l. TakesFiles step remaining reads_failed held contents failures stalled form l rest' g h v w y z b c result) (sym split)
@@ -232,10 +232,11 @@ module _ {F R W E : Type 0} (step : F → Origin → Result R IoError → F → 
   pub takes_both : (form form' : Form) (is_zero : Bool) (words : List (List ℕ)) (list : List ℕ) (rest last : List Name) (f g h : F) (u v w : W)
       (x y z : E) (a b c : Outputs) (result : Result (Unit {0}) Kind) → form' ≡ form → b.style ≡ a.style → rest ≡ []
       → TakesFiles step remaining reads_failed held contents failures stalled form (map Word words) rest f g u v x y a b (Ok tt)
-      → TakesFiles step remaining reads_failed held contents failures stalled form' (map Listed (names_in (end_of is_zero) list)) last g h v w y z b c result
+      → TakesFiles step remaining reads_failed held contents failures stalled form' (map Listed (names_in (end_byte_of_name is_zero) list)) last g h v w y z b c
+      result
       → TakesFiles step remaining reads_failed held contents failures stalled form (names_among is_zero words list) last f h u w x z a c result
   takes_both form form' is_zero words list rest last f g h u v w x y z a b c result is_form is_style all p q =
-      let more = map Listed (names_in (end_of is_zero) list) in
+      let more = map Listed (names_in (end_byte_of_name is_zero) list) in
       let first = subst (λ l. TakesFiles step remaining reads_failed held contents failures stalled form (map Word words ++ more)
       (l ++ more) f g u v x y a b (Ok tt)) all
       (takes_longer form (map Word words) rest more f g u v x y a b (Ok tt) p) in
@@ -280,7 +281,7 @@ words_next words i d lt = ap (λ l. map Word (map (λ (word : Bor (List ℕ)). w
 -- the list of a run was read
 pub list_read : {F R B : Type 0} (step : F → Origin → Result R IoError → F → Type 0) (remaining : R → Option (List ℕ)) (reads_failed : R → ℕ)
     (from : Option (List ℕ)) (word : List ℕ) (before after : F) (source end : R) (items : B → List ℕ) (result : Result B Kind) → from ≡ Some word
-    → Gives step word before (Ok source) after → IfOk result (λ bytes. ReadAll (2 ^ 30) (remaining source) (remaining end) (items bytes))
+    → OpenerGives step word before (Ok source) after → IfOk result (λ bytes. ReadAll (2 ^ 30) (remaining source) (remaining end) (items bytes))
     → OnOk result (reads_failed end ≡ 0) → IfOk result (λ bytes. ReadsList step remaining reads_failed from before (items bytes) after)
 list_read step remaining reads_failed from word before after source end items (Ok bytes) some gives read works =
     subst (λ w. ReadsList step remaining reads_failed w before (items bytes) after) (sym some) (source, end, gives, read, works)
@@ -288,7 +289,7 @@ list_read step remaining reads_failed from word before after source end items (E
 
 -- or not
 pub list_lacks : {F R B : Type 0} (step : F → Origin → Result R IoError → F → Type 0) (remaining : R → Option (List ℕ)) (reads_failed : R → ℕ)
-    (word : List ℕ) (before after : F) (source end : R) (result : Result B Kind) → Gives step word before (Ok source) after
+    (word : List ℕ) (before after : F) (source end : R) (result : Result B Kind) → OpenerGives step word before (Ok source) after
     → IfErr result (LacksBytes (source_run remaining reads_failed source end)) → IfErr result (LacksList step remaining reads_failed word before)
 list_lacks step remaining reads_failed word before after source end (Ok bytes) gives lacks = tt
 list_lacks step remaining reads_failed word before after source end (Err kind) gives lacks = by_reading source after end gives lacks
@@ -365,14 +366,14 @@ greatest_is (t ∷ taken) = greater (outcome_status t.outcome) (greatest_status 
 
 -- what a run tells, and then the line with which it is broken off
 pub broken_tells : {E : Type 0} (contents : E → Option (List ℕ)) (failures : E → ℕ) (stalled : E → Bool) (b : Bool) (x y z : E) (s t : List ℕ)
-    → TellsOn contents failures stalled true b x y s → (b ≡ true → Tells (sink_run contents failures stalled y z) t) → (b ≡ false → z ≡ y)
-    → Tells (sink_run contents failures stalled x z) (s ++ t)
+    → TellsOn contents failures stalled true b x y s → (b ≡ true → Reports (sink_run contents failures stalled y z) t) → (b ≡ false → z ≡ y)
+    → Reports (sink_run contents failures stalled x z) (s ++ t)
 broken_tells contents failures stalled true x y z s t p q r = elim (q refl) [
   | inl whole ↦ inl (Appends-trans _ _ _ s t p.0 whole)
   | inr part ↦ inr (prefix-after _ _ _ s t p.0 part.0, part.1)
 ]
 broken_tells contents failures stalled false x y z s t p q r =
-    subst (λ last. Tells (sink_run contents failures stalled x last) (s ++ t)) (sym (r refl)) (inr (prefix-grows _ _ s t p.0, p.1))
+    subst (λ last. Reports (sink_run contents failures stalled x last) (s ++ t)) (sym (r refl)) (inr (prefix-grows _ _ s t p.0, p.1))
 
 pub names_same : (z z' : Bool) (words words' : List (Bor (List ℕ))) (list list' : List ℕ) → z ≡ z' → words ≡ words' → list ≡ list'
     → names_among z (map (λ (word : Bor (List ℕ)). word.now) words) list ≡ names_among z' (map (λ (word : Bor (List ℕ)). word.now) words') list'
@@ -389,7 +390,7 @@ module _ {F R W E : Type 0} (step : F → Origin → Result R IoError → F → 
   -- the files that a run took, from those that were taken after its list was read
   took_of : (plan : KeysPlan) (opener ready last : F) (list : List ℕ) (form : Form) (names rest : List Name) (u v : W) (x y : E) (a b : Outputs)
       (result : Result (Unit {0}) Kind) → ReadsList step remaining reads_failed (list_word plan) opener list ready → form ≡ plan.form
-      → names ≡ names_among plan.zero (words_of plan) list
+      → names ≡ names_among plan.zero (words_of_plan plan) list
       → (p : TakesFiles step remaining reads_failed held contents failures stalled form names rest ready last u v x y a b result)
       → Took step remaining reads_failed plan opener p.taken rest
   took_of plan opener ready last list form names rest u v x y a b result read is_form same p = record {
@@ -404,9 +405,9 @@ module _ {F R W E : Type 0} (step : F → Origin → Result R IoError → F → 
   -- a run that comes to its end
   pub ran_through : (plan : KeysPlan) (opener ready last : F) (list : List ℕ) (form : Form) (names rest : List Name) (u v : W) (x y : E) (a b : Outputs)
       (flushed : Bool) → ReadsList step remaining reads_failed (list_word plan) opener list ready → form ≡ plan.form
-      → names ≡ names_among plan.zero (words_of plan) list → a.style ≡ style_of plan → a.tells ≡ true → a.status ≡ 0 → rest ≡ []
+      → names ≡ names_among plan.zero (words_of_plan plan) list → a.style ≡ style_of plan → a.tells ≡ true → a.status ≡ 0 → rest ≡ []
       → TakesFiles step remaining reads_failed held contents failures stalled form names rest ready last u v x y a b (Ok tt) → flushed ≡ true
-      → Ran step remaining reads_failed plan opener (sink_run held w-failures w-stalled u v) (sink_run contents failures stalled x y) flushed b.status
+      → KeysRan step remaining reads_failed plan opener (sink_run held w-failures w-stalled u v) (sink_run contents failures stalled x y) flushed b.status
   ran_through plan opener ready last list form names rest u v x y a b flushed read is_form same is_style hears none all p is_flushed = through p.taken
       (subst (Took step remaining reads_failed plan opener p.taken) all
       (took_of plan opener ready last list form names rest u v x y a b (Ok tt) read is_form same p))
@@ -419,16 +420,16 @@ module _ {F R W E : Type 0} (step : F → Origin → Result R IoError → F → 
   -- a run that is broken off
   pub ran_broken : (plan : KeysPlan) (opener ready last : F) (list : List ℕ) (form : Form) (names rest : List Name) (u v : W) (x y z : E) (a b : Outputs)
       (flushed : Bool) (kind : Kind) (status : ℕ) → ReadsList step remaining reads_failed (list_word plan) opener list ready → form ≡ plan.form
-      → names ≡ names_among plan.zero (words_of plan) list → a.style ≡ style_of plan → a.tells ≡ true
+      → names ≡ names_among plan.zero (words_of_plan plan) list → a.style ≡ style_of plan → a.tells ≡ true
       → TakesFiles step remaining reads_failed held contents failures stalled form names rest ready last u v x y a b (Err kind)
       → kind ≡ kinds.WriteFault → (w-failures v ≡ 1) ⊎ (w-stalled v ≡ true)
-      → (b.tells ≡ true → Tells (sink_run contents failures stalled y z) (fault_line (refusal_of (fault_of kind)))) → (b.tells ≡ false → z ≡ y)
+      → (b.tells ≡ true → Reports (sink_run contents failures stalled y z) (fault_line (refusal_of (fault_of kind)))) → (b.tells ≡ false → z ≡ y)
       → status ≡ status_of kind
-      → Ran step remaining reads_failed plan opener (sink_run held w-failures w-stalled u v) (sink_run contents failures stalled x z) flushed status
+      → KeysRan step remaining reads_failed plan opener (sink_run held w-failures w-stalled u v) (sink_run contents failures stalled x z) flushed status
   ran_broken plan opener ready last list form names rest u v x y z a b flushed kind status read is_form same is_style hears p is cause told silent is_status =
       broken_off p.taken rest (took_of plan opener ready last list form names rest u v x y a b (Err kind) read is_form same p)
       (subst (λ s. WritesPrefix (held u) (held v) (output_of s p.taken)) is_style p.writes.written) cause
-      (subst (λ k. Tells (sink_run contents failures stalled x z) (reports_of (style_of plan) p.taken ++ fault_line (refusal_of (fault_of k)))) is
+      (subst (λ k. Reports (sink_run contents failures stalled x z) (reports_of (style_of plan) p.taken ++ fault_line (refusal_of (fault_of k)))) is
       (broken_tells contents failures stalled b.tells x y z (reports_of (style_of plan) p.taken) _
       (subst (λ s. TellsOn contents failures stalled true b.tells x y (reports_of s p.taken)) is_style
       (subst (λ t. TellsOn contents failures stalled t b.tells x y (reports_of a.style p.taken)) hears p.writes.told)) told silent))

@@ -5,21 +5,21 @@ use Rattle.std.specs.declared.io.ErrorKind.TheVariants as io
 use Rattle.life_base.specs.Refusal.{fault_of}
 use Rattle.life_base.specs.declared.kind.Kind.TheVariants.{Full}
 use Rattle.file_keys.specs.KeyRuns.{errors_of, greatest_status, Listed, names_among, output_of, reports_of, Taken, Word}
-use Rattle.file_keys.specs.Keys.{escaped, name_mark, pieces_of, end_of}
+use Rattle.file_keys.specs.Keys.{escaped_name, name_mark, pieces_of, end_byte_of_name}
 use Rattle.file_keys.specs.declared.keys.outcome.Outcome.TheVariants.{Key, Refused, Unopened}
 use Rattle.file_keys.specs.declared.keys.style.Style.TheVariants.{Lines, Zero, Json}
 
 -- names as coreutils 9 writes them
-plain_name : escaped (codes "a b.rle") ≡ codes "a b.rle"
+plain_name : escaped_name (codes "a b.rle") ≡ codes "a b.rle"
 plain_name = refl
 
-backslash : escaped (codes "a\\b") ≡ codes "a\\\\b"
+backslash : escaped_name (codes "a\\b") ≡ codes "a\\\\b"
 backslash = refl
 
-line_feed : escaped (codes "a\nb") ≡ codes "a\\nb"
+line_feed : escaped_name (codes "a\nb") ≡ codes "a\\nb"
 line_feed = refl
 
-carriage_return : escaped (codes "a\rb") ≡ codes "a\\rb"
+carriage_return : escaped_name (codes "a\rb") ≡ codes "a\\rb"
 carriage_return = refl
 
 marked : name_mark (codes "a\rb") ≡ codes "\\"
@@ -29,13 +29,13 @@ unmarked : name_mark (codes "a b.rle") ≡ []
 unmarked = refl
 
 -- lists of names
-lines : pieces_of (end_of false) (codes "a\n\nb c\nd") ≡ codes "a" ∷ [] ∷ codes "b c" ∷ codes "d" ∷ []
+lines : pieces_of (end_byte_of_name false) (codes "a\n\nb c\nd") ≡ codes "a" ∷ [] ∷ codes "b c" ∷ codes "d" ∷ []
 lines = refl
 
-ended : pieces_of (end_of false) (codes "a\n") ≡ codes "a" ∷ []
+ended : pieces_of (end_byte_of_name false) (codes "a\n") ≡ codes "a" ∷ []
 ended = refl
 
-zeros : pieces_of (end_of true) (codes "a\nb" ++ (0 ∷ codes "c")) ≡ codes "a\nb" ∷ codes "c" ∷ []
+zeros : pieces_of (end_byte_of_name true) (codes "a\nb" ++ (0 ∷ codes "c")) ≡ codes "a\nb" ∷ codes "c" ∷ []
 zeros = refl
 
 -- the files of a run: words first, then a list, without its empty names

@@ -9,8 +9,8 @@ use Rattle.life_base.specs.Refusal.{fault_of}
 use Rattle.life_base.specs.Writing.{WritesPrefix}
 use Rattle.life_base.specs.declared.kind.Kind.{Kind}
 use Rattle.life_base.specs.declared.kind.Kind.TheVariants as kinds
-use Rattle.pattern_sources.specs.Faults.{fault_line, refusal_of, status_of, Tells}
-use Rattle.file_keys.specs.Groups.{distinct, files_with, group_names, groups_text, has_several, keys_in, name_bytes, printed_status}
+use Rattle.pattern_sources.specs.Faults.{fault_line, refusal_of, status_of, Reports}
+use Rattle.file_keys.specs.Groups.{distinct_keys, files_with, group_names, groups_text, has_several, keys_in, name_bytes, printed_status}
 use Rattle.file_keys.specs.KeyRuns.{error_line, errors_of, greatest_status, LacksList, list_word, Name, names_of, outcome_status, Taken, TakesAll, TellsOn, Took}
 use Rattle.file_keys.specs.declared.duplicates.gathered.Gathered.{Gathered}
 use Rattle.file_keys.specs.declared.duplicates.groups.Group.{Group}
@@ -42,7 +42,7 @@ with_name (class ∷ classes) key name =
 
 -- the classes of files
 abbrev pub classes_of : List Taken → List Class
-classes_of taken = map (λ (key : List ℕ). (key, map name_bytes (files_with key taken))) (distinct (keys_in taken))
+classes_of taken = map (λ (key : List ℕ). (key, map name_bytes (files_with key taken))) (distinct_keys (keys_in taken))
 
 -- the same with what came of a file: nothing more if it has no key
 abbrev pub with_outcome : List Class → Outcome → (name : List ℕ) → List Class
@@ -59,7 +59,7 @@ abbrev pub next_names : Bool → List (List ℕ) → List (List ℕ)
 next_names is_first group = if is_first then group else [] ∷ group
 
 -- A file was taken: why it has no key was reported, the greatest status is kept, and so is its name if it has a key.
-pub record Puts {E : Type 0} (contents : E → Option (List ℕ)) (failures : E → ℕ) (stalled : E → Bool) (err_old err_new : E) (old new : Gathered)
+pub record PutsFile {E : Type 0} (contents : E → Option (List ℕ)) (failures : E → ℕ) (stalled : E → Bool) (err_old err_new : E) (old new : Gathered)
     (name : List ℕ) (outcome : Outcome) : Type 0 where
   pub told : TellsOn contents failures stalled old.tells new.tells err_old err_new (error_line name outcome)
   pub status : new.status ≡ max old.status (outcome_status outcome)
@@ -92,13 +92,13 @@ module _ {F R : Type 0} (step : F → Origin → Result R IoError → F → Type
     -- All files were taken: the text of their groups was written, and the files without a key were reported.
     through : (taken : List Taken) → Took step remaining reads_failed plan opener taken []
         → Appends output.before output.after (groups_text plan.zero (group_names taken)) → flushed ≡ true
-        → Tells error (errors_of taken) → status ≡ printed_status taken → RanDuplicates plan opener output error flushed status
+        → Reports error (errors_of taken) → status ≡ printed_status taken → RanDuplicates plan opener output error flushed status
     -- All files were taken, and then standard output failed, or took no bytes: a prefix of the text was written.
     broken_off : (taken : List Taken) → Took step remaining reads_failed plan opener taken []
         → WritesPrefix output.before output.after (groups_text plan.zero (group_names taken)) → (output.failures ≡ 1) ⊎ (output.stalled ≡ true)
-        → Tells error (errors_of taken ++ fault_line (refusal_of (fault_of kinds.WriteFault))) → status ≡ status_of kinds.WriteFault
+        → Reports error (errors_of taken ++ fault_line (refusal_of (fault_of kinds.WriteFault))) → status ≡ status_of kinds.WriteFault
         → RanDuplicates plan opener output error flushed status
     -- There is no list, and no file was taken.
     without_list : (word : List ℕ) (kind : Kind) → list_word plan ≡ Some word → LacksList step remaining reads_failed word opener kind
-        → Tells error (fault_line (refusal_of (fault_of kind))) → status ≡ status_of kind → output.after ≡ output.before
+        → Reports error (fault_line (refusal_of (fault_of kind))) → status ≡ status_of kind → output.after ≡ output.before
         → RanDuplicates plan opener output error flushed status

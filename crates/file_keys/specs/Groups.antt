@@ -2,8 +2,8 @@
 use Rattle.std.specs.Prelude.{◌≡◌, ◌⊎◌, ◌↔◌, ◌<◌, ◌==◌, ℕ, Bool, true, false, not, nat_lt, List, [], ◌∷◌, ◌++◌, map, filter, flat_map, length, slice_get, Contains, Some, codes, if◌then◌else◌}
 use Rattle.std.specs.Str.{bytes_eq}
 use Rattle.life_base.specs.Text.{is_empty}
-use Rattle.file_keys.specs.KeyRuns.{bytes_of, greatest_status, Taken}
-use Rattle.file_keys.specs.Keys.{escaped, IsStatus}
+use Rattle.file_keys.specs.KeyRuns.{bytes_of_name, greatest_status, Taken}
+use Rattle.file_keys.specs.Keys.{escaped_name, IsStatus}
 use Rattle.file_keys.specs.declared.keys.outcome.Outcome.{Outcome}
 use Rattle.file_keys.specs.declared.keys.outcome.Outcome.TheVariants.{Key, Refused, Unopened}
 
@@ -31,9 +31,9 @@ abbrev pub files_with : List ℕ → List Taken → List Taken
 files_with key taken = filter (has_key key) taken
 
 -- each of these keys once, in the order in which they come first
-abbrev pub distinct : List (List ℕ) → List (List ℕ)
-distinct [] = []
-distinct (key ∷ keys) = key ∷ filter (λ (other : List ℕ). not (bytes_eq key other)) (distinct keys)
+abbrev pub distinct_keys : List (List ℕ) → List (List ℕ)
+distinct_keys [] = []
+distinct_keys (key ∷ keys) = key ∷ filter (λ (other : List ℕ). not (bytes_eq key other)) (distinct_keys keys)
 
 -- more than one
 abbrev pub has_several : {X : Type 0} → List X → Bool
@@ -41,11 +41,11 @@ has_several xs = nat_lt 1 (length xs)
 
 -- The groups: for each key that more than one file has, all files with it, in their order. They are in the order of their first files.
 abbrev pub groups_of : List Taken → List (List Taken)
-groups_of taken = filter has_several (map (λ (key : List ℕ). files_with key taken) (distinct (keys_in taken)))
+groups_of taken = filter has_several (map (λ (key : List ℕ). files_with key taken) (distinct_keys (keys_in taken)))
 
 -- the name of a file that was taken
 abbrev pub name_bytes : Taken → List ℕ
-name_bytes t = bytes_of t.name
+name_bytes t = bytes_of_name t.name
 
 -- the names in each group
 abbrev pub group_names : List Taken → List (List (List ℕ))
@@ -58,7 +58,7 @@ printed_names (group ∷ groups) = group ++ flat_map (λ (next : List (List ℕ)
 
 -- a printed name: escaped, and it ends in LF; or, with --zero, as it is, and it ends in NUL
 abbrev pub ended_name : Bool → List ℕ → List ℕ
-ended_name false name = escaped name ++ codes "\n"
+ended_name false name = escaped_name name ++ codes "\n"
 ended_name true name = name ++ 0 ∷ []
 
 -- the text of names, one after another

@@ -22,5 +22,5 @@ abbrev pub json_text : List ℕ → List ℕ
 json_text text = flat_map json_byte text
 
 -- and a name, with U+FFFD in place of what is no UTF-8 text
-abbrev pub name_text : List ℕ → List ℕ
-name_text name = json_text (utf8_lossy name)
+abbrev pub json_name : List ℕ → List ℕ
+json_name name = json_text (utf8_lossy name)

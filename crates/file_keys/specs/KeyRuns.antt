@@ -13,11 +13,11 @@ use Rattle.life_base.specs.Writing.{WritesPrefix, WritesText}
 use Rattle.life_base.specs.declared.cell.TheConstants.{MAX_LEVEL}
 use Rattle.life_base.specs.declared.kind.Kind.{Kind}
 use Rattle.life_base.specs.declared.kind.Kind.TheVariants as kinds
-use Rattle.pattern_sources.specs.Faults.{fault_line, refusal_of, status_of, Tells}
+use Rattle.pattern_sources.specs.Faults.{fault_line, refusal_of, status_of, Reports}
 use Rattle.pattern_sources.specs.Sources.{HasNoText, HasText, InputRefuses, RefusesInForm}
-use Rattle.file_keys.specs.Keys.{end_of, IsKeyIn, key_line, pieces_of, refused_line, unopened_line}
+use Rattle.file_keys.specs.Keys.{end_byte_of_name, IsKeyIn, key_line, pieces_of, refused_line, unopened_line}
 use Rattle.file_keys.specs.Objects.{object_text}
-use Rattle.command_line.specs.Origins.{Gives, IsOriginOf}
+use Rattle.command_line.specs.Origins.{OpenerGives, IsOriginOf}
 use Rattle.file_keys.specs.declared.keys.outputs.Outputs.{Outputs}
 use Rattle.file_keys.specs.declared.keys.runs.Run.{Run}
 use Rattle.file_keys.specs.declared.keys.style.Style.{Style}
@@ -34,9 +34,9 @@ pub data Name : Type 0 where
   Word : List ℕ → Name
   Listed : List ℕ → Name
 
-abbrev pub bytes_of : Name → List ℕ
-bytes_of (Word word) = word
-bytes_of (Listed name) = name
+abbrev pub bytes_of_name : Name → List ℕ
+bytes_of_name (Word word) = word
+bytes_of_name (Listed name) = name
 
 -- the names in a list: its pieces that aren't empty
 abbrev pub names_in : ℕ → List ℕ → List (List ℕ)
@@ -82,15 +82,15 @@ outcome_status (Unopened kind) = 3
 
 -- the lines of the files on standard output, in their order
 abbrev pub output_of : Style → List Taken → List ℕ
-output_of style taken = flat_map (λ (t : Taken). output_line style (bytes_of t.name) t.outcome) taken
+output_of style taken = flat_map (λ (t : Taken). output_line style (bytes_of_name t.name) t.outcome) taken
 
 -- and on standard error
 abbrev pub reports_of : Style → List Taken → List ℕ
-reports_of style taken = flat_map (λ (t : Taken). report_line style (bytes_of t.name) t.outcome) taken
+reports_of style taken = flat_map (λ (t : Taken). report_line style (bytes_of_name t.name) t.outcome) taken
 
 -- the same of `duplicates`, which has no style
 abbrev pub errors_of : List Taken → List ℕ
-errors_of taken = flat_map (λ (t : Taken). error_line (bytes_of t.name) t.outcome) taken
+errors_of taken = flat_map (λ (t : Taken). error_line (bytes_of_name t.name) t.outcome) taken
 
 -- the greatest status of the files, or 0
 abbrev pub greatest_status : List Taken → ℕ
@@ -112,7 +112,7 @@ TellsOn contents failures stalled false true old new text = ⊥
 
 -- What was written of files: their lines on standard output, or at a refusal a prefix of these; their lines on standard error, as far as that takes
 -- them; and the greatest status is kept.
-pub record Writes {W E : Type 0} (held : W → Option (List ℕ)) (contents : E → Option (List ℕ)) (failures : E → ℕ) (stalled : E → Bool)
+pub record WritesFiles {W E : Type 0} (held : W → Option (List ℕ)) (contents : E → Option (List ℕ)) (failures : E → ℕ) (stalled : E → Bool)
     (out_old out_new : W) (err_old err_new : E) (old new : Outputs) (result : Result (Unit {0}) Kind) (keys faults : List ℕ) (greatest : ℕ) : Type 0 where
   pub written : WritesText (held out_old) (held out_new) keys result
   pub told : TellsOn contents failures stalled old.tells new.tells err_old err_new faults
@@ -123,10 +123,10 @@ abbrev pub IsToldAs : Outcome → Outcome → Type 0
 IsToldAs outcome told = (told ≡ outcome) ⊎ ((key : List ℕ) × (outcome ≡ Key key) × (told ≡ Refused (fault_of kinds.Memory)))
 
 -- what a name names: of a list always a file, and nothing where it is no UTF-8 text
-abbrev pub IsNamed : Name → Origin → Type 0
-IsNamed (Word word) origin = IsOriginOf word origin
-IsNamed (Listed name) Standard = ⊥
-IsNamed (Listed name) (File text) = text.now ≡ name
+abbrev pub NamesOrigin : Name → Origin → Type 0
+NamesOrigin (Word word) origin = IsOriginOf word origin
+NamesOrigin (Listed name) Standard = ⊥
+NamesOrigin (Listed name) (File text) = text.now ≡ name
 
 -- a name in a list that is no UTF-8 text can't be opened
 abbrev pub IsNoText : Taken → Type 0
@@ -159,7 +159,7 @@ module _ {F R : Type 0} (step : F → Origin → Result R IoError → F → Type
 
   -- a file was taken: the opener was called for what the name names, and this came of it; or the name is no text, and it wasn't called
   pub data Takes (before : F) (taken : Taken) (after : F) : Type 0 where
-    by_call : (origin : Origin) (given : Result R IoError) → IsNamed taken.name origin → step before origin given after
+    by_call : (origin : Origin) (given : Result R IoError) → NamesOrigin taken.name origin → step before origin given after
         → Comes given taken.outcome → Takes before taken after
     by_name : IsNoText taken → after ≡ before → Takes before taken after
 
@@ -180,11 +180,11 @@ pub record CanTake {F : Type 0} (is_callable : F → Type 0) (run : Run F) (out_
 
 -- the names of a run: the words, and then those in the list
 abbrev pub names_among : Bool → (words : List (List ℕ)) (list : List ℕ) → List Name
-names_among zero words list = map Word words ++ map Listed (names_in (end_of zero) list)
+names_among zero words list = map Word words ++ map Listed (names_in (end_byte_of_name zero) list)
 
 -- the words of a plan that name files, and the one that names a list
-abbrev pub words_of : KeysPlan → List (List ℕ)
-words_of plan = map (λ word. word.now) plan.files.items
+abbrev pub words_of_plan : KeysPlan → List (List ℕ)
+words_of_plan plan = map (λ word. word.now) plan.files.items
 
 abbrev pub list_word : KeysPlan → Option (List ℕ)
 list_word plan = option_map (λ word. word.now) plan.from
@@ -198,13 +198,13 @@ module _ {F R : Type 0} (step : F → Origin → Result R IoError → F → Type
   -- the bytes of the list that a word names, of which no read failed; without such a word there are none
   abbrev pub ReadsList : Option (List ℕ) → F → List ℕ → F → Type 0
   ReadsList None before bytes after = (bytes ≡ []) × (after ≡ before)
-  ReadsList (Some word) before bytes after = (source : R) × (end : R) × Gives step word before (Ok source) after
+  ReadsList (Some word) before bytes after = (source : R) × (end : R) × OpenerGives step word before (Ok source) after
       × ReadAll (2 ^ 30) (remaining source) (remaining end) bytes × (reads_failed end ≡ 0)
 
   -- why there is no list: it can't be opened, or it was opened and isn't read
   pub data LacksList (word : List ℕ) (before : F) (kind : Kind) : Type 0 where
-    by_opening : (error : IoError) (after : F) → Gives step word before (Err error) after → kind ≡ kinds.ReadFault → LacksList word before kind
-    by_reading : (source : R) (after : F) (end : R) → Gives step word before (Ok source) after
+    by_opening : (error : IoError) (after : F) → OpenerGives step word before (Err error) after → kind ≡ kinds.ReadFault → LacksList word before kind
+    by_reading : (source : R) (after : F) (end : R) → OpenerGives step word before (Ok source) after
         → LacksBytes (source_run remaining reads_failed source end) kind → LacksList word before kind
 
   -- After the list was read files were taken, one after another, in the order of the names, but for the last names, `rest`.
@@ -213,24 +213,24 @@ module _ {F R : Type 0} (step : F → Origin → Result R IoError → F → Type
     pub ready : F
     pub last : F
     pub read : ReadsList (list_word plan) opener list ready
-    pub names : names_among plan.zero (words_of plan) list ≡ names_of taken ++ rest
+    pub names : names_among plan.zero (words_of_plan plan) list ≡ names_of taken ++ rest
     pub takes : TakesAll step remaining reads_failed plan.form ready taken last
 
   -- What a run did with its files and outputs, and the status that it answered.
-  pub data Ran (plan : KeysPlan) (opener : F) (output error : SinkRun) (flushed : Bool) (status : ℕ) : Type 0 where
+  pub data KeysRan (plan : KeysPlan) (opener : F) (output error : SinkRun) (flushed : Bool) (status : ℕ) : Type 0 where
     -- All files were taken: their lines were written, or reported, and the greatest status is answered.
     through : (taken : List Taken) → Took plan opener taken [] → Appends output.before output.after (output_of (style_of plan) taken) → flushed ≡ true
-        → Tells error (reports_of (style_of plan) taken) → status ≡ greatest_status taken → Ran plan opener output error flushed status
+        → Reports error (reports_of (style_of plan) taken) → status ≡ greatest_status taken → KeysRan plan opener output error flushed status
     -- Standard output failed, or took no bytes: the first files were taken, and a prefix of their lines was written.
     broken_off : (taken : List Taken) (rest : List Name) → Took plan opener taken rest
         → WritesPrefix output.before output.after (output_of (style_of plan) taken) → (output.failures ≡ 1) ⊎ (output.stalled ≡ true)
-        → Tells error (reports_of (style_of plan) taken ++ fault_line (refusal_of (fault_of kinds.WriteFault)))
+        → Reports error (reports_of (style_of plan) taken ++ fault_line (refusal_of (fault_of kinds.WriteFault)))
         → status ≡ status_of kinds.WriteFault
-        → Ran plan opener output error flushed status
+        → KeysRan plan opener output error flushed status
     -- There is no list, and no file was taken.
     without_list : (word : List ℕ) (kind : Kind) → list_word plan ≡ Some word → LacksList word opener kind
-        → Tells error (fault_line (refusal_of (fault_of kind))) → status ≡ status_of kind → output.after ≡ output.before
-        → Ran plan opener output error flushed status
+        → Reports error (fault_line (refusal_of (fault_of kind))) → status ≡ status_of kind → output.after ≡ output.before
+        → KeysRan plan opener output error flushed status
 
 module _ {F R W E : Type 0} (step : F → Origin → Result R IoError → F → Type 0) (remaining : R → Option (List ℕ)) (reads_failed : R → ℕ)
     (held : W → Option (List ℕ)) (contents : E → Option (List ℕ)) (failures : E → ℕ) (stalled : E → Bool) where
@@ -240,7 +240,7 @@ module _ {F R W E : Type 0} (step : F → Origin → Result R IoError → F → 
     pub taken : List Taken
     pub split : names ≡ names_of taken ++ rest
     pub takes : TakesAll step remaining reads_failed form opener_old taken opener_new
-    pub writes : Writes held contents failures stalled out_old out_new err_old err_new old new result (output_of old.style taken)
+    pub writes : WritesFiles held contents failures stalled out_old out_new err_old err_new old new result (output_of old.style taken)
         (reports_of old.style taken) (greatest_status taken)
 
   -- The same of all these names, or at a refusal of the first ones.

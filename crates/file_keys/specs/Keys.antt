@@ -30,9 +30,9 @@ escaped_byte b =
     if b == byte "\\" then codes "\\\\" else (if b == byte "\n" then codes "\\n" else (if b == byte "\r" then codes "\\r" else b ∷ []))
 
 -- how a name is written
-abbrev pub escaped : List ℕ → List ℕ
-escaped [] = []
-escaped (b ∷ name) = escaped_byte b ++ escaped name
+abbrev pub escaped_name : List ℕ → List ℕ
+escaped_name [] = []
+escaped_name (b ∷ name) = escaped_byte b ++ escaped_name name
 
 -- a line begins with a backslash if its name has a byte that isn't written as it is
 abbrev pub name_mark : List ℕ → List ℕ
@@ -40,7 +40,7 @@ name_mark name = if list_any is_special name then codes "\\" else []
 
 -- The line of a key: the key in hex, two spaces and the name. It ends in LF; or, with --zero, the name is written as it is, and it ends in NUL.
 abbrev pub key_line : Bool → List ℕ → List ℕ → List ℕ
-key_line false key name = name_mark name ++ (encode_lower key ++ (codes "  " ++ (escaped name ++ codes "\n")))
+key_line false key name = name_mark name ++ (encode_lower key ++ (codes "  " ++ (escaped_name name ++ codes "\n")))
 key_line true key name = encode_lower key ++ (codes "  " ++ (name ++ 0 ∷ []))
 
 -- the report of a fault: its line, where it names one, its kind, and what that means
@@ -50,7 +50,7 @@ fault_text fault =
 
 -- the line of a file that is refused, or for which room or memory is wanted
 abbrev pub refused_line : List ℕ → Fault → List ℕ
-refused_line name fault = escaped name ++ (codes ": " ++ fault_text fault)
+refused_line name fault = escaped_name name ++ (codes ": " ++ fault_text fault)
 
 -- why a file can't be opened, by what the system says
 abbrev pub reason_of : ErrorKind → List ℕ
@@ -61,7 +61,7 @@ reason_of _ = codes "can't be opened"
 
 -- the line of a file that can't be opened
 abbrev pub unopened_line : List ℕ → ErrorKind → List ℕ
-unopened_line name kind = escaped name ++ (codes ": " ++ (reason_of kind ++ codes "\n"))
+unopened_line name kind = escaped_name name ++ (codes ": " ++ (reason_of kind ++ codes "\n"))
 
 -- the pieces of a list, each of which ends at this byte, which isn't of it; what is behind the last one is a piece if there is anything
 abbrev pub pieces_of : ℕ → List ℕ → List (List ℕ)
@@ -69,9 +69,9 @@ pieces_of end [] = []
 pieces_of end (b ∷ list) = if b == end then [] ∷ pieces_of end list else onto_first b (pieces_of end list)
 
 -- the byte that ends a name of a list
-abbrev pub end_of : Bool → ℕ
-end_of false = byte "\n"
-end_of true = 0
+abbrev pub end_byte_of_name : Bool → ℕ
+end_byte_of_name false = byte "\n"
+end_byte_of_name true = 0
 
 -- a status of the command: each file has its key, or one was refused, or could not be opened or read, or room or memory was wanted for one
 abbrev pub IsStatus : ℕ → Type 0

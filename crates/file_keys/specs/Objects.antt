@@ -2,7 +2,7 @@
 use Rattle.std.specs.Prelude.{◌==◌, ◌++◌, [], ℕ, List, codes, decimal, if◌then◌else◌}
 use Rattle.hex.specs.Hex.{encode_lower}
 use Rattle.life_base.specs.Kinds.{kind_name}
-use Rattle.file_keys.specs.Json.{json_text, name_text}
+use Rattle.file_keys.specs.Json.{json_text, json_name}
 use Rattle.file_keys.specs.Keys.{reason_of}
 use Rattle.fault_sentences.specs.Sentences.{sentence_of}
 use Rattle.file_keys.specs.declared.keys.outcome.Outcome.{Outcome}
@@ -10,7 +10,7 @@ use Rattle.file_keys.specs.declared.keys.outcome.Outcome.TheVariants.{Key, Refus
 
 -- the beginning of an object, up to the name of the file
 abbrev pub object_head : List ℕ → List ℕ
-object_head name = codes "{\"name\":\"" ++ name_text name
+object_head name = codes "{\"name\":\"" ++ json_name name
 
 -- the rest of the object of a file with this key
 abbrev pub key_members : List ℕ → List ℕ

@@ -1,7 +1,7 @@
 //! Strings of JSON.
 
 ghost use Rattle.std.specs.Prelude.{◌≡◌, ◌<◌, ◌++◌};
-ghost use Rattle.file_keys.specs.Words.{LeavesSink, WritesText, control_text, hex_digits, json_byte, json_text, name_text, piece_text, pieces_text, replacement_of};
+ghost use Rattle.file_keys.specs.Words.{LeavesSink, WritesText, control_text, hex_digits, json_byte, json_text, json_name, piece_text, pieces_text, replacement_of};
 
 use life_base::{Kind, Sink, write_text, write_texts};
 
@@ -95,7 +95,7 @@ fn write_both<W: Sink>(out: &mut W, first: &[u8], second: &[u8]) -> Result<(), K
 /// Writes a name within a string of JSON.
 fn write_name<W: Sink>(out: &mut W, name: &[u8]) -> Result<(), Kind>
     requires { W.failures out.old ≡ 0 }
-    ensures text { WritesText (W.contents out.old) (W.contents out.new) (name_text name.now)
+    ensures text { WritesText (W.contents out.old) (W.contents out.new) (json_name name.now)
         result }
     ensures sink { LeavesSink W.failures W.stalled out.old out.new result }
 {

@@ -2,7 +2,7 @@
 
 ghost use Rattle.std.specs.Prelude.{◌≡◌, ◌≤◌, false, true, [], Some};
 ghost use Rattle.std.proofs.Common.{rules};
-ghost use Rattle.file_keys.specs.Words.{count_of};
+ghost use Rattle.file_keys.specs.Words.{flag_count};
 
 use life_base::{Kind, Sink, append};
 use std::alloc::Global;
@@ -37,7 +37,7 @@ impl TextSink {
 }
 
 impl Sink for TextSink {
-    ghost failures = { λ s. count_of s.failed };
+    ghost failures = { λ s. flag_count s.failed };
 
     ghost contents = { λ s. Some s.text.items };
 
@@ -45,7 +45,7 @@ impl Sink for TextSink {
 
     ghost flushed = { λ s. s.flushed };
 
-    ghost at_most_one = { λ s. elim s.failed as (λ f. count_of f ≤ 1) [ true ↦ Prim.search rules | false ↦ Prim.search rules ] };
+    ghost at_most_one = { λ s. elim s.failed as (λ f. flag_count f ≤ 1) [ true ↦ Prim.search rules | false ↦ Prim.search rules ] };
 
     fn failed(&self) -> bool {
         self.failed

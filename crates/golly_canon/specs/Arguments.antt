@@ -10,8 +10,8 @@ use Rattle.golly_canon.specs.declared.arguments.Unreadable.{Unreadable}
 use Rattle.golly_canon.specs.declared.arguments.Unreadable.TheVariants.{NoText, Memory}
 
 -- what an error says that came where the arguments were read: that memory was refused, or that an argument isn't text
-abbrev pub Says : Error → Unreadable → Type 0
-Says error unreadable = ((error_kind error ≡ OutOfMemory) × (unreadable ≡ Memory)) ⊎ ((error_kind error ≢ OutOfMemory) × (unreadable ≡ NoText))
+abbrev pub SaysUnreadable : Error → Unreadable → Type 0
+SaysUnreadable error unreadable = ((error_kind error ≡ OutOfMemory) × (unreadable ≡ Memory)) ⊎ ((error_kind error ≢ OutOfMemory) × (unreadable ≡ NoText))
 
 -- the line on standard error, in which `argument` is the first one that isn't text, as it is shown
 abbrev pub unreadable_line : Unreadable → List ℕ → List ℕ

@@ -1,7 +1,7 @@
 //! The arguments of the command line, and what is said where they can't be read.
 
 ghost use Rattle.std.specs.Prelude.{◌≡◌};
-ghost use Rattle.life_cli.specs.Words.{Tells, sink_run};
+ghost use Rattle.life_cli.specs.Words.{Reports, sink_run};
 ghost use Rattle.golly_canon.specs.Arguments.{unreadable_line, unreadable_status};
 
 use life_base::{Kind, Sink, write_texts};
@@ -20,9 +20,9 @@ pub(crate) enum Unreadable {
 }
 
 impl From<io::Error> for Unreadable {
-    ghost use Rattle.golly_canon.specs.Arguments.{Says};
+    ghost use Rattle.golly_canon.specs.Arguments.{SaysUnreadable};
 
-    ghost from_gives = { λ error unreadable. Says error unreadable };
+    ghost from_gives = { λ error unreadable. SaysUnreadable error unreadable };
 
     /// An argument isn't text, or memory was refused.
     fn from(error: io::Error) -> Unreadable {
@@ -108,7 +108,7 @@ pub(crate) fn read_arguments(rt: &HostRuntime) -> Result<Arguments, AllocError> 
 /// Writes the line that says that this argument isn't UTF-8 text, and returns the status.
 fn report_no_text<E: Sink>(err: &mut E, argument: &[u8]) -> u8
     requires { E.failures err.old ≡ 0 }
-    ensures told { Tells (sink_run E.contents E.failures E.stalled err.old err.new)
+    ensures told { Reports (sink_run E.contents E.failures E.stalled err.old err.new)
         (unreadable_line Unreadable.NoText argument.now) }
     ensures status { result ≡ unreadable_status Unreadable.NoText }
 {
@@ -122,7 +122,7 @@ fn report_no_text<E: Sink>(err: &mut E, argument: &[u8]) -> u8
 /// Writes the line that says why the arguments can't be read, and returns the status that the program ends with. `argument` is the one that isn't text.
 pub(crate) fn report_unreadable<E: Sink>(err: &mut E, why: Unreadable, argument: &[u8]) -> u8
     requires { E.failures err.old ≡ 0 }
-    ensures told { Tells (sink_run E.contents E.failures E.stalled err.old err.new)
+    ensures told { Reports (sink_run E.contents E.failures E.stalled err.old err.new)
         (unreadable_line why argument.now) }
     ensures status { result ≡ unreadable_status why }
 {

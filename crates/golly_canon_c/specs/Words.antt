@@ -1,16 +1,16 @@
 -- The words of the contracts of this crate.
 pub use Rattle.golly_canon_c.specs.Naming.{status_name, status_sentence}
-pub use Rattle.library_calls.specs.Texts.{Fits, IsCanonicalText, IsRleText, RefusesRleWithin, RefusesWithin, SomeToRead, TellsText}
-pub use Rattle.library_calls.specs.Comparing.{compared, ComparesWithin, SomeToReadBoth}
+pub use Rattle.library_calls.specs.Texts.{Fits, IsLeastCanonicalText, IsRleText, RefusesRleWithin, RefusesWithin, SomeToRead, TellsText}
+pub use Rattle.library_calls.specs.Comparing.{comparison_of, ComparesWithin, SomeToReadBoth}
 pub use Rattle.library_calls.specs.ComparingInForm.{ComparesInForm, ComparesInNone}
 pub use Rattle.library_calls.specs.Outputs.{text_in}
 pub use Rattle.library_calls.specs.InForm.{form_numbered, IsKeyInForm, IsTextInForm, AnswersInForm}
 pub use Rattle.library_calls.specs.Stepping.{RefusesStepWithin, StepsByTable}
 pub use Rattle.fault_sentences.specs.Sentences.{sentence_of}
-pub use Rattle.library_calls.specs.Streams.{Feeds, Finishes, IsSpent, Opens, session_of, TellsEnd, TellsKey, TellsNothing, TellsPiece}
-pub use Rattle.library_calls.specs.Told.{Answers, Gives, told}
+pub use Rattle.library_calls.specs.Streams.{Feeds, Finishes, IsSpent, OpensStream, session_of, TellsEnd, TellsKey, TellsNothing, TellsPiece}
+pub use Rattle.library_calls.specs.Told.{Returns, ReturnsText, reply}
 pub use Rattle.library_calls.specs.declared.texts.Output.{Output as OutputValue}
 pub use Rattle.life_base.specs.Kinds.{kind_name, kind_number}
 pub use Rattle.life_base.specs.declared.kind.Kind.{Kind as KindValue}
-pub use Rattle.life_canon.specs.Texts.{IsShown}
+pub use Rattle.life_canon.specs.Texts.{IsShownText}
 pub use Rattle.life_step.specs.Stepped.{IsStepped}

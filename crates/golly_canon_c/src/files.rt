@@ -1,7 +1,7 @@
 //! The calls on whole files: their texts, their next generations, their forms, and what two of them are.
 
 ghost use Rattle.std.specs.Prelude.{◌≡◌, MatchOption};
-ghost use Rattle.golly_canon_c.specs.Words.{IsCanonicalText, IsRleText, RefusesWithin, RefusesRleWithin, Answers, Fits, SomeToRead, SomeToReadBoth, TellsText, told, IsShown, RefusesStepWithin, StepsByTable, IsStepped, compared, ComparesInForm, ComparesInNone, form_numbered, IsKeyInForm, IsTextInForm, AnswersInForm, ComparesWithin};
+ghost use Rattle.golly_canon_c.specs.Words.{IsLeastCanonicalText, IsRleText, RefusesWithin, RefusesRleWithin, Returns, Fits, SomeToRead, SomeToReadBoth, TellsText, reply, IsShownText, RefusesStepWithin, StepsByTable, IsStepped, comparison_of, ComparesInForm, ComparesInNone, form_numbered, IsKeyInForm, IsTextInForm, AnswersInForm, ComparesWithin};
 
 use crate::told::{tell, tell_compared};
 use library_calls::{
@@ -21,9 +21,10 @@ pub extern "C" fn golly_canon_canon(
     needed: &mut usize,
     line: &mut u64,
 ) -> u32
-    ensures answers { Answers (IsCanonicalText bytes.now) (RefusesWithin limit bytes.now) out.old
-        out.new (told result needed.new line.new) }
-    ensures fits { TellsText (told result needed.new line.new) → Fits (SomeToRead bytes.now) limit }
+    ensures answers { Returns (IsLeastCanonicalText bytes.now) (RefusesWithin limit bytes.now)
+        out.old out.new (reply result needed.new line.new) }
+    ensures fits { TellsText (reply result needed.new line.new)
+        → Fits (SomeToRead bytes.now) limit }
 {
     let answer = canon(alloc, bytes, Options { limit, seed }, out);
     tell(answer, needed, line)
@@ -40,9 +41,10 @@ pub extern "C" fn golly_canon_to_rle(
     needed: &mut usize,
     line: &mut u64,
 ) -> u32
-    ensures answers { Answers (IsRleText bytes.now) (RefusesRleWithin limit bytes.now) out.old
-        out.new (told result needed.new line.new) }
-    ensures fits { TellsText (told result needed.new line.new) → Fits (SomeToRead bytes.now) limit }
+    ensures answers { Returns (IsRleText bytes.now) (RefusesRleWithin limit bytes.now) out.old
+        out.new (reply result needed.new line.new) }
+    ensures fits { TellsText (reply result needed.new line.new)
+        → Fits (SomeToRead bytes.now) limit }
 {
     let answer = to_rle(alloc, bytes, Options { limit, seed }, out);
     tell(answer, needed, line)
@@ -59,9 +61,10 @@ pub extern "C" fn golly_canon_show(
     needed: &mut usize,
     line: &mut u64,
 ) -> u32
-    ensures answers { Answers (IsShown MAX_LEVEL bytes.now) (RefusesWithin limit bytes.now) out.old
-        out.new (told result needed.new line.new) }
-    ensures fits { TellsText (told result needed.new line.new) → Fits (SomeToRead bytes.now) limit }
+    ensures answers { Returns (IsShownText MAX_LEVEL bytes.now) (RefusesWithin limit bytes.now)
+        out.old out.new (reply result needed.new line.new) }
+    ensures fits { TellsText (reply result needed.new line.new)
+        → Fits (SomeToRead bytes.now) limit }
 {
     let answer = show(alloc, bytes, Options { limit, seed }, out);
     tell(answer, needed, line)
@@ -78,9 +81,10 @@ pub extern "C" fn golly_canon_step(
     needed: &mut usize,
     line: &mut u64,
 ) -> u32
-    ensures answers { Answers (IsStepped bytes.now) (RefusesStepWithin limit bytes.now) out.old
-        out.new (told result needed.new line.new) }
-    ensures fits { TellsText (told result needed.new line.new) → Fits (SomeToRead bytes.now) limit }
+    ensures answers { Returns (IsStepped bytes.now) (RefusesStepWithin limit bytes.now) out.old
+        out.new (reply result needed.new line.new) }
+    ensures fits { TellsText (reply result needed.new line.new)
+        → Fits (SomeToRead bytes.now) limit }
 {
     let answer = step(alloc, bytes, Options { limit, seed }, out);
     tell(answer, needed, line)
@@ -101,8 +105,9 @@ pub extern "C" fn golly_canon_step_by_table(
     in_table: &mut u32,
 ) -> u32
     ensures steps { StepsByTable limit bytes.now table.now in_table.new out.old out.new
-        (told result needed.new line.new) }
-    ensures fits { TellsText (told result needed.new line.new) → Fits (SomeToRead bytes.now) limit }
+        (reply result needed.new line.new) }
+    ensures fits { TellsText (reply result needed.new line.new)
+        → Fits (SomeToRead bytes.now) limit }
 {
     let (answer, of_table) = step_by_table(alloc, bytes, table, Options { limit, seed }, out);
     *in_table = of_table;
@@ -122,8 +127,9 @@ pub extern "C" fn golly_canon_canon_form(
     line: &mut u64,
 ) -> u32
     ensures answers { AnswersInForm IsTextInForm form limit bytes.now out.old out.new
-        (told result needed.new line.new) }
-    ensures fits { TellsText (told result needed.new line.new) → Fits (SomeToRead bytes.now) limit }
+        (reply result needed.new line.new) }
+    ensures fits { TellsText (reply result needed.new line.new)
+        → Fits (SomeToRead bytes.now) limit }
 {
     let answer = canon_form(alloc, bytes, form, Options { limit, seed }, out);
     tell(answer, needed, line)
@@ -142,8 +148,9 @@ pub extern "C" fn golly_canon_key(
     line: &mut u64,
 ) -> u32
     ensures answers { AnswersInForm IsKeyInForm form limit bytes.now out.old out.new
-        (told result needed.new line.new) }
-    ensures fits { TellsText (told result needed.new line.new) → Fits (SomeToRead bytes.now) limit }
+        (reply result needed.new line.new) }
+    ensures fits { TellsText (reply result needed.new line.new)
+        → Fits (SomeToRead bytes.now) limit }
 {
     let answer = key(alloc, bytes, form, Options { limit, seed }, out);
     tell(answer, needed, line)
@@ -162,9 +169,9 @@ pub extern "C" fn golly_canon_same_form(
     line: &mut u64,
 ) -> u32
     ensures compares { MatchOption (form_numbered form)
-        (ComparesInNone (compared result is_same.new line.new))
+        (ComparesInNone (comparison_of result is_same.new line.new))
         (λ form. ComparesInForm form limit first.now second.now
-        (compared result is_same.new line.new)) }
+        (comparison_of result is_same.new line.new)) }
     ensures fits { result ≡ 0 → Fits (SomeToReadBoth first.now second.now) limit }
 {
     let answer = same_form(alloc, first, second, form, Options { limit, seed });
@@ -183,7 +190,7 @@ pub extern "C" fn golly_canon_same(
     line: &mut u64,
 ) -> u32
     ensures compares { ComparesWithin limit first.now second.now
-        (compared result is_same.new line.new) }
+        (comparison_of result is_same.new line.new) }
     ensures fits { result ≡ 0 → Fits (SomeToReadBoth first.now second.now) limit }
 {
     let answer = same(alloc, first, second, Options { limit, seed });

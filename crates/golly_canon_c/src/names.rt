@@ -1,7 +1,7 @@
 //! The names of statuses, what each means in a sentence, and the version.
 
 ghost use Rattle.std.specs.Prelude.{◌≡◌, ◌≢◌, ◌==◌, [], codes, find};
-ghost use Rattle.golly_canon_c.specs.Words.{KindValue, kind_number, kind_name, Gives, told, status_name, sentence_of, status_sentence};
+ghost use Rattle.golly_canon_c.specs.Words.{KindValue, kind_number, kind_name, ReturnsText, reply, status_name, sentence_of, status_sentence};
 
 use fault_sentences::sentence;
 use library_calls::{NO_FORM, NO_ROOM, give};
@@ -96,7 +96,7 @@ fn meaning_of(number: u32) -> &'static [u8]
 
 /// Gives a name or a sentence, and puts its length into `needed`. The answer is the status.
 fn tell_name(name: &[u8], out: &mut [u8], needed: &mut usize) -> u32
-    ensures { Gives name.now out.old out.new (told result needed.new 0) }
+    ensures { ReturnsText name.now out.old out.new (reply result needed.new 0) }
 {
     let answer = give(name, out);
     *needed = answer.needed;
@@ -107,15 +107,15 @@ fn tell_name(name: &[u8], out: &mut [u8], needed: &mut usize) -> u32
 #[unsafe(no_mangle)]
 pub extern "C" fn golly_canon_status_name(number: u32, out: &mut [u8], needed: &mut usize) -> u32
     ensures kind { (kind : KindValue) → number ≡ kind_number kind
-        → Gives (kind_name kind) out.old out.new (told result needed.new 0) }
-    ensures ok { number ≡ 0 → Gives (codes "OK") out.old out.new (told result needed.new 0) }
-    ensures no_room { number ≡ 64 → Gives (codes "NoRoom") out.old out.new
-        (told result needed.new 0) }
-    ensures no_form { number ≡ 65 → Gives (codes "NoForm") out.old out.new
-        (told result needed.new 0) }
+        → ReturnsText (kind_name kind) out.old out.new (reply result needed.new 0) }
+    ensures ok { number ≡ 0 → ReturnsText (codes "OK") out.old out.new (reply result needed.new 0) }
+    ensures no_room { number ≡ 64 → ReturnsText (codes "NoRoom") out.old out.new
+        (reply result needed.new 0) }
+    ensures no_form { number ≡ 65 → ReturnsText (codes "NoForm") out.old out.new
+        (reply result needed.new 0) }
     ensures none { number ≢ 0 → number ≢ 64 → number ≢ 65
         → ((kind : KindValue) → number ≢ kind_number kind)
-        → Gives [] out.old out.new (told result needed.new 0) }
+        → ReturnsText [] out.old out.new (reply result needed.new 0) }
 {
     tell_name(name_of(number), out, needed)
 }
@@ -125,16 +125,16 @@ pub extern "C" fn golly_canon_status_name(number: u32, out: &mut [u8], needed: &
 #[unsafe(no_mangle)]
 pub extern "C" fn golly_canon_sentence(number: u32, out: &mut [u8], needed: &mut usize) -> u32
     ensures kind { (kind : KindValue) → number ≡ kind_number kind
-        → Gives (sentence_of kind) out.old out.new (told result needed.new 0) }
+        → ReturnsText (sentence_of kind) out.old out.new (reply result needed.new 0) }
     ensures no_room { number ≡ 64
-        → Gives (codes "The text has more bytes than the memory that was given for it.")
-        out.old out.new (told result needed.new 0) }
+        → ReturnsText (codes "The text has more bytes than the memory that was given for it.")
+        out.old out.new (reply result needed.new 0) }
     ensures no_form { number ≡ 65
-        → Gives (codes "The number isn't that of a form of a pattern.") out.old out.new
-        (told result needed.new 0) }
+        → ReturnsText (codes "The number isn't that of a form of a pattern.") out.old out.new
+        (reply result needed.new 0) }
     ensures none { number ≢ 64 → number ≢ 65
         → ((kind : KindValue) → number ≢ kind_number kind)
-        → Gives [] out.old out.new (told result needed.new 0) }
+        → ReturnsText [] out.old out.new (reply result needed.new 0) }
 {
     tell_name(meaning_of(number), out, needed)
 }
@@ -142,7 +142,7 @@ pub extern "C" fn golly_canon_sentence(number: u32, out: &mut [u8], needed: &mut
 /// The version of the library, which is that of the program.
 #[unsafe(no_mangle)]
 pub extern "C" fn golly_canon_version(out: &mut [u8], needed: &mut usize) -> u32
-    ensures { Gives (codes "0.2.0") out.old out.new (told result needed.new 0) }
+    ensures { ReturnsText (codes "0.2.0") out.old out.new (reply result needed.new 0) }
 {
     tell_name(VERSION, out, needed)
 }

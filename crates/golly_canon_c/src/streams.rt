@@ -1,7 +1,7 @@
 //! The calls on streams: a file in pieces, and one answer at its end.
 
 ghost use Rattle.std.specs.Prelude.{◌≡◌, None, IfSome, MatchOption};
-ghost use Rattle.golly_canon_c.specs.Words.{text_in, form_numbered, session_of, Opens, Feeds, Finishes, IsSpent, TellsPiece, TellsNothing, TellsEnd, TellsKey, TellsText, told, OutputValue};
+ghost use Rattle.golly_canon_c.specs.Words.{text_in, form_numbered, session_of, OpensStream, Feeds, Finishes, IsSpent, TellsPiece, TellsNothing, TellsEnd, TellsKey, TellsText, reply, OutputValue};
 
 use crate::told::tell;
 use library_calls::{
@@ -17,7 +17,7 @@ pub extern "C" fn golly_canon_open_canon(
     limit: u64,
     seed: u64,
 ) -> u32
-    ensures { Opens OutputValue.Canonical limit result (session_of stream.new) }
+    ensures { OpensStream OutputValue.Canonical limit result (session_of stream.new) }
 {
     open(alloc, stream, Output::Canonical, Options { limit, seed })
 }
@@ -32,7 +32,7 @@ pub extern "C" fn golly_canon_open_canon_form(
     seed: u64,
 ) -> u32
     ensures { MatchOption (form_numbered form) ((result ≡ 65) × (session_of stream.new ≡ None))
-        (λ form. Opens (text_in form) limit result (session_of stream.new)) }
+        (λ form. OpensStream (text_in form) limit result (session_of stream.new)) }
 {
     open_canon_form(alloc, stream, form, Options { limit, seed })
 }
@@ -45,7 +45,7 @@ pub extern "C" fn golly_canon_open_to_rle(
     limit: u64,
     seed: u64,
 ) -> u32
-    ensures { Opens OutputValue.Rle limit result (session_of stream.new) }
+    ensures { OpensStream OutputValue.Rle limit result (session_of stream.new) }
 {
     open(alloc, stream, Output::Rle, Options { limit, seed })
 }
@@ -58,7 +58,7 @@ pub extern "C" fn golly_canon_open_show(
     limit: u64,
     seed: u64,
 ) -> u32
-    ensures { Opens OutputValue.Lines limit result (session_of stream.new) }
+    ensures { OpensStream OutputValue.Lines limit result (session_of stream.new) }
 {
     open(alloc, stream, Output::Lines, Options { limit, seed })
 }
@@ -71,7 +71,7 @@ pub extern "C" fn golly_canon_open_step(
     limit: u64,
     seed: u64,
 ) -> u32
-    ensures { Opens OutputValue.Next limit result (session_of stream.new) }
+    ensures { OpensStream OutputValue.Next limit result (session_of stream.new) }
 {
     open(alloc, stream, Output::Next, Options { limit, seed })
 }
@@ -106,10 +106,10 @@ pub extern "C" fn golly_canon_finish(
 ) -> u32
     ensures closed { session_of stream.old ≡ None
         → (session_of stream.new ≡ None)
-        × TellsNothing out.old out.new (told result needed.new line.new) }
+        × TellsNothing out.old out.new (reply result needed.new line.new) }
     ensures finishes { Finishes (session_of stream.old) (session_of stream.new) }
     ensures tells { IfSome (session_of stream.new)
-        (TellsEnd out.old out.new (told result needed.new line.new)) }
+        (TellsEnd out.old out.new (reply result needed.new line.new)) }
 {
     tell(finish(alloc, stream, out), needed, line)
 }
@@ -126,11 +126,11 @@ pub extern "C" fn golly_canon_finish_key(
 ) -> u32
     ensures closed { session_of stream.old ≡ None
         → (session_of stream.new ≡ None)
-        × TellsNothing out.old out.new (told result needed.new line.new) }
+        × TellsNothing out.old out.new (reply result needed.new line.new) }
     ensures finishes { Finishes (session_of stream.old) (session_of stream.new) }
     ensures tells { IfSome (session_of stream.new)
-        (TellsKey out.old out.new (told result needed.new line.new)) }
-    ensures digits { TellsText (told result needed.new line.new) → needed.new ≡ 64 }
+        (TellsKey out.old out.new (reply result needed.new line.new)) }
+    ensures digits { TellsText (reply result needed.new line.new) → needed.new ≡ 64 }
 {
     tell(finish_key(alloc, stream, out), needed, line)
 }

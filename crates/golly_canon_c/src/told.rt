@@ -1,13 +1,13 @@
 //! The result of a call, put where the caller wants it.
 
 ghost use Rattle.std.specs.Prelude.{◌≡◌};
-ghost use Rattle.golly_canon_c.specs.Words.{compared, told};
+ghost use Rattle.golly_canon_c.specs.Words.{comparison_of, reply};
 
 use library_calls::{Compared, Told};
 
 /// Puts the length and the line of a result into `needed` and `line`, and returns the status.
 pub(crate) fn tell(answer: Told, needed: &mut usize, line: &mut u64) -> u32
-    ensures { answer ≡ told result needed.new line.new }
+    ensures { answer ≡ reply result needed.new line.new }
 {
     *needed = answer.needed;
     *line = answer.line;
@@ -16,7 +16,7 @@ pub(crate) fn tell(answer: Told, needed: &mut usize, line: &mut u64) -> u32
 
 /// The same of a comparison.
 pub(crate) fn tell_compared(answer: Compared, is_same: &mut u32, line: &mut u64) -> u32
-    ensures { answer ≡ compared result is_same.new line.new }
+    ensures { answer ≡ comparison_of result is_same.new line.new }
 {
     *is_same = answer.is_same;
     *line = answer.line;

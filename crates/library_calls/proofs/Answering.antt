@@ -5,11 +5,11 @@ use Rattle.life_base.specs.Refusal.{fault_of}
 use Rattle.life_base.specs.declared.fault.Fault.{Fault}
 use Rattle.life_base.specs.declared.kind.Kind.TheVariants.{Full, Memory}
 use Rattle.life_base.specs.Tree.{Tree}
-use Rattle.life_quad.specs.Store.{Nodes, held}
-use Rattle.life_canon.specs.Store.{IsWant}
-use Rattle.library_calls.specs.Told.{Told, Gives, Tells, Answers, by_text, by_fault}
-use Rattle.library_calls.specs.Texts.{TellsText, Wants, room_of}
-use Rattle.library_calls.specs.Comparing.{Compared, ComparesWithin, compared}
+use Rattle.life_quad.specs.Store.{Nodes, stored_squares}
+use Rattle.life_canon.specs.Store.{IsShortageOf}
+use Rattle.library_calls.specs.Told.{Told, ReturnsText, ReturnsFault, Returns, by_text, by_fault}
+use Rattle.library_calls.specs.Texts.{TellsText, IsLimitShortage, room_of}
+use Rattle.library_calls.specs.Comparing.{Compared, ComparesWithin, comparison_of}
 use Rattle.library_calls.specs.Comparing as placed
 use Rattle.library_calls.specs.ComparingInForm.{ComparesInForm}
 use Rattle.library_calls.specs.ComparingInForm as in_form
@@ -18,8 +18,8 @@ use Rattle.library_calls.proofs.Numbered.{no_text}
 
 -- a text or a fault, told
 pub answered : {X : Type 0} (items : X → List ℕ) (IsText : List ℕ → Type 0) (IsFault : Fault → Type 0) (before after : List ℕ) (it : Told)
-    (r : Result X Fault) → IfOk r (λ x. IsText (items x)) → IfErr r IsFault → IfOk r (λ x. Gives (items x) before after it) → IfOk r (λ _. it.line ≡ 0)
-    → IfErr r (λ fault. Tells fault before after it) → Answers IsText IsFault before after it
+    (r : Result X Fault) → IfOk r (λ x. IsText (items x)) → IfErr r IsFault → IfOk r (λ x. ReturnsText (items x) before after it) → IfOk r (λ _. it.line ≡ 0)
+    → IfErr r (λ fault. ReturnsFault fault before after it) → Returns IsText IsFault before after it
 answered items IsText IsFault before after it (Ok x) is why gives no_line tells = by_text (items x) is gives no_line
 answered items IsText IsFault before after it (Err fault) is why gives no_line tells = by_fault fault why tells
 
@@ -44,16 +44,17 @@ pub not-full : {P : Type 0} (fault : Fault) → fault ≡ fault_of Memory → fa
 not-full fault memory full = let e : Memory ≡ Full = ap (λ (f : Fault). f.kind) (sym memory ∙ full) in absurd cc
 
 -- a store that was empty, and had no room besides what it held, is tight
-pub tight : (room : ℕ) (old new : Nodes) → held old ≡ [] → new.limit ≡ old.limit → old.limit < length (held old) + room → new.limit < room
-tight room old new empty same low = let none : length (held old) ≡ 0 = ap (λ (squares : List Tree). length squares) empty in omega (arith, none, same, low)
+pub tight : (room : ℕ) (old new : Nodes) → stored_squares old ≡ [] → new.limit ≡ old.limit → old.limit < length (stored_squares old) + room → new.limit < room
+tight room old new empty same low = let none : length (stored_squares old)
+    ≡ 0 = ap (λ (squares : List Tree). length squares) empty in omega (arith, none, same, low)
 
 -- so is one that has no room for squares that it held
 pub tight-alone : (room : ℕ) (old new : Nodes) → new.limit ≡ old.limit → old.limit < 0 + room → new.limit < room
 tight-alone room old new same low = omega (arith, same, low)
 
 -- memory is wanted, or the store is full and its limit too low
-pub wanted : (IsTooLow : ℕ → Type 0) (limit : ℕ) (store : Nodes) (fault : Fault) → store.limit ≡ room_of limit → IsWant store fault
-    → (fault ≡ fault_of Full → length (held store) ≡ store.limit → IsTooLow store.limit) → Wants IsTooLow limit fault
+pub wanted : (IsTooLow : ℕ → Type 0) (limit : ℕ) (store : Nodes) (fault : Fault) → store.limit ≡ room_of limit → IsShortageOf store fault
+    → (fault ≡ fault_of Full → length (stored_squares store) ≡ store.limit → IsTooLow store.limit) → IsLimitShortage IsTooLow limit fault
 wanted IsTooLow limit store fault is (inl memory) low = inl memory
 wanted IsTooLow limit store fault is (inr (full, at)) low = inr (full, subst IsTooLow is (low full at))
 
@@ -72,7 +73,7 @@ where-err (Ok x) holds = tt
 where-err (Err fault) holds = holds
 
 -- and files are not compared either
-pub not-compared : {P : Type 0} (it : Compared) (fault : Fault) → it ≡ compared (kind_number fault.kind) 0 fault.place.line → it.status ≡ 0 → P
+pub not-compared : {P : Type 0} (it : Compared) (fault : Fault) → it ≡ comparison_of (kind_number fault.kind) 0 fault.place.line → it.status ≡ 0 → P
 not-compared it fault is zero = no_text it.status fault.kind (ap (λ (c : Compared). c.status) is) (inl zero)
 
 -- 1 is told where the answer is yes, and 0 where it is no

@@ -7,13 +7,13 @@ use Rattle.life_base.specs.declared.cell.TheConstants.{MAX_LEVEL}
 use Rattle.life_base.specs.declared.fault.Fault.{Fault}
 use Rattle.life_base.specs.declared.kind.Kind.TheVariants.{Full}
 use Rattle.life_quad.specs.Keeping.{AddsOnly}
-use Rattle.life_quad.specs.Store.{Nodes, held}
+use Rattle.life_quad.specs.Store.{Nodes, stored_squares}
 use Rattle.life_canon.specs.Files.{Accepted, Reads, Refuses}
 use Rattle.life_canon.specs.Laws.{FilesAreUnique, PatternsFit, RefusalsHaveKinds}
 use Rattle.life_canon.specs.Listing.{canon_text}
 use Rattle.life_canon.specs.Needs.{IsNew, LacksFor}
 use Rattle.life_canon.specs.Room.{AddsFile, FewSquares, HoldsFile, HoldsOnly, RoomSuffices, room_for}
-use Rattle.life_canon.specs.Store.{IsRead, IsWant, RefusesIn, universe_in}
+use Rattle.life_canon.specs.Store.{IsRead, IsShortageOf, RefusesIn, universe_in}
 use Rattle.life_canon.specs.Universe.{Universe}
 use Rattle.life_canon.specs.declared.pattern.Pattern.{Pattern}
 use Rattle.life_canon.proofs.RoomCount.{found-as, find-file}
@@ -25,8 +25,8 @@ use Rattle.life_forms.specs.Needed as layer
 use Rattle.life_forms.specs.Turns.{image}
 use Rattle.library_calls.specs.Texts.{NeedsMore, SomeToRead, room_of}
 use Rattle.library_calls.specs.Comparing.{IsTooLowForBoth, SomeToReadBoth}
-use Rattle.library_calls.specs.ComparingInForm.{AreOfOneGeneration, HasTooLarge, SayRelated, RefusesEitherInForm}
-use Rattle.library_calls.specs.InForm.{form_room, HasLargeForm, IsTextMoved, IsTextTurned, RefusesInForm}
+use Rattle.library_calls.specs.ComparingInForm.{AreOfOneGeneration, OneHasFormLargerThan, AreRelatedFiles, RefusesEitherInForm}
+use Rattle.library_calls.specs.InForm.{form_room, HasFormLargerThan, IsTextMoved, IsTextTurned, RefusesFormWithin}
 use Rattle.library_calls.specs.declared.pattern_form.PatternForm.{PatternForm}
 use Rattle.library_calls.specs.declared.pattern_form.PatternForm.TheVariants.{Placed, Moved, Turned}
 use Rattle.library_calls.proofs.Answering.{not-full, tight, wanted}
@@ -71,13 +71,13 @@ turned-text fit limit bytes store pattern text room read small turned = record {
 
 -- a pattern with a large form is that of a file with one
 large-file : PatternsFit MAX_LEVEL → (limit : ℕ) (bytes : List ℕ) (store : Nodes) (pattern : Pattern) → store.limit ≡ room_of limit
-    → IsRead MAX_LEVEL bytes store pattern → layer.HasLargeForm store pattern → HasLargeForm Moved (form_room limit) bytes
+    → IsRead MAX_LEVEL bytes store pattern → layer.HasLargeForm store pattern → HasFormLargerThan Moved (form_room limit) bytes
 large-file fit limit bytes store pattern room read large =
     let u = universe_in store pattern in
     (u, reads-it fit bytes store pattern read, subst (λ (n : ℕ). HasLargerForm (min (2 ^ 21) n) u) room large)
 
 large-image : PatternsFit MAX_LEVEL → (limit : ℕ) (bytes : List ℕ) (store : Nodes) (pattern : Pattern) → store.limit ≡ room_of limit
-    → IsRead MAX_LEVEL bytes store pattern → layer.HasLargeImage store pattern → HasLargeForm Turned (form_room limit) bytes
+    → IsRead MAX_LEVEL bytes store pattern → layer.HasLargeImage store pattern → HasFormLargerThan Turned (form_room limit) bytes
 large-image fit limit bytes store pattern room read large =
     let u = universe_in store pattern in (
       u,
@@ -87,14 +87,14 @@ large-image fit limit bytes store pattern room read large =
 
 -- where the file of a pattern has one, the pattern has one
 file-large : FilesAreUnique MAX_LEVEL → PatternsFit MAX_LEVEL → (limit : ℕ) (bytes : List ℕ) (store : Nodes) (pattern : Pattern)
-    → store.limit ≡ room_of limit → IsRead MAX_LEVEL bytes store pattern → HasLargeForm Moved (form_room limit) bytes → layer.HasLargeForm store pattern
+    → store.limit ≡ room_of limit → IsRead MAX_LEVEL bytes store pattern → HasFormLargerThan Moved (form_room limit) bytes → layer.HasLargeForm store pattern
 file-large unique fit limit bytes store pattern room read large =
     let u = universe_in store pattern in
     let same = unique _ large.0 u large.1 (reads-it fit bytes store pattern read) in
     subst (λ (n : ℕ). HasLargerForm (min (2 ^ 21) n) u) (sym room) (subst (λ (v : Universe). HasLargerForm (form_room limit) v) same large.2)
 
 image-large : FilesAreUnique MAX_LEVEL → PatternsFit MAX_LEVEL → (limit : ℕ) (bytes : List ℕ) (store : Nodes) (pattern : Pattern)
-    → store.limit ≡ room_of limit → IsRead MAX_LEVEL bytes store pattern → HasLargeForm Turned (form_room limit) bytes → layer.HasLargeImage store pattern
+    → store.limit ≡ room_of limit → IsRead MAX_LEVEL bytes store pattern → HasFormLargerThan Turned (form_room limit) bytes → layer.HasLargeImage store pattern
 image-large unique fit limit bytes store pattern room read large =
     let u = universe_in store pattern in
     let turn = large.2.0 in
@@ -107,14 +107,14 @@ image-large unique fit limit bytes store pattern room read large =
 -- a pattern that isn't moved
 pub unmoved : PatternsFit MAX_LEVEL → (limit : ℕ) (bytes : List ℕ) (store : Nodes) (pattern : Pattern) (fault : Fault) → store.limit ≡ room_of limit
     → IsRead MAX_LEVEL bytes store pattern → OrMemory fault ((fault ≡ fault_of Full) × layer.HasLargeForm store pattern)
-    → RefusesInForm Moved limit bytes fault
+    → RefusesFormWithin Moved limit bytes fault
 unmoved fit limit bytes store pattern fault room read (inl memory) = inl (inr (inl memory))
 unmoved fit limit bytes store pattern fault room read (inr large) = inr (large.0, large-file fit limit bytes store pattern room read large.1)
 
 -- one that isn't turned
 pub unturned : PatternsFit MAX_LEVEL → (limit : ℕ) (bytes : List ℕ) (store : Nodes) (pattern : Pattern) (fault : Fault) → store.limit ≡ room_of limit
     → IsRead MAX_LEVEL bytes store pattern → OrMemory fault ((fault ≡ fault_of Full) × layer.HasLargeImage store pattern)
-    → RefusesInForm Turned limit bytes fault
+    → RefusesFormWithin Turned limit bytes fault
 unturned fit limit bytes store pattern fault room read (inl memory) = inl (inr (inl memory))
 unturned fit limit bytes store pattern fault room read (inr large) = inr (large.0, large-image fit limit bytes store pattern room read large.1)
 
@@ -122,7 +122,7 @@ unturned fit limit bytes store pattern fault room read (inr large) = inr (large.
 
 -- what holds of two patterns in a store exactly if a test says so holds of their files
 pub files-told : FilesAreUnique MAX_LEVEL → (IsRelated : Universe → Universe → Type 0) (first second : List ℕ) (u v : Universe) (answer : Bool)
-    → Reads MAX_LEVEL first u → Reads MAX_LEVEL second v → IsTrue answer ↔ IsRelated u v → IsTrue answer ↔ SayRelated IsRelated first second
+    → Reads MAX_LEVEL first u → Reads MAX_LEVEL second v → IsTrue answer ↔ IsRelated u v → IsTrue answer ↔ AreRelatedFiles IsRelated first second
 files-told unique IsRelated first second u v answer one_reads other_reads told = (
   λ t. record { first = u; second = v; reads_first = one_reads; reads_second = other_reads; related = told.0 t },
   λ are. told.1
@@ -132,7 +132,7 @@ files-told unique IsRelated first second u v answer one_reads other_reads told =
 
 -- a store that is full has as many squares as its limit
 full-has : RefusalsHaveKinds MAX_LEVEL → (bytes : List ℕ) (store : Nodes) (fault : Fault) → RefusesIn MAX_LEVEL bytes store fault → fault ≡ fault_of Full
-    → length (held store) ≡ store.limit
+    → length (stored_squares store) ≡ store.limit
 full-has kinds bytes store fault (inl refuses) full =
     let line : fault.place.line ≡ 0 = ap (λ (f : Fault). f.place.line) full in
     let least = (kinds (lines_of bytes) fault refuses).1 in
@@ -141,8 +141,8 @@ full-has kinds bytes store fault (inr (inl memory)) full = not-full fault memory
 full-has kinds bytes store fault (inr (inr stored)) full = stored.1
 
 -- the first of two files needs more than a store that was empty may hold
-pub first-low : RefusalsHaveKinds MAX_LEVEL → (first second : List ℕ) (old new : Nodes) (fault : Fault) → held old ≡ [] → HoldsOnce new
-    → AddsFile first old new → new.limit ≡ old.limit → LacksFor MAX_LEVEL first new → old.limit < length (held old) + room_for (length first)
+pub first-low : RefusalsHaveKinds MAX_LEVEL → (first second : List ℕ) (old new : Nodes) (fault : Fault) → stored_squares old ≡ [] → HoldsOnce new
+    → AddsFile first old new → new.limit ≡ old.limit → LacksFor MAX_LEVEL first new → old.limit < length (stored_squares old) + room_for (length first)
     → RefusesIn MAX_LEVEL first new fault → fault ≡ fault_of Full → IsTooLowForBoth first second new.limit
 first-low kinds first second old new fault empty once adds same lacks low why full =
     let alone = tight (room_for (length first)) old new empty same low in
@@ -153,13 +153,13 @@ first-low kinds first second old new fault empty once adds same lacks low why fu
     )
 
 -- what the first needs is needed to read both
-pub first-read : (first second : List ℕ) (old new : Nodes) → AddsFile first old new → AddsOnly held (SomeToReadBoth first second) old new
+pub first-read : (first second : List ℕ) (old new : Nodes) → AddsFile first old new → AddsOnly stored_squares (SomeToReadBoth first second) old new
 first-read first second old new adds =
     record { each = λ t there. elim (adds.each t there) [ inl before ↦ inl before | inr own ↦ inr (inl own) ] }
 
 -- what the two need that were read into a store that was empty, one after the other
 pub read-both : (first second : List ℕ) (old mid new : Nodes) → AddsFile first old mid → AddsFile second mid new
-    → AddsOnly held (SomeToReadBoth first second) old new
+    → AddsOnly stored_squares (SomeToReadBoth first second) old new
 read-both first second old mid new one other =
     record {
       each = λ t there. elim (other.each t there) [
@@ -169,7 +169,8 @@ read-both first second old mid new one other =
     }
 
 -- so may the second, with the first
-pub second-low : RefusalsHaveKinds MAX_LEVEL → FewSquares → RoomSuffices → (first second : List ℕ) (old mid new : Nodes) (fault : Fault) → held old ≡ []
+pub second-low : RefusalsHaveKinds MAX_LEVEL → FewSquares → RoomSuffices → (first second : List ℕ) (old mid new : Nodes) (fault : Fault) → stored_squares old
+    ≡ []
     → HoldsOnce new → Accepted MAX_LEVEL first → AddsFile first old mid → AddsFile second mid new
     → LacksFor MAX_LEVEL second new → RefusesIn MAX_LEVEL second new fault → fault ≡ fault_of Full → IsTooLowForBoth first second new.limit
 second-low kinds few suffices first second old mid new fault empty once accepted one other lacks why full =
@@ -186,15 +187,16 @@ second-low kinds few suffices first second old mid new fault empty once accepted
     (inr (accepted, more-than-held (SomeToReadBoth first second) new once needed lack at), omega (arith, less, most, at))
 
 -- the two are read into a store that holds all that they need
-pub both-fit : (first second : List ℕ) (mid new : Nodes) (pattern : Pattern) → IsRead MAX_LEVEL second new pattern → HoldsFile first (held mid)
-    → ((t : Tree) → Contains (held mid) t → Contains (held new) t) → HoldsFile second (held new) → ¬ NeedsMore (SomeToReadBoth first second) new.limit
+pub both-fit : (first second : List ℕ) (mid new : Nodes) (pattern : Pattern) → IsRead MAX_LEVEL second new pattern → HoldsFile first (stored_squares mid)
+    → ((t : Tree) → Contains (stored_squares mid) t → Contains (stored_squares new) t) → HoldsFile second (stored_squares new)
+    → ¬ NeedsMore (SomeToReadBoth first second) new.limit
 both-fit first second mid new pattern read one stay other =
     enough (SomeToReadBoth first second) new read.is.known.1
     (λ t live needed. elim needed [ inl s ↦ stay t (one t live s) | inr s ↦ other t live s ])
 
 -- one of two files isn't read, or room or memory is wanted for it
 pub either-unread : (form : PatternForm) (limit : ℕ) (first second : List ℕ) (store : Nodes) (fault : Fault) → store.limit ≡ room_of limit
-    → Refuses MAX_LEVEL first fault ⊎ (Accepted MAX_LEVEL first × Refuses MAX_LEVEL second fault) ⊎ IsWant store fault
+    → Refuses MAX_LEVEL first fault ⊎ (Accepted MAX_LEVEL first × Refuses MAX_LEVEL second fault) ⊎ IsShortageOf store fault
     → (fault ≡ fault_of Full → IsTooLowForBoth first second store.limit) → RefusesEitherInForm form limit first second fault
 either-unread Placed limit first second store fault room (inl refuses) low = inl refuses
 either-unread Placed limit first second store fault room (inr (inl refuses)) low = inr (inl refuses)
@@ -211,7 +213,7 @@ either-unread Turned limit first second store fault room (inr (inr want)) low =
 
 -- two files are of one generation exactly if their patterns are
 of-one-generation : PatternsFit MAX_LEVEL → (first second : List ℕ) (store : Nodes) (a b : Pattern) → IsRead MAX_LEVEL first store a
-    → IsRead MAX_LEVEL second store b → a.generation ≡ b.generation → SayRelated AreOfOneGeneration first second
+    → IsRead MAX_LEVEL second store b → a.generation ≡ b.generation → AreRelatedFiles AreOfOneGeneration first second
 of-one-generation fit first second store a b read other is = record {
   first = universe_in store a;
   second = universe_in store b;
@@ -221,7 +223,7 @@ of-one-generation fit first second store a b read other is = record {
 }
 
 one-generation : FilesAreUnique MAX_LEVEL → PatternsFit MAX_LEVEL → (first second : List ℕ) (store : Nodes) (a b : Pattern)
-    → IsRead MAX_LEVEL first store a → IsRead MAX_LEVEL second store b → SayRelated AreOfOneGeneration first second → a.generation ≡ b.generation
+    → IsRead MAX_LEVEL first store a → IsRead MAX_LEVEL second store b → AreRelatedFiles AreOfOneGeneration first second → a.generation ≡ b.generation
 one-generation unique fit first second store a b read other are =
     let u = unique _ are.first (universe_in store a) are.reads_first (reads-it fit first store a read) in
     let v = unique _ are.second (universe_in store b) are.reads_second (reads-it fit second store b other) in
@@ -230,7 +232,7 @@ one-generation unique fit first second store a b read other are =
 -- two patterns that were compared, moved, have forms that aren't too large
 pub small-moved : FilesAreUnique MAX_LEVEL → PatternsFit MAX_LEVEL → (limit : ℕ) (first second : List ℕ) (store : Nodes) (a b : Pattern)
     → store.limit ≡ room_of limit → IsRead MAX_LEVEL first store a → IsRead MAX_LEVEL second store b
-    → (¬ layer.HasLargeForm store a) × (¬ layer.HasLargeForm store b) → ¬ HasTooLarge Moved (form_room limit) first second
+    → (¬ layer.HasLargeForm store a) × (¬ layer.HasLargeForm store b) → ¬ OneHasFormLargerThan Moved (form_room limit) first second
 small-moved unique fit limit first second store a b room read other small = λ large. elim large.2 [
   | inl it ↦ small.0 (file-large unique fit limit first store a room read it)
   | inr it ↦ small.1 (file-large unique fit limit second store b room other it)
@@ -240,7 +242,7 @@ small-moved unique fit limit first second store a b room read other small = λ l
 pub small-turned : FilesAreUnique MAX_LEVEL → PatternsFit MAX_LEVEL → (limit : ℕ) (first second : List ℕ) (store : Nodes) (a b : Pattern)
     → store.limit ≡ room_of limit → IsRead MAX_LEVEL first store a → IsRead MAX_LEVEL second store b
     → (a.generation ≡ b.generation → (¬ layer.HasLargeImage store a) × (¬ layer.HasLargeImage store b))
-    → ¬ HasTooLarge Turned (form_room limit) first second
+    → ¬ OneHasFormLargerThan Turned (form_room limit) first second
 small-turned unique fit limit first second store a b room read other small = λ large.
     let both = small (one-generation unique fit first second store a b read other large.0) in
     elim large.1 [

@@ -13,7 +13,7 @@ use Rattle.life_base.specs.declared.cell.TheConstants.{MAX_LEVEL}
 use Rattle.life_base.specs.declared.fault.Fault.{Fault}
 use Rattle.life_base.specs.declared.kind.Kind.TheVariants.{Full}
 use Rattle.life_quad.specs.Keeping.{AddsOnly}
-use Rattle.life_quad.specs.Store.{Nodes, IsShared, content, held, id_of}
+use Rattle.life_quad.specs.Store.{Nodes, IsShared, content, stored_squares, id_of}
 use Rattle.life_canon.specs.Calls.{EndsInto, FeedsInto, ReadsInto}
 use Rattle.life_canon.specs.Needs.{IsNew, LacksFor}
 use Rattle.life_canon.specs.Room.{HoldsFile, AddsFile, HoldsFront, HoldsOnly, room_for}
@@ -30,7 +30,7 @@ use Rattle.library_calls.proofs.Answering.{tight, tight-alone}
 
 -- one that held needed squares alone
 pub from-needed : (Before Added Needs : (Tree → Type 0) → Type 0) (old new : Nodes) → ((P : Tree → Type 0) → Before P → Needs P)
-    → ((P : Tree → Type 0) → Added P → Needs P) → HoldsNeeded Before old → AddsOnly held Added old new → HoldsNeeded Needs new
+    → ((P : Tree → Type 0) → Added P → Needs P) → HoldsNeeded Before old → AddsOnly stored_squares Added old new → HoldsNeeded Needs new
 from-needed Before Added Needs old new f g before adds t there = elim (adds.each t there) [
   | inl it ↦ f _ (before t it)
   | inr it ↦ g _ it
@@ -66,12 +66,12 @@ where-ok (Err fault) p = tt
 
 -- where a file is read
 pub too-low : (bytes : List ℕ) (store : Nodes) → HoldsOnce store → HoldsNeeded (SomeToRead bytes) store → LacksFor MAX_LEVEL bytes store
-    → store.limit < room_for (length bytes) → length (held store) ≡ store.limit → IsTooLowFor bytes store.limit
+    → store.limit < room_for (length bytes) → length (stored_squares store) ≡ store.limit → IsTooLowFor bytes store.limit
 too-low bytes store once needed lacks low full =
     (more-than-held (SomeToRead bytes) store once needed (find-file (IsNew store) (lines_of bytes) lacks) full, low)
 
-pub file-low : {A : Type 0} (bytes : List ℕ) (old new : Nodes) (result : Result A Fault) (fault : Fault) → result ≡ Err fault → held old ≡ []
-    → HoldsOnce new → ReadsInto bytes old new result → fault ≡ fault_of Full → length (held new) ≡ new.limit → IsTooLowFor bytes new.limit
+pub file-low : {A : Type 0} (bytes : List ℕ) (old new : Nodes) (result : Result A Fault) (fault : Fault) → result ≡ Err fault → stored_squares old ≡ []
+    → HoldsOnce new → ReadsInto bytes old new result → fault ≡ fault_of Full → length (stored_squares new) ≡ new.limit → IsTooLowFor bytes new.limit
 file-low {A} bytes old new result fault was empty once reads full at =
     let is : result ≡ Err (fault_of Full) = was ∙ ap (λ (f : Fault). Err f) full in
     too-low bytes new once (from-empty (SomeToRead bytes) old new empty reads.adds) (reads.needed is)
@@ -79,7 +79,7 @@ file-low {A} bytes old new result fault was empty once reads full at =
 
 -- at the end of one that came in pieces
 pub end-low : {A : Type 0} (bytes : List ℕ) (old new : Nodes) (result : Result A Fault) (fault : Fault) → result ≡ Err fault → HoldsOnly [] bytes old
-    → HoldsOnce new → EndsInto bytes old new result → fault ≡ fault_of Full → length (held new) ≡ new.limit → IsTooLowFor bytes new.limit
+    → HoldsOnce new → EndsInto bytes old new result → fault ≡ fault_of Full → length (stored_squares new) ≡ new.limit → IsTooLowFor bytes new.limit
 end-low {A} bytes old new result fault was only once ends full at =
     let is : result ≡ Err (fault_of Full) = was ∙ ap (λ (f : Fault). Err f) full in
     too-low bytes new once (only-needed bytes new (only-more bytes old new only ends.adds)) (ends.needed is)
@@ -88,7 +88,7 @@ end-low {A} bytes old new result fault was only once ends full at =
 -- with a piece
 pub piece-low : {A : Type 0} (before piece : List ℕ) (old new : Nodes) (result : Result A Fault) (fault : Fault) → result ≡ Err fault
     → HoldsFront [] before old → HoldsFront [] (before ++ piece) new → HoldsOnce new → FeedsInto before piece old new result
-    → fault ≡ fault_of Full → length (held new) ≡ new.limit → IsTooLowForFront (before ++ piece) new.limit
+    → fault ≡ fault_of Full → length (stored_squares new) ≡ new.limit → IsTooLowForFront (before ++ piece) new.limit
 piece-low {A} before piece old new result fault was front only once feeds full at =
     let is : result ≡ Err (fault_of Full) = was ∙ ap (λ (f : Fault). Err f) full in
     let bytes = before ++ piece in
@@ -100,7 +100,7 @@ piece-low {A} before piece old new result fault was front only once feeds full a
 
 -- ---- a file that was read
 
-pub file-fits : (bytes : List ℕ) (limit : ℕ) (store : Nodes) (pattern : Pattern) → IsRead MAX_LEVEL bytes store pattern → HoldsFile bytes (held store)
+pub file-fits : (bytes : List ℕ) (limit : ℕ) (store : Nodes) (pattern : Pattern) → IsRead MAX_LEVEL bytes store pattern → HoldsFile bytes (stored_squares store)
     → store.limit ≡ room_of limit → Fits (SomeToRead bytes) limit
 file-fits bytes limit store pattern read all is =
     subst (λ (most : ℕ). ¬ NeedsMore (SomeToRead bytes) most) is (enough (SomeToRead bytes) store read.is.known.1 all)

@@ -24,7 +24,7 @@ pub use types.Run.{enter, of_opd, and_then, no_more, returns}
 pub use Rattle.std.proofs.raw_atomic.Walks.{proved}
 pub use Rattle.std.specs.Prelude.{Some}
 pub use Rattle.std.specs.contracts.impls.GlobalAllocator.TheImpl.{ghosts, dict}
-pub use Rattle.library_calls.specs.Owning.{owned}
+pub use Rattle.library_calls.specs.Owning.{owned_session}
 use seplogic.Ra.Ura.{Ura}
 use base.Fml.{flft}
 use base.Logic.{emp}
@@ -107,7 +107,7 @@ called 𝓛 E c = triple_of 𝓛 E.signature (closing 𝓛 E c)
 
 module _ {M : Type 1} {𝓤 : Ura M} {𝓛 : Logic 𝓤} {K : Type 0} {Γ : List (Item 𝓤)} {G : Goal 𝓤 𝓛.H} where
   pub holds : K → (at : Ptr) (session : Option Session)
-      → Step K 𝓛 (‵ (the_row.own_val (record { at = at; session = session }) (word at ∷ [])) ∷ Γ) G (‵ (owned at session) ∷ Γ) G
+      → Step K 𝓛 (‵ (the_row.own_val (record { at = at; session = session }) (word at ∷ [])) ∷ Γ) G (‵ (owned_session at session) ∷ Γ) G
   holds t at session = step (λ rest. let fields = Struct (shape the_type) in
       made_of_facts t fields (Is fields) (Struct-Makes 𝓛 (shape the_type) (rawptr_pure, tt)) (at, tt) (word at ∷ [])
       ((ptr_val at ∷ [], tt), (refl, (refl, tt))) $ fjoin t $ rest)

@@ -5,12 +5,12 @@ use Rattle.life_base.specs.Refusal.{fault_of}
 use Rattle.life_base.specs.declared.cell.TheConstants.{MAX_LEVEL}
 use Rattle.life_base.specs.declared.fault.Fault.{Fault}
 use Rattle.life_base.specs.declared.kind.Kind.TheVariants.{Full}
-use Rattle.life_quad.specs.Store.{Nodes, held}
+use Rattle.life_quad.specs.Store.{Nodes, stored_squares}
 use Rattle.life_canon.specs.Feeding.{RefusesFront}
-use Rattle.life_canon.specs.Store.{IsWant}
+use Rattle.life_canon.specs.Store.{IsShortageOf}
 use Rattle.library_calls.specs.Texts.{Fits, SomeToRead, room_of}
-use Rattle.library_calls.specs.Outputs.{Piecewise, IsTextOf, IsTooLowForFront, RefusesTextOf, RefusesPiece}
-use Rattle.library_calls.specs.Streams.{IsFed, HasText, HasFault, by_piece, by_text, StaysEnded, Feeds, Finishes}
+use Rattle.library_calls.specs.Outputs.{Piecewise, IsOutputText, IsTooLowForFront, RefusesTextOf, RefusesPiece}
+use Rattle.library_calls.specs.Streams.{IsFed, SessionHasText, HasFault, by_piece, by_text, StaysEnded, Feeds, Finishes}
 use Rattle.library_calls.specs.Streams as streams
 use Rattle.library_calls.specs.declared.texts.Output.{Output}
 use Rattle.library_calls.specs.declared.session.Session.{Session}
@@ -19,8 +19,8 @@ use Rattle.library_calls.proofs.Answering.{wanted}
 
 -- why a piece is refused
 pub piece-fault : (limit : ℕ) (bytes : List ℕ) (store : Nodes) (fault : Fault) → store.limit ≡ room_of limit
-    → IsWant store fault ⊎ RefusesFront MAX_LEVEL bytes fault
-    → (fault ≡ fault_of Full → length (held store) ≡ store.limit → IsTooLowForFront bytes store.limit) → RefusesPiece limit bytes fault
+    → IsShortageOf store fault ⊎ RefusesFront MAX_LEVEL bytes fault
+    → (fault ≡ fault_of Full → length (stored_squares store) ≡ store.limit → IsTooLowForFront bytes store.limit) → RefusesPiece limit bytes fault
 piece-fault limit bytes store fault is (inl want) low = inr (wanted (IsTooLowForFront bytes) limit store fault is want low)
 piece-fault limit bytes store fault is (inr front) low = inl front
 
@@ -29,7 +29,7 @@ piece-fault limit bytes store fault is (inr front) low = inl front
 -- a session that is read has no text and no fault
 none-yet : (session : Session) (feeding : Piecewise) (new : Option Session) → session ≡ Reading feeding → StaysEnded (Some session) new
 none-yet session feeding new is =
-    record { text = λ text has. absurd (subst (HasText text) is has); fault = λ fault has. absurd (subst (HasFault fault) is has) }
+    record { text = λ text has. absurd (subst (SessionHasText text) is has); fault = λ fault has. absurd (subst (HasFault fault) is has) }
 
 -- a piece that is taken
 pub feeds-piece : (piece : List ℕ) (session : Session) (feeding next : Piecewise) → session ≡ Reading feeding
@@ -56,12 +56,12 @@ feeds-fault piece session feeding fault is why = record {
 
 -- the text of the end
 pub ends-text : (session : Session) (feeding : Piecewise) (text : Vec ℕ) → session ≡ Reading feeding
-    → ((limit : ℕ) → feeding.room ≡ room_of limit → IsTextOf feeding.output limit feeding.bytes text.items)
+    → ((limit : ℕ) → feeding.room ≡ room_of limit → IsOutputText feeding.output limit feeding.bytes text.items)
     → ((limit : ℕ) → feeding.room ≡ room_of limit → Fits (SomeToRead feeding.bytes) limit) → Finishes (Some session) (Some (Written text))
 ends-text session feeding text is good fits = record {
   ends = λ output limit bytes fed. let f = subst (IsFed output limit bytes) is fed in
-      by_text text.items refl (subst (λ b. IsTextOf output limit b text.items) f.2
-      (subst (λ k. IsTextOf k limit feeding.bytes text.items) f.0 (good limit f.1)))
+      by_text text.items refl (subst (λ b. IsOutputText output limit b text.items) f.2
+      (subst (λ k. IsOutputText k limit feeding.bytes text.items) f.0 (good limit f.1)))
       (subst (λ b. Fits (SomeToRead b) limit) f.2 (fits limit f.1));
   stays = none-yet session feeding _ is;
 }

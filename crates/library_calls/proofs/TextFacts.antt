@@ -10,24 +10,24 @@ use Rattle.life_base.specs.declared.rule.Rule.{Rule}
 use Rattle.life_mc.specs.Macrocell.{largest_state}
 use Rattle.life_mc.specs.Reading.{IsMacrocell}
 use Rattle.life_quad.specs.Keeping.{AddsOnly}
-use Rattle.life_quad.specs.Store.{Nodes, held}
+use Rattle.life_quad.specs.Store.{Nodes, stored_squares}
 use Rattle.life_canon.specs.Files.{Reads}
 use Rattle.life_canon.specs.Laws.{PatternsFit, FilesAreOnPlane, TextsTellUniverses, TextsAreFiles, CanonicalIsLeast}
 use Rattle.life_canon.specs.Listing.{canonical_file, canon_text}
 use Rattle.life_canon.specs.Needs.{IsNew}
 use Rattle.life_canon.specs.Room.{HoldsOnly}
-use Rattle.life_canon.specs.Store.{IsRead, IsWant, RefusesIn, content, universe_in}
-use Rattle.life_canon.specs.Texts.{HasMoreCells}
+use Rattle.life_canon.specs.Store.{IsRead, IsShortageOf, RefusesIn, content, universe_in}
+use Rattle.life_canon.specs.Texts.{FileHasMoreCells}
 use Rattle.life_canon.specs.Universe.{Universe, IsSame, IsOnPlane, whole}
 use Rattle.life_canon.specs.declared.pattern.Pattern.{Pattern}
 use Rattle.life_canon.proofs.RoomCount.{Found, found-as}
 use Rattle.life_table.specs.declared.table.Table.{Table}
 use Rattle.life_step.specs.Refusals.{LacksForLife, LacksForTable, LifeRefusal, SomeByRule, SomeByTable, SomeOfStep, SomeOfStepBy, TableRefusal}
-use Rattle.library_calls.specs.Texts.{IsCanonicalText, IsTooLowFor, NeedsMore, SomeToRead, room_of}
-use Rattle.library_calls.specs.Outputs.{IsTextOf, IsTextOfRead, RefusesTextOf, RefusesTextOfRead, text_in}
-use Rattle.library_calls.specs.InForm.{IsTextInForm, RefusesInForm}
+use Rattle.library_calls.specs.Texts.{IsLeastCanonicalText, IsTooLowFor, NeedsMore, SomeToRead, room_of}
+use Rattle.library_calls.specs.Outputs.{IsOutputText, IsTextOfRead, RefusesTextOf, RefusesTextOfRead, text_in}
+use Rattle.library_calls.specs.InForm.{IsTextInForm, RefusesFormWithin}
 use Rattle.library_calls.specs.Stepping.{RefusesStepByWithin}
-use Rattle.library_calls.specs.Told.{Told, Answers}
+use Rattle.library_calls.specs.Told.{Told, Returns}
 use Rattle.library_calls.specs.declared.texts.Output.{Output}
 use Rattle.library_calls.specs.declared.texts.Output.TheVariants.{Canonical, Rle, Lines, Next, Moved, Turned}
 use Rattle.library_calls.specs.declared.pattern_form.PatternForm.{PatternForm}
@@ -49,7 +49,7 @@ moved u v same on = record {
 -- the canonical text of what the store holds is that of the bytes, and the least
 pub canonical : PatternsFit MAX_LEVEL → FilesAreOnPlane MAX_LEVEL → TextsTellUniverses MAX_LEVEL → TextsAreFiles MAX_LEVEL
     → CanonicalIsLeast MAX_LEVEL → (bytes : List ℕ) (store : Nodes) (pattern : Pattern) (text : List ℕ)
-    → text ≡ canon_text MAX_LEVEL (universe_in store pattern) → IsRead MAX_LEVEL bytes store pattern → IsCanonicalText bytes text
+    → text ≡ canon_text MAX_LEVEL (universe_in store pattern) → IsRead MAX_LEVEL bytes store pattern → IsLeastCanonicalText bytes text
 canonical fit plane tell files least bytes store pattern text is read =
     let u = read.universe in
     let v = universe_in store pattern in
@@ -71,7 +71,7 @@ canonical fit plane tell files least bytes store pattern text is read =
 
 -- why a file is refused at its end, or room or memory wanted
 pub text-fault : (output : Output) (limit : ℕ) (bytes : List ℕ) (store : Nodes) (fault : Fault) → store.limit ≡ room_of limit
-    → RefusesIn MAX_LEVEL bytes store fault → (fault ≡ fault_of Full → length (held store) ≡ store.limit → IsTooLowFor bytes store.limit)
+    → RefusesIn MAX_LEVEL bytes store fault → (fault ≡ fault_of Full → length (stored_squares store) ≡ store.limit → IsTooLowFor bytes store.limit)
     → RefusesTextOf output limit bytes fault
 text-fault Canonical limit bytes store fault is (inl refuses) low = inl refuses
 text-fault Canonical limit bytes store fault is (inr want) low = inr (wanted (IsTooLowFor bytes) limit store fault is want low)
@@ -105,21 +105,21 @@ pub of-fault : {X : Type 0} {output that : Output} (store : Nodes) (pattern : Pa
 of-fault store pattern r is why = subst (λ (f : Output). IfErr r (RefusesTextOfRead f store pattern)) (sym is) why
 
 -- the text of a pattern in a form is that of its output
-pub in-form : (output : PatternForm) (limit : ℕ) (bytes text : List ℕ) → IsTextOf (text_in output) limit bytes text → IsTextInForm output limit bytes text
+pub in-form : (output : PatternForm) (limit : ℕ) (bytes text : List ℕ) → IsOutputText (text_in output) limit bytes text → IsTextInForm output limit bytes text
 in-form forms.Placed limit bytes text is = is
 in-form forms.Moved limit bytes text is = is
 in-form forms.Turned limit bytes text is = is
 
 -- so is its refusal
 pub refused-in-form : (output : PatternForm) (limit : ℕ) (bytes : List ℕ) (fault : Fault) → RefusesTextOf (text_in output) limit bytes fault
-    → RefusesInForm output limit bytes fault
+    → RefusesFormWithin output limit bytes fault
 refused-in-form forms.Placed limit bytes fault why = why
 refused-in-form forms.Moved limit bytes fault why = why
 refused-in-form forms.Turned limit bytes fault why = why
 
 pub answers-in-form : (output : PatternForm) (limit : ℕ) (bytes before after : List ℕ) (it : Told)
-    → Answers (IsTextOf (text_in output) limit bytes) (RefusesTextOf (text_in output) limit bytes) before after it
-    → Answers (IsTextInForm output limit bytes) (RefusesInForm output limit bytes) before after it
+    → Returns (IsOutputText (text_in output) limit bytes) (RefusesTextOf (text_in output) limit bytes) before after it
+    → Returns (IsTextInForm output limit bytes) (RefusesFormWithin output limit bytes) before after it
 answers-in-form forms.Placed limit bytes before after it answers = answers
 answers-in-form forms.Moved limit bytes before after it answers = answers
 answers-in-form forms.Turned limit bytes before after it answers = answers
@@ -127,7 +127,7 @@ answers-in-form forms.Turned limit bytes before after it answers = answers
 -- the same of a text in extended RLE, which may have too many cells
 pub rle-fault : (limit : ℕ) (bytes : List ℕ) (store : Nodes) (pattern : Pattern) (fault : Fault) → IsRead MAX_LEVEL bytes store pattern
     → (fault ≡ fault_of Memory) ⊎ ((fault ≡ fault_of TooManyCells)
-    × ((bytes : List ℕ) → IsRead MAX_LEVEL bytes store pattern → HasMoreCells MAX_LEVEL bytes (2 ^ 20)))
+    × ((bytes : List ℕ) → IsRead MAX_LEVEL bytes store pattern → FileHasMoreCells MAX_LEVEL bytes (2 ^ 20)))
     → RefusesTextOf Rle limit bytes fault
 rle-fault limit bytes store pattern fault read (inl memory) = inl (inr (inl memory))
 rle-fault limit bytes store pattern fault read (inr many) = inr (many.0, many.1 bytes read)
@@ -136,8 +136,8 @@ rle-fault limit bytes store pattern fault read (inr many) = inr (many.0, many.1 
 
 -- The same of a step, which may be refused. `Of` says of a property that a square has it which the step needs of a root under a rule.
 step-low : (Of : (Tree → Type 0) → Rule → Tree → Type 0) (bytes : List ℕ) (old store : Nodes) (pattern : Pattern) → IsRead MAX_LEVEL bytes old pattern
-    → HoldsOnly [] bytes old → HoldsOnce store → AddsOnly held (λ P. Of P pattern.rule (content old pattern.root)) old store
-    → Found (IsNew store) (λ P. Of P pattern.rule (content old pattern.root)) → length (held store) ≡ store.limit
+    → HoldsOnly [] bytes old → HoldsOnce store → AddsOnly stored_squares (λ P. Of P pattern.rule (content old pattern.root)) old store
+    → Found (IsNew store) (λ P. Of P pattern.rule (content old pattern.root)) → length (stored_squares store) ≡ store.limit
     → NeedsMore (λ P. SomeToRead bytes P ⊎ ((u : Universe) × Reads MAX_LEVEL bytes u × Of P u.rule (whole MAX_LEVEL u))) store.limit
 step-low Of bytes old store pattern read only once adds lack at =
     let Needs = λ (P : Tree → Type 0). SomeToRead bytes P ⊎ ((u : Universe) × Reads MAX_LEVEL bytes u × Of P u.rule (whole MAX_LEVEL u)) in
@@ -149,8 +149,8 @@ step-low Of bytes old store pattern read only once adds lack at =
 
 pub next-fault : (limit : ℕ) (bytes : List ℕ) (old store : Nodes) (pattern : Pattern) (fault : Fault) → store.limit ≡ room_of limit
     → IsRead MAX_LEVEL bytes old pattern → HoldsOnly [] bytes old → HoldsOnce store
-    → AddsOnly held (λ P. SomeByRule P pattern.rule (content old pattern.root)) old store
-    → IsWant store fault ⊎ ((bytes : List ℕ) → IsRead MAX_LEVEL bytes old pattern → (u : Universe) × Reads MAX_LEVEL bytes u
+    → AddsOnly stored_squares (λ P. SomeByRule P pattern.rule (content old pattern.root)) old store
+    → IsShortageOf store fault ⊎ ((bytes : List ℕ) → IsRead MAX_LEVEL bytes old pattern → (u : Universe) × Reads MAX_LEVEL bytes u
     × LifeRefusal MAX_LEVEL u (Some fault))
     → (fault ≡ fault_of Full → LacksForLife pattern.rule (content old pattern.root) store) → RefusesTextOf Next limit bytes fault
 next-fault limit bytes old store pattern fault is read only once adds (inl want) lacks =
@@ -160,8 +160,8 @@ next-fault limit bytes old store pattern fault is read only once adds (inr step)
 
 pub next-by-fault : (table : Table) (limit : ℕ) (bytes : List ℕ) (old store : Nodes) (pattern : Pattern) (fault : Fault) → store.limit ≡ room_of limit
     → IsRead MAX_LEVEL bytes old pattern → HoldsOnly [] bytes old → HoldsOnce store
-    → AddsOnly held (λ P. SomeByTable P table pattern.rule (content old pattern.root)) old store
-    → IsWant store fault ⊎ ((bytes : List ℕ) → IsRead MAX_LEVEL bytes old pattern → (u : Universe) × Reads MAX_LEVEL bytes u
+    → AddsOnly stored_squares (λ P. SomeByTable P table pattern.rule (content old pattern.root)) old store
+    → IsShortageOf store fault ⊎ ((bytes : List ℕ) → IsRead MAX_LEVEL bytes old pattern → (u : Universe) × Reads MAX_LEVEL bytes u
     × TableRefusal MAX_LEVEL table u (Some fault))
     → (fault ≡ fault_of Full → LacksForTable table pattern.rule (content old pattern.root) store) → RefusesStepByWithin table limit bytes fault
 next-by-fault table limit bytes old store pattern fault is read only once adds (inl want) lacks =
@@ -171,7 +171,7 @@ next-by-fault table limit bytes old store pattern fault is read only once adds (
 
 -- why a file isn't read that is to be stepped by a table
 pub unread-by : (table : Table) (limit : ℕ) (bytes : List ℕ) (store : Nodes) (fault : Fault) → store.limit ≡ room_of limit
-    → RefusesIn MAX_LEVEL bytes store fault → (fault ≡ fault_of Full → length (held store) ≡ store.limit → IsTooLowFor bytes store.limit)
+    → RefusesIn MAX_LEVEL bytes store fault → (fault ≡ fault_of Full → length (stored_squares store) ≡ store.limit → IsTooLowFor bytes store.limit)
     → RefusesStepByWithin table limit bytes fault
 unread-by table limit bytes store fault is (inl refuses) low = inl refuses
 unread-by table limit bytes store fault is (inr want) low =

@@ -6,12 +6,12 @@ use Rattle.life_base.specs.declared.cell.TheConstants.{MAX_LEVEL}
 use Rattle.life_base.specs.declared.fault.Fault.{Fault}
 use Rattle.life_canon.specs.Files.{Accepted, Same, Refuses}
 use Rattle.life_canon.specs.Room.{room_for}
-use Rattle.library_calls.specs.Texts.{NeedsMore, SomeToRead, Wants}
+use Rattle.library_calls.specs.Texts.{NeedsMore, SomeToRead, IsLimitShortage}
 pub use Rattle.library_calls.specs.declared.compared.Compared.{Compared}
 
 -- the status and the numbers that are told
-abbrev pub compared : (status is_same line : ℕ) → Compared
-compared status is_same line = record { status = status; is_same = is_same; line = line }
+abbrev pub comparison_of : (status is_same line : ℕ) → Compared
+comparison_of status is_same line = record { status = status; is_same = is_same; line = line }
 
 -- 1 where the files are one pattern, and 0 where they aren't
 abbrev pub IsAnswerOf : List ℕ → List ℕ → ℕ → Type 0
@@ -31,7 +31,7 @@ IsTooLowForBoth first second most =
 abbrev pub RefusesEither : ℕ → List ℕ → List ℕ → Fault → Type 0
 RefusesEither limit first second fault =
     Refuses MAX_LEVEL first fault ⊎ (Accepted MAX_LEVEL first × Refuses MAX_LEVEL second fault)
-    ⊎ Wants (IsTooLowForBoth first second) limit fault
+    ⊎ IsLimitShortage (IsTooLowForBoth first second) limit fault
 
 -- both are files, and the answer is told; or the fault that keeps it from being found
 pub data ComparesWithin (limit : ℕ) (first second : List ℕ) (told : Compared) : Type 0 where

@@ -9,12 +9,13 @@ use Rattle.life_canon.specs.Files.{Accepted, Reads, Same}
 use Rattle.life_canon.specs.Universe.{Universe}
 use Rattle.life_forms.specs.Forms.{IsShift, IsTurnedShift}
 use Rattle.library_calls.specs.Comparing.{Compared, RefusesEither}
-use Rattle.library_calls.specs.InForm.{form_room, HasLargeForm}
+use Rattle.library_calls.specs.InForm.{form_room, HasFormLargerThan}
 use Rattle.library_calls.specs.declared.pattern_form.PatternForm.{PatternForm}
 use Rattle.library_calls.specs.declared.pattern_form.PatternForm.TheVariants.{Placed, Moved, Turned}
+pub use Rattle.life_canon.specs.Universe.{AreOfOneGeneration}
 
 -- both are files, and the patterns that they say are related so
-pub record SayRelated (IsRelated : Universe → Universe → Type 0) (a b : List ℕ) : Type 0 where
+pub record AreRelatedFiles (IsRelated : Universe → Universe → Type 0) (a b : List ℕ) : Type 0 where
   pub first : Universe
   pub second : Universe
   pub reads_first : Reads MAX_LEVEL a first
@@ -24,33 +25,29 @@ pub record SayRelated (IsRelated : Universe → Universe → Type 0) (a b : List
 -- both are files of one pattern in this form: the same; a shift of each other; or a shift behind one of the eight turns and reflections
 abbrev pub AreOneInForm : PatternForm → List ℕ → List ℕ → Type 0
 AreOneInForm Placed = Same MAX_LEVEL
-AreOneInForm Moved = SayRelated IsShift
-AreOneInForm Turned = SayRelated IsTurnedShift
-
--- two patterns are of one generation
-abbrev pub AreOfOneGeneration : Universe → Universe → Type 0
-AreOfOneGeneration u v = u.generation ≡ v.generation
+AreOneInForm Moved = AreRelatedFiles IsShift
+AreOneInForm Turned = AreRelatedFiles IsTurnedShift
 
 -- both are files, turned of one generation, and one of them has a form with more different squares than this
-abbrev pub HasTooLarge : PatternForm → ℕ → List ℕ → List ℕ → Type 0
-HasTooLarge Placed most first second = ⊥
-HasTooLarge Moved most first second =
-    Accepted MAX_LEVEL first × Accepted MAX_LEVEL second × (HasLargeForm Moved most first ⊎ HasLargeForm Moved most second)
-HasTooLarge Turned most first second =
-    SayRelated AreOfOneGeneration first second × (HasLargeForm Turned most first ⊎ HasLargeForm Turned most second)
+abbrev pub OneHasFormLargerThan : PatternForm → ℕ → List ℕ → List ℕ → Type 0
+OneHasFormLargerThan Placed most first second = ⊥
+OneHasFormLargerThan Moved most first second =
+    Accepted MAX_LEVEL first × Accepted MAX_LEVEL second × (HasFormLargerThan Moved most first ⊎ HasFormLargerThan Moved most second)
+OneHasFormLargerThan Turned most first second =
+    AreRelatedFiles AreOfOneGeneration first second × (HasFormLargerThan Turned most first ⊎ HasFormLargerThan Turned most second)
 
 -- why two files aren't compared in this form
 abbrev pub RefusesEitherInForm : PatternForm → ℕ → List ℕ → List ℕ → Fault → Type 0
 RefusesEitherInForm Placed limit first second fault = RefusesEither limit first second fault
 RefusesEitherInForm Moved limit first second fault =
-    RefusesEither limit first second fault ⊎ ((fault ≡ fault_of Full) × HasTooLarge Moved (form_room limit) first second)
+    RefusesEither limit first second fault ⊎ ((fault ≡ fault_of Full) × OneHasFormLargerThan Moved (form_room limit) first second)
 RefusesEitherInForm Turned limit first second fault =
-    RefusesEither limit first second fault ⊎ ((fault ≡ fault_of Full) × HasTooLarge Turned (form_room limit) first second)
+    RefusesEither limit first second fault ⊎ ((fault ≡ fault_of Full) × OneHasFormLargerThan Turned (form_room limit) first second)
 
 -- both are files with forms that aren't too large, and the answer is told, 1 or 0; or the fault that keeps it from being found
 pub data ComparesInForm (form : PatternForm) (limit : ℕ) (first second : List ℕ) (told : Compared) : Type 0 where
   by_answer : told.status ≡ 0 → told.line ≡ 0 → Accepted MAX_LEVEL first → Accepted MAX_LEVEL second
-      → ¬ HasTooLarge form (form_room limit) first second
+      → ¬ OneHasFormLargerThan form (form_room limit) first second
       → ((told.is_same ≡ 1) × AreOneInForm form first second) ⊎ ((told.is_same ≡ 0) × (¬ AreOneInForm form first second))
       → ComparesInForm form limit first second told
   by_fault : (fault : Fault) → told.status ≡ kind_number fault.kind → told.line ≡ fault.place.line → told.is_same ≡ 0

@@ -12,8 +12,8 @@ use Rattle.life_forms.specs.Forms.{IsMoved}
 use Rattle.life_forms.specs.Images.{IsTurnedText}
 use Rattle.life_forms.specs.Needed.{HasLargerForm}
 use Rattle.life_forms.specs.Turns.{Turn, image}
-use Rattle.library_calls.specs.Told.{Told, Answers}
-use Rattle.library_calls.specs.Texts.{IsCanonicalText, RefusesWithin, room_of}
+use Rattle.library_calls.specs.Told.{Told, Returns}
+use Rattle.library_calls.specs.Texts.{IsLeastCanonicalText, RefusesWithin, room_of}
 use Rattle.library_calls.specs.declared.pattern_form.PatternForm.{PatternForm}
 use Rattle.library_calls.specs.declared.pattern_form.PatternForm.TheVariants.{Placed, Moved, Turned}
 
@@ -43,7 +43,7 @@ pub record IsTextTurned (limit : ℕ) (bytes text : List ℕ) : Type 0 where
 
 -- the text is the canonical text of the bytes' pattern in this form, which is not too large by the limit that is asked for
 abbrev pub IsTextInForm : PatternForm → ℕ → List ℕ → List ℕ → Type 0
-IsTextInForm Placed limit = IsCanonicalText
+IsTextInForm Placed limit = IsLeastCanonicalText
 IsTextInForm Moved limit = IsTextMoved limit
 IsTextInForm Turned limit = IsTextTurned limit
 
@@ -52,16 +52,16 @@ abbrev pub IsKeyInForm : PatternForm → ℕ → List ℕ → List ℕ → Type 
 IsKeyInForm form limit bytes key = (text : List ℕ) × IsTextInForm form limit bytes text × (key ≡ sha256 text)
 
 -- the bytes are a file, and the moved form of its pattern has more different squares than this; turned, that of one of its eight images
-abbrev pub HasLargeForm : PatternForm → ℕ → List ℕ → Type 0
-HasLargeForm Placed most bytes = ⊥
-HasLargeForm Moved most bytes = (u : Universe) × Reads MAX_LEVEL bytes u × HasLargerForm most u
-HasLargeForm Turned most bytes = (u : Universe) × Reads MAX_LEVEL bytes u × ((turn : Turn) × HasLargerForm most (image turn u))
+abbrev pub HasFormLargerThan : PatternForm → ℕ → List ℕ → Type 0
+HasFormLargerThan Placed most bytes = ⊥
+HasFormLargerThan Moved most bytes = (u : Universe) × Reads MAX_LEVEL bytes u × HasLargerForm most u
+HasFormLargerThan Turned most bytes = (u : Universe) × Reads MAX_LEVEL bytes u × ((turn : Turn) × HasLargerForm most (image turn u))
 
 -- why the bytes have no text in this form, within a limit of the store
-abbrev pub RefusesInForm : PatternForm → ℕ → List ℕ → Fault → Type 0
-RefusesInForm Placed limit bytes fault = RefusesWithin limit bytes fault
-RefusesInForm Moved limit bytes fault = RefusesWithin limit bytes fault ⊎ ((fault ≡ fault_of Full) × HasLargeForm Moved (form_room limit) bytes)
-RefusesInForm Turned limit bytes fault = RefusesWithin limit bytes fault ⊎ ((fault ≡ fault_of Full) × HasLargeForm Turned (form_room limit) bytes)
+abbrev pub RefusesFormWithin : PatternForm → ℕ → List ℕ → Fault → Type 0
+RefusesFormWithin Placed limit bytes fault = RefusesWithin limit bytes fault
+RefusesFormWithin Moved limit bytes fault = RefusesWithin limit bytes fault ⊎ ((fault ≡ fault_of Full) × HasFormLargerThan Moved (form_room limit) bytes)
+RefusesFormWithin Turned limit bytes fault = RefusesWithin limit bytes fault ⊎ ((fault ≡ fault_of Full) × HasFormLargerThan Turned (form_room limit) bytes)
 
 -- no form has the number, which is told, and no byte was written
 pub record TellsNoForm (before after : List ℕ) (it : Told) : Type 0 where
@@ -74,4 +74,4 @@ pub record TellsNoForm (before after : List ℕ) (it : Told) : Type 0 where
 abbrev pub AnswersInForm : (IsText : PatternForm → ℕ → List ℕ → List ℕ → Type 0) → (number limit : ℕ) (bytes before after : List ℕ) → Told → Type 0
 AnswersInForm IsText number limit bytes before after it =
     MatchOption (form_numbered number) (TellsNoForm before after it)
-    (λ form. Answers (IsText form limit bytes) (RefusesInForm form limit bytes) before after it)
+    (λ form. Returns (IsText form limit bytes) (RefusesFormWithin form limit bytes) before after it)

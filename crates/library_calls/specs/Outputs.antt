@@ -8,26 +8,26 @@ use Rattle.life_canon.specs.Feeding.{RefusesFront}
 use Rattle.life_canon.specs.Needs.{SomeOfLines}
 use Rattle.life_canon.specs.Room.{HoldsOnly, room_for}
 use Rattle.life_canon.specs.Store.{IsRead}
-use Rattle.life_canon.specs.Texts.{IsShown}
+use Rattle.life_canon.specs.Texts.{IsShownText}
 use Rattle.life_canon.specs.declared.pattern.Pattern.{Pattern}
 use Rattle.life_quad.specs.Store.{Nodes}
-use Rattle.library_calls.specs.Texts.{IsCanonicalText, IsRleText, NeedsMore, room_of, RefusesWithin, RefusesRleWithin, Wants}
+use Rattle.library_calls.specs.Texts.{IsLeastCanonicalText, IsRleText, NeedsMore, room_of, RefusesWithin, RefusesRleWithin, IsLimitShortage}
 use Rattle.life_step.specs.Stepped.{IsStepped}
 use Rattle.library_calls.specs.Stepping.{RefusesStepWithin}
 use Rattle.library_calls.specs.declared.texts.Output.{Output}
-use Rattle.library_calls.specs.InForm.{IsTextMoved, IsTextTurned, RefusesInForm}
+use Rattle.library_calls.specs.InForm.{IsTextMoved, IsTextTurned, RefusesFormWithin}
 use Rattle.library_calls.specs.declared.texts.Output.TheVariants.{Canonical, Rle, Lines, Next, Moved, Turned}
 use Rattle.library_calls.specs.declared.pattern_form.PatternForm.{PatternForm}
 use Rattle.library_calls.specs.declared.pattern_form.PatternForm.TheVariants as forms
 
 -- the text is this output of the bytes, within a limit of the store
-abbrev pub IsTextOf : Output → ℕ → List ℕ → List ℕ → Type 0
-IsTextOf Canonical limit = IsCanonicalText
-IsTextOf Rle limit = IsRleText
-IsTextOf Lines limit = IsShown MAX_LEVEL
-IsTextOf Next limit = IsStepped
-IsTextOf Moved limit = IsTextMoved limit
-IsTextOf Turned limit = IsTextTurned limit
+abbrev pub IsOutputText : Output → ℕ → List ℕ → List ℕ → Type 0
+IsOutputText Canonical limit = IsLeastCanonicalText
+IsOutputText Rle limit = IsRleText
+IsOutputText Lines limit = IsShownText MAX_LEVEL
+IsOutputText Next limit = IsStepped
+IsOutputText Moved limit = IsTextMoved limit
+IsOutputText Turned limit = IsTextTurned limit
 
 -- why the bytes have none, within a limit of the store
 abbrev pub RefusesTextOf : Output → ℕ → List ℕ → Fault → Type 0
@@ -35,13 +35,13 @@ RefusesTextOf Canonical = RefusesWithin
 RefusesTextOf Rle = RefusesRleWithin
 RefusesTextOf Lines = RefusesWithin
 RefusesTextOf Next = RefusesStepWithin
-RefusesTextOf Moved = RefusesInForm forms.Moved
-RefusesTextOf Turned = RefusesInForm forms.Turned
+RefusesTextOf Moved = RefusesFormWithin forms.Moved
+RefusesTextOf Turned = RefusesFormWithin forms.Turned
 
 -- the text is this output of each file that was read as this pattern of the store, within its limit
 abbrev pub IsTextOfRead : Output → Nodes → Pattern → List ℕ → Type 0
 IsTextOfRead output store pattern text =
-    (limit : ℕ) (bytes : List ℕ) → store.limit ≡ room_of limit → IsRead MAX_LEVEL bytes store pattern → IsTextOf output limit bytes text
+    (limit : ℕ) (bytes : List ℕ) → store.limit ≡ room_of limit → IsRead MAX_LEVEL bytes store pattern → IsOutputText output limit bytes text
 
 -- why those files have none whose squares alone the store holds, within its limit
 abbrev pub RefusesTextOfRead : Output → Nodes → Pattern → Fault → Type 0
@@ -65,7 +65,7 @@ IsTooLowForFront bytes most = NeedsMore (SomeOfFront bytes) most × (most < room
 
 -- no file goes on from these bytes, or room or memory is wanted for their lines that have ended
 abbrev pub RefusesPiece : ℕ → List ℕ → Fault → Type 0
-RefusesPiece limit bytes fault = RefusesFront MAX_LEVEL bytes fault ⊎ Wants (IsTooLowForFront bytes) limit fault
+RefusesPiece limit bytes fault = RefusesFront MAX_LEVEL bytes fault ⊎ IsLimitShortage (IsTooLowForFront bytes) limit fault
 
 -- What contracts see of a file that comes in pieces: which text its end gives, how many squares its store may hold, and the bytes that came.
 pub record Piecewise : Type 0 where

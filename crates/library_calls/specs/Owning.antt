@@ -7,6 +7,6 @@ use denote.RawPtr.{Ptr}
 use Rattle.library_calls.specs.contracts.session.Session.{the_row}
 use Rattle.library_calls.specs.declared.session.Session.{Session}
 
-abbrev pub owned : Ptr → Option Session → Fml
-owned at None = ftrue
-owned at (Some session) = box_owns (ghosts.dealloc_token (record { memory = record { seal = tt } })) the_row at session
+abbrev pub owned_session : Ptr → Option Session → Fml
+owned_session at None = ftrue
+owned_session at (Some session) = box_owns (ghosts.dealloc_token (record { memory = record { seal = tt } })) the_row at session

@@ -7,9 +7,9 @@ use Rattle.life_base.specs.declared.cell.TheConstants.{MAX_LEVEL}
 use Rattle.life_base.specs.declared.fault.Fault.{Fault}
 use Rattle.life_base.specs.declared.kind.Kind.TheVariants.{Memory, Spent}
 use Rattle.life_canon.specs.Feeding.{RefusesFront}
-use Rattle.library_calls.specs.Told.{Told, Gives, Tells}
+use Rattle.library_calls.specs.Told.{Told, ReturnsText, ReturnsFault}
 use Rattle.library_calls.specs.Texts.{Fits, room_of, SomeToRead}
-use Rattle.library_calls.specs.Outputs.{IsTextOf, RefusesTextOf, RefusesPiece}
+use Rattle.library_calls.specs.Outputs.{IsOutputText, RefusesTextOf, RefusesPiece}
 use Rattle.library_calls.specs.declared.texts.Output.{Output}
 use Rattle.library_calls.specs.declared.session.Session.{Session}
 use Rattle.library_calls.specs.declared.session.Session.TheVariants.{Reading, Written, Refused}
@@ -20,9 +20,9 @@ abbrev pub session_of : Stream → Option Session
 session_of stream = stream.held.session
 
 -- the stream is open, and this holds of its session
-abbrev pub IsOpen : (Session → Type 0) → Option Session → Type 0
-IsOpen Holds None = ⊥
-IsOpen Holds (Some session) = Holds session
+abbrev pub IsOpenStream : (Session → Type 0) → Option Session → Type 0
+IsOpenStream Holds None = ⊥
+IsOpenStream Holds (Some session) = Holds session
 
 -- the bytes were fed to the session, whose end gives this output, and whose store has the room of this limit
 abbrev pub IsFed : Output → ℕ → List ℕ → Session → Type 0
@@ -31,10 +31,10 @@ IsFed output limit bytes (Written text) = ⊥
 IsFed output limit bytes (Refused fault) = ⊥
 
 -- the session has this text
-abbrev pub HasText : List ℕ → Session → Type 0
-HasText text (Reading feeding) = ⊥
-HasText text (Written written) = written.items ≡ text
-HasText text (Refused fault) = ⊥
+abbrev pub SessionHasText : List ℕ → Session → Type 0
+SessionHasText text (Reading feeding) = ⊥
+SessionHasText text (Written written) = written.items ≡ text
+SessionHasText text (Refused fault) = ⊥
 
 -- the session was refused with this fault
 abbrev pub HasFault : Fault → Session → Type 0
@@ -43,32 +43,34 @@ HasFault fault (Written text) = ⊥
 HasFault fault (Refused refused) = refused ≡ fault
 
 -- the stream is open, and no byte was fed; or memory was refused, and it is closed
-abbrev pub Opens : Output → ℕ → ℕ → Option Session → Type 0
-Opens output limit status session = ((status ≡ 0) × IsOpen (IsFed output limit []) session) ⊎ ((status ≡ kind_number Memory) × (session ≡ None))
+abbrev pub OpensStream : Output → ℕ → ℕ → Option Session → Type 0
+OpensStream output limit status session = ((status ≡ 0) × IsOpenStream (IsFed output limit []) session) ⊎ ((status ≡ kind_number Memory) × (session ≡ None))
 
 -- What a piece makes of a session, with which the bytes are these: they were fed, and have no fault that can be told; or their fault.
-pub data Takes (output : Output) (limit : ℕ) (bytes : List ℕ) (session : Session) : Type 0 where
-  by_piece : IsFed output limit bytes session → ((fault : Fault) → ¬ RefusesFront MAX_LEVEL bytes fault) → Takes output limit bytes session
-  by_fault : (fault : Fault) → HasFault fault session → RefusesPiece limit bytes fault → Takes output limit bytes session
+pub data TakesPiece (output : Output) (limit : ℕ) (bytes : List ℕ) (session : Session) : Type 0 where
+  by_piece : IsFed output limit bytes session → ((fault : Fault) → ¬ RefusesFront MAX_LEVEL bytes fault) → TakesPiece output limit bytes session
+  by_fault : (fault : Fault) → HasFault fault session → RefusesPiece limit bytes fault → TakesPiece output limit bytes session
 
 -- what the end makes of it: the text of the bytes, which need no more squares than the limit; or their fault
 pub data Ends (output : Output) (limit : ℕ) (bytes : List ℕ) (session : Session) : Type 0 where
-  by_text : (text : List ℕ) → HasText text session → IsTextOf output limit bytes text → Fits (SomeToRead bytes) limit → Ends output limit bytes session
+  by_text : (text : List ℕ) → SessionHasText text session → IsOutputText output limit bytes text → Fits (SomeToRead bytes) limit
+      → Ends output limit bytes session
   by_fault : (fault : Fault) → HasFault fault session → RefusesTextOf output limit bytes fault → Ends output limit bytes session
 
 -- a session that has a text or a fault keeps it
 pub record StaysEnded (old new : Option Session) : Type 0 where
-  pub text : (text : List ℕ) → IsOpen (HasText text) old → IsOpen (HasText text) new
-  pub fault : (fault : Fault) → IsOpen (HasFault fault) old → IsOpen (HasFault fault) new
+  pub text : (text : List ℕ) → IsOpenStream (SessionHasText text) old → IsOpenStream (SessionHasText text) new
+  pub fault : (fault : Fault) → IsOpenStream (HasFault fault) old → IsOpenStream (HasFault fault) new
 
 -- what a piece makes of the session of a stream: one that was fed so far was fed the piece too, or is refused; one that has ended stays as it is
 pub record Feeds (piece : List ℕ) (old new : Option Session) : Type 0 where
-  pub takes : (output : Output) (limit : ℕ) (bytes : List ℕ) → IsOpen (IsFed output limit bytes) old → IsOpen (Takes output limit (bytes ++ piece)) new
+  pub takes : (output : Output) (limit : ℕ) (bytes : List ℕ) → IsOpenStream (IsFed output limit bytes) old
+      → IsOpenStream (TakesPiece output limit (bytes ++ piece)) new
   pub stays : StaysEnded old new
 
 -- what the end of the file makes of it: one that was fed so far ends with the text or the fault of all its bytes
 pub record Finishes (old new : Option Session) : Type 0 where
-  pub ends : (output : Output) (limit : ℕ) (bytes : List ℕ) → IsOpen (IsFed output limit bytes) old → IsOpen (Ends output limit bytes) new
+  pub ends : (output : Output) (limit : ℕ) (bytes : List ℕ) → IsOpenStream (IsFed output limit bytes) old → IsOpenStream (Ends output limit bytes) new
   pub stays : StaysEnded old new
 
 -- the call doesn't fit the stream
@@ -88,8 +90,8 @@ TellsNothing before after it = IsSpent it.status it.line × (it.needed ≡ 0) ×
 -- what `finish` tells of the session: its text or its fault
 abbrev pub TellsEnd : (before after : List ℕ) → Told → Session → Type 0
 TellsEnd before after it (Reading feeding) = TellsNothing before after it
-TellsEnd before after it (Written text) = Gives text.items before after it × (it.line ≡ 0)
-TellsEnd before after it (Refused fault) = Tells fault before after it
+TellsEnd before after it (Written text) = ReturnsText text.items before after it × (it.line ≡ 0)
+TellsEnd before after it (Refused fault) = ReturnsFault fault before after it
 
 -- the key of a text: its SHA-256, in 64 hex digits of lower case
 abbrev pub key_digits : List ℕ → List ℕ
@@ -98,5 +100,5 @@ key_digits text = encode_lower (sha256 text)
 -- what `finish_key` reports of the session: the key of the text that `finish` gives, or its fault
 abbrev pub TellsKey : (before after : List ℕ) → Told → Session → Type 0
 TellsKey before after it (Reading feeding) = TellsNothing before after it
-TellsKey before after it (Written text) = Gives (key_digits text.items) before after it × (it.line ≡ 0)
-TellsKey before after it (Refused fault) = Tells fault before after it
+TellsKey before after it (Written text) = ReturnsText (key_digits text.items) before after it × (it.line ≡ 0)
+TellsKey before after it (Refused fault) = ReturnsFault fault before after it

@@ -6,12 +6,12 @@ use Rattle.life_base.specs.Tree.{Tree}
 use Rattle.life_base.specs.declared.cell.TheConstants.{MAX_LEVEL}
 use Rattle.life_base.specs.declared.fault.Fault.{Fault}
 use Rattle.life_base.specs.declared.kind.Kind.TheVariants.{Full, TooManyCells}
-use Rattle.life_quad.specs.Store.{Nodes, held}
+use Rattle.life_quad.specs.Store.{Nodes, stored_squares}
 use Rattle.life_canon.specs.Files.{Same, Refuses}
 use Rattle.life_canon.specs.Least.{IsLeastText}
 use Rattle.life_canon.specs.Needs.{SomeOfFile}
 use Rattle.life_canon.specs.Room.{room_for}
-use Rattle.life_canon.specs.Texts.{IsCanonical, IsRleOf, HasMoreCells}
+use Rattle.life_canon.specs.Texts.{IsCanonical, IsRleOf, FileHasMoreCells}
 pub use Rattle.life_forms.specs.Needed.{NeedsMore}
 use Rattle.library_calls.specs.Told.{Told}
 
@@ -20,8 +20,8 @@ abbrev pub room_of : ℕ → ℕ
 room_of limit = min limit (2 ^ 62)
 
 -- the store of a call when it begins: it holds no square, and has the room of this limit
-pub record IsFresh (limit : ℕ) (store : Nodes) : Type 0 where
-  pub empty : held store ≡ []
+pub record IsFreshStore (limit : ℕ) (store : Nodes) : Type 0 where
+  pub empty : stored_squares store ≡ []
   pub most : store.limit ≡ room_of limit
 
 -- no more are needed than the limit
@@ -29,8 +29,8 @@ abbrev pub Fits : ((Tree → Type 0) → Type 0) → ℕ → Type 0
 Fits Needs limit = ¬ NeedsMore Needs (room_of limit)
 
 -- memory was refused; or the store was full, and its limit is too low
-abbrev pub Wants : (ℕ → Type 0) → ℕ → Fault → Type 0
-Wants IsTooLow limit fault = OrMemory fault ((fault ≡ fault_of Full) × IsTooLow (room_of limit))
+abbrev pub IsLimitShortage : (ℕ → Type 0) → ℕ → Fault → Type 0
+IsLimitShortage IsTooLow limit fault = OrMemory fault ((fault ≡ fault_of Full) × IsTooLow (room_of limit))
 
 -- a square that is needed to read the file has a property
 abbrev pub SomeToRead : List ℕ → (Tree → Type 0) → Type 0
@@ -46,15 +46,15 @@ TellsText it = (it.status ≡ 0) ⊎ (it.status ≡ 64)
 
 -- why a call on these bytes is refused
 abbrev pub RefusesWithin : ℕ → List ℕ → Fault → Type 0
-RefusesWithin limit bytes fault = Refuses MAX_LEVEL bytes fault ⊎ Wants (IsTooLowFor bytes) limit fault
+RefusesWithin limit bytes fault = Refuses MAX_LEVEL bytes fault ⊎ IsLimitShortage (IsTooLowFor bytes) limit fault
 
 -- the same where the text is extended RLE, which may have too many cells
 abbrev pub RefusesRleWithin : ℕ → List ℕ → Fault → Type 0
-RefusesRleWithin limit bytes fault = RefusesWithin limit bytes fault ⊎ ((fault ≡ fault_of TooManyCells) × HasMoreCells MAX_LEVEL bytes (2 ^ 20))
+RefusesRleWithin limit bytes fault = RefusesWithin limit bytes fault ⊎ ((fault ≡ fault_of TooManyCells) × FileHasMoreCells MAX_LEVEL bytes (2 ^ 20))
 
 -- the text is the canonical text of the bytes, and has the fewest node lines, under a name of the files without leaf lines
-abbrev pub IsCanonicalText : List ℕ → List ℕ → Type 0
-IsCanonicalText bytes text = IsCanonical MAX_LEVEL bytes text × IsLeastText MAX_LEVEL bytes text
+abbrev pub IsLeastCanonicalText : List ℕ → List ℕ → Type 0
+IsLeastCanonicalText bytes text = IsCanonical MAX_LEVEL bytes text × IsLeastText MAX_LEVEL bytes text
 
 -- the text is that of the bytes in extended RLE, and a file of the same pattern
 abbrev pub IsRleText : List ℕ → List ℕ → Type 0

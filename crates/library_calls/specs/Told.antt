@@ -5,8 +5,8 @@ use Rattle.life_base.specs.declared.fault.Fault.{Fault}
 pub use Rattle.library_calls.specs.declared.told.Told.{Told}
 
 -- the status, the length and the line that are told
-abbrev pub told : (status needed line : ℕ) → Told
-told status needed line = record { status = status; needed = needed; line = line }
+abbrev pub reply : (status needed line : ℕ) → Told
+reply status needed line = record { status = status; needed = needed; line = line }
 
 -- the text stands at the front of the memory, and the bytes behind it are as they were
 pub record Copies (text before after : List ℕ) (it : Told) : Type 0 where
@@ -15,23 +15,23 @@ pub record Copies (text before after : List ℕ) (it : Told) : Type 0 where
   pub copied : after ≡ text ++ drop (length text) before
 
 -- the text is longer than the memory, where no byte was written
-pub record LacksRoom (text before after : List ℕ) (it : Told) : Type 0 where
+pub record LacksTextSpace (text before after : List ℕ) (it : Told) : Type 0 where
   pub status : it.status ≡ 64
   pub long : length before < length text
   pub kept : after ≡ before
 
 -- the text's length is told, and the text where it fits
-abbrev pub Gives : (text before after : List ℕ) → Told → Type 0
-Gives text before after it = (it.needed ≡ length text) × (Copies text before after it ⊎ LacksRoom text before after it)
+abbrev pub ReturnsText : (text before after : List ℕ) → Told → Type 0
+ReturnsText text before after it = (it.needed ≡ length text) × (Copies text before after it ⊎ LacksTextSpace text before after it)
 
 -- the fault's number and line are told, and no byte was written
-pub record Tells (fault : Fault) (before after : List ℕ) (it : Told) : Type 0 where
+pub record ReturnsFault (fault : Fault) (before after : List ℕ) (it : Told) : Type 0 where
   pub status : it.status ≡ kind_number fault.kind
   pub line : it.line ≡ fault.place.line
   pub needed : it.needed ≡ 0
   pub kept : after ≡ before
 
 -- what a call answers: such a text, or such a fault
-pub data Answers (IsText : List ℕ → Type 0) (IsFault : Fault → Type 0) (before after : List ℕ) (it : Told) : Type 0 where
-  by_text : (text : List ℕ) → IsText text → Gives text before after it → it.line ≡ 0 → Answers IsText IsFault before after it
-  by_fault : (fault : Fault) → IsFault fault → Tells fault before after it → Answers IsText IsFault before after it
+pub data Returns (IsText : List ℕ → Type 0) (IsFault : Fault → Type 0) (before after : List ℕ) (it : Told) : Type 0 where
+  by_text : (text : List ℕ) → IsText text → ReturnsText text before after it → it.line ≡ 0 → Returns IsText IsFault before after it
+  by_fault : (fault : Fault) → IsFault fault → ReturnsFault fault before after it → Returns IsText IsFault before after it

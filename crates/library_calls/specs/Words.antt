@@ -1,12 +1,12 @@
 -- The words of the contracts of this crate.
-pub use Rattle.library_calls.specs.Texts.{Fits, IsCanonicalText, IsFresh, IsRleText, NeedsMore, RefusesRleWithin, RefusesWithin, room_of, SomeToRead, TellsText}
-pub use Rattle.library_calls.specs.Comparing.{compared, ComparesWithin, IsTooLowForBoth, SomeToReadBoth}
-pub use Rattle.library_calls.specs.ComparingInForm.{AreOneInForm, ComparesInForm, ComparesInNone, HasTooLarge, RefusesEitherInForm}
-pub use Rattle.library_calls.specs.Outputs.{IsTextOf, IsTextOfRead, RefusesPiece, RefusesTextOf, RefusesTextOfRead, text_in}
+pub use Rattle.library_calls.specs.Texts.{Fits, IsLeastCanonicalText, IsFreshStore, IsRleText, NeedsMore, RefusesRleWithin, RefusesWithin, room_of, SomeToRead, TellsText}
+pub use Rattle.library_calls.specs.Comparing.{comparison_of, ComparesWithin, IsTooLowForBoth, SomeToReadBoth}
+pub use Rattle.library_calls.specs.ComparingInForm.{AreOneInForm, ComparesInForm, ComparesInNone, OneHasFormLargerThan, RefusesEitherInForm}
+pub use Rattle.library_calls.specs.Outputs.{IsOutputText, IsTextOfRead, RefusesPiece, RefusesTextOf, RefusesTextOfRead, text_in}
 pub use Rattle.library_calls.specs.InForm.{form_numbered, form_room, IsKeyInForm, IsTextInForm, AnswersInForm}
 pub use Rattle.library_calls.specs.Stepping.{RefusesStepByWithin, RefusesStepWithin, StepsByTable}
-pub use Rattle.library_calls.specs.Streams.{Feeds, Finishes, IsSpent, key_digits, Opens, session_of, TellsEnd, TellsKey, TellsNothing, TellsPiece}
-pub use Rattle.library_calls.specs.Told.{Answers, Gives, Tells, told}
+pub use Rattle.library_calls.specs.Streams.{Feeds, Finishes, IsSpent, key_digits, OpensStream, session_of, TellsEnd, TellsKey, TellsNothing, TellsPiece}
+pub use Rattle.library_calls.specs.Told.{Returns, ReturnsText, ReturnsFault, reply}
 pub use Rattle.life_base.specs.Kinds.{kind_number}
 pub use Rattle.life_base.specs.Refusal.{fault_of}
 pub use Rattle.life_base.specs.declared.cell.TheConstants.{MAX_LEVEL}
@@ -14,8 +14,8 @@ pub use Rattle.life_base.specs.declared.fault.Fault.{Fault as FaultValue}
 pub use Rattle.life_base.specs.declared.kind.Kind.TheVariants.{Full}
 pub use Rattle.life_canon.specs.Feeding.{RefusesFront}
 pub use Rattle.life_canon.specs.Files.{Accepted, Refuses}
-pub use Rattle.life_canon.specs.Store.{IsOfFile, IsRead, IsWant}
-pub use Rattle.life_canon.specs.Texts.{IsShown}
+pub use Rattle.life_canon.specs.Store.{IsOfFile, IsRead, IsShortageOf}
+pub use Rattle.life_canon.specs.Texts.{IsShownText}
 pub use Rattle.life_quad.specs.Keeping.{AddsOnly}
-pub use Rattle.life_quad.specs.Store.{held}
+pub use Rattle.life_quad.specs.Store.{stored_squares}
 pub use Rattle.life_step.specs.Stepped.{IsStepped, IsSteppedBy}

@@ -1,7 +1,7 @@
 //! The call that compares two files.
 
 ghost use Rattle.std.specs.Prelude.{◌≡◌, if◌then◌else◌};
-ghost use Rattle.library_calls.specs.Words.{kind_number, ComparesWithin, compared, Fits, SomeToReadBoth};
+ghost use Rattle.library_calls.specs.Words.{kind_number, ComparesWithin, comparison_of, Fits, SomeToReadBoth};
 
 use crate::comparison::compare;
 use crate::options::Options;
@@ -23,7 +23,7 @@ pub struct Compared {
 impl Compared {
     /// Reports the answer.
     pub(crate) fn of(answer: bool) -> Compared
-        ensures { result ≡ compared 0 (if answer then 1 else 0) 0 }
+        ensures { result ≡ comparison_of 0 (if answer then 1 else 0) 0 }
     {
         Compared {
             status: 0,
@@ -34,7 +34,7 @@ impl Compared {
 
     /// Reports a fault.
     pub(crate) fn refused(fault: &Fault) -> Compared
-        ensures { result ≡ compared (kind_number fault.now.kind) 0 fault.now.place.line }
+        ensures { result ≡ comparison_of (kind_number fault.now.kind) 0 fault.now.place.line }
     {
         Compared {
             status: fault.kind.number() as u32,

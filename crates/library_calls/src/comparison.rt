@@ -1,7 +1,7 @@
 //! The call that compares two files in a form.
 
 ghost use Rattle.std.specs.Prelude.{◌≡◌, ◌↔◌, ◌⊎◌, ℕ, [], Err, IfOk, IfErr, OnOk, IsTrue, MatchOption};
-ghost use Rattle.library_calls.specs.Words.{fault_of, MAX_LEVEL, Full, held, Accepted, Refuses, IsRead, IsWant, IsFresh, AddsOnly, Fits, IsTooLowForBoth, NeedsMore, SomeToReadBoth, form_numbered, form_room, AreOneInForm, HasTooLarge, RefusesEitherInForm, ComparesInForm, ComparesInNone};
+ghost use Rattle.library_calls.specs.Words.{fault_of, MAX_LEVEL, Full, stored_squares, Accepted, Refuses, IsRead, IsShortageOf, IsFreshStore, AddsOnly, Fits, IsTooLowForBoth, NeedsMore, SomeToReadBoth, form_numbered, form_room, AreOneInForm, OneHasFormLargerThan, RefusesEitherInForm, ComparesInForm, ComparesInNone};
 
 use crate::compared::Compared;
 use crate::in_form::{NO_FORM, form_of};
@@ -28,12 +28,13 @@ fn read_both(
     ensures other { IfOk result (λ both. IsRead MAX_LEVEL second.now store.new both.1) }
     ensures fault { IfErr result (λ fault. Refuses MAX_LEVEL first.now fault
         ⊎ (Accepted MAX_LEVEL first.now × Refuses MAX_LEVEL second.now fault)
-        ⊎ IsWant store.new fault) }
+        ⊎ IsShortageOf store.new fault) }
     ensures fits { OnOk result
         (¬ NeedsMore (SomeToReadBoth first.now second.now) store.new.limit) }
-    ensures needed { result ≡ Err (fault_of Full) → held store.old ≡ []
+    ensures needed { result ≡ Err (fault_of Full) → stored_squares store.old ≡ []
         → IsTooLowForBoth first.now second.now store.new.limit }
-    ensures adds { AddsOnly held (SomeToReadBoth first.now second.now) store.old store.new }
+    ensures adds { AddsOnly stored_squares (SomeToReadBoth first.now second.now) store.old
+        store.new }
     ensures limit { store.new.limit ≡ store.old.limit }
 {
     patterns_stay();
@@ -62,11 +63,11 @@ fn are_one(
     ensures accepted { OnOk result (Accepted MAX_LEVEL first.now × Accepted MAX_LEVEL second.now) }
     ensures answer { IfOk result
         (λ answer. IsTrue answer ↔ AreOneInForm form first.now second.now) }
-    ensures small { OnOk result ((limit : ℕ) → IsFresh limit store.old
-        → ¬ HasTooLarge form (form_room limit) first.now second.now) }
-    ensures fits { OnOk result ((limit : ℕ) → IsFresh limit store.old
+    ensures small { OnOk result ((limit : ℕ) → IsFreshStore limit store.old
+        → ¬ OneHasFormLargerThan form (form_room limit) first.now second.now) }
+    ensures fits { OnOk result ((limit : ℕ) → IsFreshStore limit store.old
         → Fits (SomeToReadBoth first.now second.now) limit) }
-    ensures fault { IfErr result (λ fault. (limit : ℕ) → IsFresh limit store.old
+    ensures fault { IfErr result (λ fault. (limit : ℕ) → IsFreshStore limit store.old
         → RefusesEitherInForm form limit first.now second.now fault) }
 {
     patterns_fit();

@@ -1,7 +1,7 @@
 //! A file that is read in pieces, and the text that its end gives.
 
 ghost use Rattle.std.specs.Prelude.{◌≡◌, ◌++◌, ℕ, [], IfOk, IfErr, OnOk};
-ghost use Rattle.library_calls.specs.Words.{FaultValue, Fits, RefusesFront, SomeToRead, room_of, IsTextOf, RefusesTextOf, RefusesPiece};
+ghost use Rattle.library_calls.specs.Words.{FaultValue, Fits, RefusesFront, SomeToRead, room_of, IsOutputText, RefusesTextOf, RefusesPiece};
 
 use crate::options::Options;
 use crate::texts::{Output, text_of_read};
@@ -76,7 +76,7 @@ impl Feeding {
     /// The text of the file whose pieces came.
     pub(crate) fn text(self, alloc: Global) -> Result<Vec<u8>, Fault>
         ensures text { IfOk result (λ text. (limit : ℕ) → self.room ≡ room_of limit
-            → IsTextOf self.output limit self.bytes text.items) }
+            → IsOutputText self.output limit self.bytes text.items) }
         ensures fits { OnOk result ((limit : ℕ) → self.room ≡ room_of limit
             → Fits (SomeToRead self.bytes) limit) }
         ensures fault { IfErr result (λ fault. (limit : ℕ) → self.room ≡ room_of limit

@@ -17,9 +17,9 @@ pub struct Held {
 
 impl Model for Held {
     ghost use Rattle.std.specs.Prelude.{Option};
-    ghost use Rattle.library_calls.specs.Owning.{owned};
+    ghost use Rattle.library_calls.specs.Owning.{owned_session};
 
-    ghost also_owns = { λ h. owned h.at h.session };
+    ghost also_owns = { λ h. owned_session h.at h.session };
 }
 
 impl Held {

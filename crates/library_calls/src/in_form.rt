@@ -1,7 +1,7 @@
 //! The calls that give the text of a file in a form, or its key.
 
 ghost use Rattle.std.specs.Prelude.{◌≡◌};
-ghost use Rattle.library_calls.specs.Words.{AnswersInForm, Fits, SomeToRead, TellsText, told, text_in, form_numbered, IsTextInForm, IsKeyInForm};
+ghost use Rattle.library_calls.specs.Words.{AnswersInForm, Fits, SomeToRead, TellsText, reply, text_in, form_numbered, IsTextInForm, IsKeyInForm};
 
 use crate::options::Options;
 use crate::pattern_form::PatternForm;
@@ -38,7 +38,7 @@ pub(crate) fn text_in(form: PatternForm) -> Output
 
 /// The result if no form has the number.
 fn no_form() -> Told
-    ensures { result ≡ told 65 0 0 }
+    ensures { result ≡ reply 65 0 0 }
 {
     Told {
         status: NO_FORM,

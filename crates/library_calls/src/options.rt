@@ -1,6 +1,6 @@
 //! What a call is given besides its input.
 
-ghost use Rattle.library_calls.specs.Words.{IsFresh};
+ghost use Rattle.library_calls.specs.Words.{IsFreshStore};
 
 use crate::seeds::seed_of_squares;
 use life_quad::Shared;
@@ -21,7 +21,7 @@ pub struct Options {
 impl Options {
     /// An empty store with this limit.
     pub(crate) fn new_store(self, alloc: Global) -> Shared
-        ensures { IsFresh self.limit result }
+        ensures { IsFreshStore self.limit result }
     {
         let most = if self.limit < GREATEST_LIMIT {
             self.limit

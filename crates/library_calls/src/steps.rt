@@ -1,7 +1,7 @@
 //! The calls that step a pattern.
 
 ghost use Rattle.std.specs.Prelude.{IfOk, IfErr, OnOk};
-ghost use Rattle.library_calls.specs.Words.{Answers, Fits, SomeToRead, TellsText, IsStepped, IsSteppedBy, RefusesStepByWithin, RefusesStepWithin, StepsByTable};
+ghost use Rattle.library_calls.specs.Words.{Returns, Fits, SomeToRead, TellsText, IsStepped, IsSteppedBy, RefusesStepByWithin, RefusesStepWithin, StepsByTable};
 
 use crate::options::Options;
 use crate::seeds::seed_of_names;
@@ -15,7 +15,7 @@ use std::alloc::Global;
 
 /// The canonical text of the next generation of the pattern of a file, under its B/S rule.
 pub fn step(alloc: Global, bytes: &[u8], options: Options, out: &mut [u8]) -> Told
-    ensures answers { Answers (IsStepped bytes.now) (RefusesStepWithin options.limit bytes.now)
+    ensures answers { Returns (IsStepped bytes.now) (RefusesStepWithin options.limit bytes.now)
         out.old out.new result }
     ensures fits { TellsText result → Fits (SomeToRead bytes.now) options.limit }
 {
@@ -46,7 +46,7 @@ fn next_of_file(
 
 /// `step` by a table that is read.
 fn step_by(alloc: Global, bytes: &[u8], table: &Table, options: Options, out: &mut [u8]) -> Told
-    ensures answers { Answers (IsSteppedBy table.now bytes.now)
+    ensures answers { Returns (IsSteppedBy table.now bytes.now)
         (RefusesStepByWithin table.now options.limit bytes.now) out.old out.new result }
     ensures fits { TellsText result → Fits (SomeToRead bytes.now) options.limit }
 {

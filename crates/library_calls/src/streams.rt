@@ -1,7 +1,7 @@
 //! The calls on streams: a file in pieces, and one answer at its end.
 
 ghost use Rattle.std.specs.Prelude.{◌≡◌, None, Some, IfSome, MatchOption};
-ghost use Rattle.library_calls.specs.Words.{text_in, form_numbered, session_of, Opens, Feeds, Finishes, IsSpent, TellsPiece, TellsNothing, TellsEnd, TellsText, Gives, key_digits, TellsKey};
+ghost use Rattle.library_calls.specs.Words.{text_in, form_numbered, session_of, OpensStream, Feeds, Finishes, IsSpent, TellsPiece, TellsNothing, TellsEnd, TellsText, ReturnsText, key_digits, TellsKey};
 
 use crate::feeding::Feeding;
 use crate::in_form::{NO_FORM, form_of, text_in};
@@ -17,7 +17,7 @@ use std::mem;
 
 /// Opens a stream whose end gives this output, and closes it first where it is open. The answer is the status.
 pub fn open(alloc: Global, stream: &mut Stream, output: Output, options: Options) -> u32
-    ensures { Opens output options.limit result (session_of stream.new) }
+    ensures { OpensStream output options.limit result (session_of stream.new) }
 {
     close(alloc, stream);
     let feeding = Feeding::new(alloc, output, options);
@@ -34,7 +34,7 @@ pub fn open(alloc: Global, stream: &mut Stream, output: Output, options: Options
 /// answer is the status.
 pub fn open_canon_form(alloc: Global, stream: &mut Stream, form: u32, options: Options) -> u32
     ensures { MatchOption (form_numbered form) ((result ≡ 65) × (session_of stream.new ≡ None))
-        (λ form. Opens (text_in form) options.limit result (session_of stream.new)) }
+        (λ form. OpensStream (text_in form) options.limit result (session_of stream.new)) }
 {
     close(alloc, stream);
     match form_of(form) {
@@ -80,7 +80,7 @@ fn tell_end(session: &Session, out: &mut [u8]) -> Told
 
 /// Gives the key of a text.
 fn give_key(text: &[u8], out: &mut [u8]) -> Told
-    ensures gives { Gives (key_digits text.now) out.old out.new result }
+    ensures gives { ReturnsText (key_digits text.now) out.old out.new result }
     ensures line { result.line ≡ 0 }
     ensures digits { result.needed ≡ 64 }
 {

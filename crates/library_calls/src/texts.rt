@@ -1,7 +1,7 @@
 //! The texts that a call or a stream gives of a file, and the calls that give one.
 
 ghost use Rattle.std.specs.Prelude.{IfOk, IfErr, OnOk};
-ghost use Rattle.library_calls.specs.Words.{Answers, Fits, SomeToRead, TellsText, IsCanonicalText, IsRleText, RefusesWithin, RefusesRleWithin, IsTextOf, IsTextOfRead, RefusesTextOf, RefusesTextOfRead, IsOfFile, IsShown};
+ghost use Rattle.library_calls.specs.Words.{Returns, Fits, SomeToRead, TellsText, IsLeastCanonicalText, IsRleText, RefusesWithin, RefusesRleWithin, IsOutputText, IsTextOfRead, RefusesTextOf, RefusesTextOfRead, IsOfFile, IsShownText};
 
 use crate::options::Options;
 use crate::told::{Told, tell};
@@ -74,7 +74,7 @@ pub(crate) fn text_of_file(
     options: Options,
 ) -> Result<Vec<u8>, Fault>
     ensures text { IfOk result
-        (λ text. IsTextOf output options.limit bytes.now text.items) }
+        (λ text. IsOutputText output options.limit bytes.now text.items) }
     ensures fits { OnOk result (Fits (SomeToRead bytes.now) options.limit) }
     ensures fault { IfErr result (RefusesTextOf output options.limit bytes.now) }
 {
@@ -94,7 +94,7 @@ pub(crate) fn answer(
     options: Options,
     out: &mut [u8],
 ) -> Told
-    ensures answers { Answers (IsTextOf output options.limit bytes.now)
+    ensures answers { Returns (IsOutputText output options.limit bytes.now)
         (RefusesTextOf output options.limit bytes.now) out.old out.new result }
     ensures fits { TellsText result → Fits (SomeToRead bytes.now) options.limit }
 {
@@ -103,8 +103,8 @@ pub(crate) fn answer(
 
 /// The canonical text of the pattern of a file of either format.
 pub fn canon(alloc: Global, bytes: &[u8], options: Options, out: &mut [u8]) -> Told
-    ensures answers { Answers (IsCanonicalText bytes.now) (RefusesWithin options.limit bytes.now)
-        out.old out.new result }
+    ensures answers { Returns (IsLeastCanonicalText bytes.now)
+        (RefusesWithin options.limit bytes.now) out.old out.new result }
     ensures fits { TellsText result → Fits (SomeToRead bytes.now) options.limit }
 {
     answer(alloc, bytes, Output::Canonical, options, out)
@@ -112,7 +112,7 @@ pub fn canon(alloc: Global, bytes: &[u8], options: Options, out: &mut [u8]) -> T
 
 /// The text in extended RLE of the pattern of a file of either format.
 pub fn to_rle(alloc: Global, bytes: &[u8], options: Options, out: &mut [u8]) -> Told
-    ensures answers { Answers (IsRleText bytes.now) (RefusesRleWithin options.limit bytes.now)
+    ensures answers { Returns (IsRleText bytes.now) (RefusesRleWithin options.limit bytes.now)
         out.old out.new result }
     ensures fits { TellsText result → Fits (SomeToRead bytes.now) options.limit }
 {
@@ -121,8 +121,8 @@ pub fn to_rle(alloc: Global, bytes: &[u8], options: Options, out: &mut [u8]) -> 
 
 /// Five lines on the pattern of a file of either format.
 pub fn show(alloc: Global, bytes: &[u8], options: Options, out: &mut [u8]) -> Told
-    ensures answers { Answers (IsShown MAX_LEVEL bytes.now) (RefusesWithin options.limit bytes.now)
-        out.old out.new result }
+    ensures answers { Returns (IsShownText MAX_LEVEL bytes.now)
+        (RefusesWithin options.limit bytes.now) out.old out.new result }
     ensures fits { TellsText result → Fits (SomeToRead bytes.now) options.limit }
 {
     answer(alloc, bytes, Output::Lines, options, out)

@@ -1,7 +1,7 @@
 //! The result of a call, with its text in memory of the caller.
 
 ghost use Rattle.std.specs.Prelude.{◌≡◌, IfOk, IfErr, OnErr};
-ghost use Rattle.library_calls.specs.Words.{kind_number, Gives, Tells, TellsText};
+ghost use Rattle.library_calls.specs.Words.{kind_number, ReturnsText, ReturnsFault, TellsText};
 
 use life_base::Fault;
 
@@ -21,7 +21,7 @@ pub struct Told {
 
 /// Puts a text at the beginning of the caller's memory if it fits, and returns its length.
 pub fn give(text: &[u8], out: &mut [u8]) -> Told
-    ensures gives { Gives text.now out.old out.new result }
+    ensures gives { ReturnsText text.now out.old out.new result }
     ensures line { result.line ≡ 0 }
 {
     let needed = text.len();
@@ -52,9 +52,9 @@ pub(crate) fn refuse(fault: &Fault) -> Told
 
 /// Gives the text, or says why there is none.
 pub(crate) fn tell(found: Result<Vec<u8>, Fault>, out: &mut [u8]) -> Told
-    ensures gives { IfOk found (λ text. Gives text.items out.old out.new result) }
+    ensures gives { IfOk found (λ text. ReturnsText text.items out.old out.new result) }
     ensures no_line { IfOk found (λ _. result.line ≡ 0) }
-    ensures tells { IfErr found (λ fault. Tells fault out.old out.new result) }
+    ensures tells { IfErr found (λ fault. ReturnsFault fault out.old out.new result) }
     ensures text { OnErr found (¬ TellsText result) }
 {
     match found {

@@ -9,13 +9,13 @@ use Rattle.life_base.specs.declared.kind.Kind.TheVariants.{Full}
 use Rattle.life_canon.specs.Calls.{ReadsInto}
 use Rattle.life_canon.specs.Store.{IsRead}
 use Rattle.life_canon.specs.declared.pattern.Pattern.{Pattern as LayerPattern}
-use Rattle.life_quad.specs.Store.{Nodes, held}
+use Rattle.life_quad.specs.Store.{Nodes, stored_squares}
 use Rattle.claims.specs.Files.{pattern_of}
 use Rattle.theorems.proofs.RefusalLaw.{accepted_is_ok, refuses_agree}
 use Rattle.library_calls.specs.Comparing.{ComparesWithin, by_answer, SomeToReadBoth, RefusesEither}
 use Rattle.library_calls.specs.Comparing as comparing
 use Rattle.library_calls.specs.Texts.{Fits, NeedsMore, RefusesWithin, SomeToRead, room_of}
-use Rattle.library_calls.specs.Told.{Answers, by_text, by_fault}
+use Rattle.library_calls.specs.Told.{Returns, by_text, by_fault}
 use Rattle.library_calls.specs.declared.compared.Compared.{Compared}
 use Rattle.library_calls.specs.declared.told.Told.{Told}
 use Rattle.library_calls.proofs.FormFacts.{read-both}
@@ -38,9 +38,9 @@ not_refused bytes fault ok e = let bad : false ≡ true = subst (λ r. IsOk r) e
 
 -- a store that holds each needed square once, and no others, counts no more than the limit where that suffices
 within_limit : (Needs : (Tree → Type 0) → Type 0) (limit : ℕ) (store : Nodes) → HoldsOnce store → HoldsNeeded Needs store → Fits Needs limit
-    → length (held store) ≤ room_of limit
+    → length (stored_squares store) ≤ room_of limit
 within_limit Needs limit store once needed fits =
-    let squares = held store in
+    let squares = stored_squares store in
     let Is = λ (t : Tree). (is_blank_tree t ≡ false) × Needs (λ u. u ≡ t) in
     let one : (t : Tree) → Contains squares t → Is t = λ t there. (once.live t there, needed t there) in
     elim (cases_lt (room_of limit) (length squares)) [
@@ -50,15 +50,15 @@ within_limit Needs limit store once needed fits =
 
 -- ---- a file
 
-module _ (bytes : List ℕ) (limit count : ℕ) (old new : Nodes) (r : Result LayerPattern Fault) (ok : IsOk r) (empty : held old ≡ [])
-    (reads : ReadsInto bytes old new r) (once : HoldsOnce new) (counted : count ≡ length (held new)) where
+module _ (bytes : List ℕ) (limit count : ℕ) (old new : Nodes) (r : Result LayerPattern Fault) (ok : IsOk r) (empty : stored_squares old ≡ [])
+    (reads : ReadsInto bytes old new r) (once : HoldsOnce new) (counted : count ≡ length (stored_squares new)) where
   pub text_within : Fits (SomeToRead bytes) limit → count ≤ room_of limit
   text_within fits =
       let most = within_limit (SomeToRead bytes) limit new once (from-empty (SomeToRead bytes) old new empty reads.adds) fits in
       subst (λ n. n ≤ room_of limit) (sym counted) most
 
   more : NeedsMore (SomeToRead bytes) (room_of limit) → room_of limit < count
-  more needs = subst (λ n. room_of limit < n) (sym counted) (longer (SomeToRead bytes) (held new) (room_of limit) (on_ok r ok reads.all) needs)
+  more needs = subst (λ n. room_of limit < n) (sym counted) (longer (SomeToRead bytes) (stored_squares new) (room_of limit) (on_ok r ok reads.all) needs)
 
   -- `Full` is told of the file
   full_of_file : IfOk r (IsRead 62 bytes new) → (fault : Fault) → RefusesWithin limit bytes fault → kind_number fault.kind ≡ 21 → room_of limit < count
@@ -68,7 +68,7 @@ module _ (bytes : List ℕ) (limit count : ℕ) (old new : Nodes) (r : Result La
   full_of_file is fault (inr (inr low)) number = more low.1.0
 
   pub text_full : {IsText : List ℕ → Type 0} (before after : List ℕ) (told : Told) → IfOk r (IsRead 62 bytes new)
-      → Answers IsText (RefusesWithin limit bytes) before after told → told.status ≡ kind_number Full → room_of limit < count
+      → Returns IsText (RefusesWithin limit bytes) before after told → told.status ≡ kind_number Full → room_of limit < count
   text_full before after told is (by_text text t gives none) full = elim gives.1 [
     | inl copies ↦ let e : 0 ≡ 21 = sym copies.status ∙ full in absurd (omega (arith, e))
     | inr lacks ↦ let e : 64 ≡ 21 = sym lacks.status ∙ full in absurd (omega (arith, e))
@@ -78,20 +78,20 @@ module _ (bytes : List ℕ) (limit count : ℕ) (old new : Nodes) (r : Result La
 -- ---- two files
 
 module _ (first second : List ℕ) (limit count : ℕ) (old mid new : Nodes) (r s : Result LayerPattern Fault) (ok : IsOk r) (also : IsOk s)
-    (empty : held old ≡ []) (reads : ReadsInto first old mid r) (others : ReadsInto second mid new s) (once : HoldsOnce new)
-    (counted : count ≡ length (held new)) where
+    (empty : stored_squares old ≡ []) (reads : ReadsInto first old mid r) (others : ReadsInto second mid new s) (once : HoldsOnce new)
+    (counted : count ≡ length (stored_squares new)) where
   pub both_within : Fits (SomeToReadBoth first second) limit → count ≤ room_of limit
   both_within fits =
       let needed = from-empty (SomeToReadBoth first second) old new empty (read-both first second old mid new reads.adds others.adds) in
       subst (λ n. n ≤ room_of limit) (sym counted) (within_limit (SomeToReadBoth first second) limit new once needed fits)
 
-  all_both : (t : Tree) → is_blank_tree t ≡ false → SomeToReadBoth first second (λ u. u ≡ t) → Contains (held new) t
+  all_both : (t : Tree) → is_blank_tree t ≡ false → SomeToReadBoth first second (λ u. u ≡ t) → Contains (stored_squares new) t
   all_both t live (inl one) = others.keeps.stored t (on_ok r ok reads.all t live one)
   all_both t live (inr other) = on_ok s also others.all t live other
 
   more_both : NeedsMore (SomeToReadBoth first second) (room_of limit) → room_of limit < count
   more_both needs =
-      subst (λ n. room_of limit < n) (sym counted) (longer (SomeToReadBoth first second) (held new) (room_of limit) all_both needs)
+      subst (λ n. room_of limit < n) (sym counted) (longer (SomeToReadBoth first second) (stored_squares new) (room_of limit) all_both needs)
 
   full_of_both : IfOk r (IsRead 62 first mid) → IfOk s (IsRead 62 second new) → (fault : Fault) → RefusesEither limit first second fault
       → kind_number fault.kind ≡ 21 → room_of limit < count

@@ -9,16 +9,16 @@ use Rattle.life_canon.specs.Files.{Accepted}
 use Rattle.life_canon.specs.Laws.{CanonicalIsLeast, FilesAreOnPlane, FilesAreUnique, TextsAreFiles, TextsKeepPatterns}
 use Rattle.life_canon.specs.Least.{IsLeastText}
 use Rattle.life_canon.specs.Listing.{canon_text, canonical_file}
-use Rattle.life_canon.specs.Texts.{IsCanonical, IsShown}
-use Rattle.life_table.specs.Grammar.{IsFile}
-use Rattle.life_table.specs.Reading.{Refuses as RefusesTable, AreTable}
+use Rattle.life_canon.specs.Texts.{IsCanonical, IsShownText}
+use Rattle.life_table.specs.Grammar.{IsPlainTable}
+use Rattle.life_table.specs.Reading.{RefusesTable, AreTable}
 use Rattle.life_table.specs.declared.table.Table.{Table as LayerTable}
-use Rattle.claims.specs.ByTable.{IsSteppedBy, IsUnsteppedBy}
-use Rattle.claims.specs.Counting.{node_lines, IsCanonicalText}
-use Rattle.claims.specs.Files.{pattern_of, IsWant, Same, fault_of}
+use Rattle.claims.specs.ByTable.{IsClaimedStepBy, IsUnsteppedBy}
+use Rattle.claims.specs.Counting.{claimed_node_lines, IsCanonicalText}
+use Rattle.claims.specs.Files.{pattern_of, IsShortage, SayOnePattern, claimed_fault_of}
 use Rattle.claims.specs.Generation.{IsUnstepped}
 use Rattle.claims.specs.Pattern.{Pattern}
-use Rattle.claims.specs.Shown.{IsShown as AreLines}
+use Rattle.claims.specs.Shown.{IsClaimedShown as AreLines}
 use Rattle.claims.specs.Table.{Table, table_of}
 use Rattle.table_laws.specs.Laws.{TablesDecide, TablesRead, TablesRefuse}
 use Rattle.table_laws.specs.Tables.{IsTable}
@@ -31,40 +31,40 @@ use Rattle.theorems.proofs.TextLaw.{rle_of_file}
 use Rattle.theorems.proofs.StreamLaw.{one_text}
 use Rattle.step_theorems.proofs.StepLaw.{unstepped_is}
 use Rattle.step_theorems.proofs.StepBy.{next_by_is_fixed, stepped_is, unstepped_is as unstepped_by_is}
-use Rattle.library_calls.specs.Texts.{IsTooLowFor, NeedsMore, Wants, RefusesWithin, RefusesRleWithin, IsCanonicalText as LayerText, IsRleText as LayerRle}
+use Rattle.library_calls.specs.Texts.{IsTooLowFor, NeedsMore, IsLimitShortage, RefusesWithin, RefusesRleWithin, IsLeastCanonicalText as LayerText, IsRleText as LayerRle}
 use Rattle.library_calls.specs.declared.compared.Compared.{Compared}
 use Rattle.library_calls.specs.Comparing.{ComparesWithin, by_answer, IsAnswerOf, IsTooLowForBoth, RefusesEither}
 use Rattle.library_calls.specs.Comparing as comparing
-use Rattle.library_calls.specs.Outputs.{IsTextOf, RefusesTextOf}
+use Rattle.library_calls.specs.Outputs.{IsOutputText, RefusesTextOf}
 use Rattle.library_calls.specs.declared.texts.Output.{Output}
 use Rattle.life_step.specs.Refusals.{SomeOfStep, SomeOfStepBy}
 use Rattle.library_calls.specs.Stepping.{RefusesStepWithin, RefusesStepByWithin, StepsByTable, by_table, by_no_table}
 use Rattle.library_calls.specs.declared.told.Told.{Told}
-use Rattle.library_calls.specs.Told.{Copies, LacksRoom, Gives, Tells, Answers, by_text, by_fault}
-use Rattle.library_theorems.specs.Answered.{IsRleText, AreFiveLines, IsUnread, IsUnreadWithin, IsUnwritten, IsWantBelow, squares_for}
+use Rattle.library_calls.specs.Told.{Copies, LacksTextSpace, ReturnsText, ReturnsFault, Returns, by_text, by_fault}
+use Rattle.library_theorems.specs.Answered.{IsClaimedRleText, AreFiveLines, IsClaimedUnread, IsUnreadWithin, IsUnwritten, IsShortageBelow, squares_for}
 use Rattle.library_theorems.specs.Ending.{IsEndFault}
 use Rattle.library_calls.proofs.Numbered.{IsOfText, no_text}
 
 -- the same is told by what texts and faults imply
 pub reworded : {IsText IsOther : List ℕ → Type 0} {IsFault IsOtherFault : Fault → Type 0} {before after : List ℕ} {told : Told}
-    → Answers IsText IsFault before after told → ((text : List ℕ) → IsText text → IsOther text) → ((fault : Fault) → IsFault fault → IsOtherFault fault)
-    → Answers IsOther IsOtherFault before after told
+    → Returns IsText IsFault before after told → ((text : List ℕ) → IsText text → IsOther text) → ((fault : Fault) → IsFault fault → IsOtherFault fault)
+    → Returns IsOther IsOtherFault before after told
 reworded (by_text t is gives none) text fault = by_text t (text t is) gives none
 reworded (by_fault f why tells) text fault = by_fault f (fault f why) tells
 
 -- what is told for this output is told for that one, which it is
 pub of_form : {output that : Output} {IsFault : Fault → Type 0} {before after : List ℕ} {told : Told} → output ≡ that → (limit : ℕ) (file : List ℕ)
-    → Answers (IsTextOf output limit file) IsFault before after told → Answers (IsTextOf that limit file) IsFault before after told
+    → Returns (IsOutputText output limit file) IsFault before after told → Returns (IsOutputText that limit file) IsFault before after told
 of_form {IsFault = IsFault} {before = before} {after = after} {told = told} is limit file =
-    subst (λ (f : Output). Answers (IsTextOf f limit file) IsFault before after told) is
+    subst (λ (f : Output). Returns (IsOutputText f limit file) IsFault before after told) is
 
 -- the end of a stream for that output tells what its texts and its faults imply
 pub ended_so : {output that : Output} {IsOther : List ℕ → Type 0} {IsOtherFault : Fault → Type 0} {before after : List ℕ} {told : Told} → output ≡ that
-    → (limit : ℕ) (file : List ℕ) → Answers (IsTextOf output limit file) (IsEndFault output limit file) before after told
-    → ((text : List ℕ) → IsTextOf that limit file text → IsOther text) → ((fault : Fault) → IsUnreadWithin limit file fault → IsOtherFault fault)
-    → ((fault : Fault) → RefusesTextOf that limit file fault → IsOtherFault fault) → Answers IsOther IsOtherFault before after told
+    → (limit : ℕ) (file : List ℕ) → Returns (IsOutputText output limit file) (IsEndFault output limit file) before after told
+    → ((text : List ℕ) → IsOutputText that limit file text → IsOther text) → ((fault : Fault) → IsUnreadWithin limit file fault → IsOtherFault fault)
+    → ((fault : Fault) → RefusesTextOf that limit file fault → IsOtherFault fault) → Returns IsOther IsOtherFault before after told
 ended_so {before = before} {after = after} {told = told} is limit file answers text unread refused =
-    reworded (subst (λ (f : Output). Answers (IsTextOf f limit file) (IsEndFault f limit file) before after told) is answers) text
+    reworded (subst (λ (f : Output). Returns (IsOutputText f limit file) (IsEndFault f limit file) before after told) is answers) text
     (λ fault why. elim why [ inl u ↦ unread fault u | inr r ↦ refused fault r ])
 
 -- ---- texts
@@ -72,11 +72,11 @@ ended_so {before = before} {after = after} {told = told} is limit file answers t
 pub canonical_to : FilesAreOnPlane 62 → TextsAreFiles 62 → TextsKeepPatterns 62 → (file text : List ℕ) → LayerText file text → IsCanonicalText file text
 canonical_to on_plane files keep file text c = canonical_so on_plane files keep file text c.0 c.1
 
-pub rle_so : (file text : List ℕ) → LayerRle file text → IsRleText file text
+pub rle_so : (file text : List ℕ) → LayerRle file text → IsClaimedRleText file text
 rle_so file text r = record { is = rle_of_file file text r.0; same = same_to file text r.1; format = rle_format file text r.0; few = few_cells file text r.0 }
 
 pub lines_so : CanonicalIsLeast 62 → FilesAreOnPlane 62 → FilesAreUnique 62 → TextsAreFiles 62 → TextsKeepPatterns 62 → (file text : List ℕ)
-    → IsShown 62 file text → AreFiveLines file text
+    → IsShownText 62 file text → AreFiveLines file text
 lines_so least on_plane unique files keep file text s =
     let u = s.universe in
     let on = on_plane file u s.reads in
@@ -102,13 +102,13 @@ lines_so least on_plane unique files keep file text s =
 -- ---- why there is none
 
 -- a limit that was too low is below the room
-pub want_below : (IsTooLow : ℕ → Type 0) (room limit : ℕ) (fault : Fault) → ((most : ℕ) → IsTooLow most → most < room) → Wants IsTooLow limit fault
-    → IsWantBelow room limit fault
+pub want_below : (IsTooLow : ℕ → Type 0) (room limit : ℕ) (fault : Fault) → ((most : ℕ) → IsTooLow most → most < room) → IsLimitShortage IsTooLow limit fault
+    → IsShortageBelow room limit fault
 want_below IsTooLow room limit fault tight (inl memory) = inr memory
 want_below IsTooLow room limit fault tight (inr full) = inl (full.0, tight _ full.1)
 
 -- memory was wanted, or room
-wanted : (IsTooLow : ℕ → Type 0) (limit : ℕ) (fault : Fault) → Wants IsTooLow limit fault → IsWant fault
+wanted : (IsTooLow : ℕ → Type 0) (limit : ℕ) (fault : Fault) → IsLimitShortage IsTooLow limit fault → IsShortage fault
 wanted IsTooLow limit fault (inl memory) = inr memory
 wanted IsTooLow limit fault (inr full) = inl full.0
 
@@ -117,7 +117,7 @@ unread limit file fault (inl refuses) = inl (refuses_agree file fault refuses)
 unread limit file fault (inr w) = inr (want_below (IsTooLowFor file) (squares_for file) limit fault (λ most low. low.1) w)
 
 -- whatever the limit
-pub unread_at_all : (limit : ℕ) (file : List ℕ) (fault : Fault) → IsUnreadWithin limit file fault → IsUnread file fault
+pub unread_at_all : (limit : ℕ) (file : List ℕ) (fault : Fault) → IsUnreadWithin limit file fault → IsClaimedUnread file fault
 unread_at_all limit file fault (inl bad) = inl bad
 unread_at_all limit file fault (inr (inl full)) = inr (inl full.0)
 unread_at_all limit file fault (inr (inr memory)) = inr (inr memory)
@@ -127,7 +127,7 @@ unwritten limit file fault (inl refuses) = inl (unread limit file fault refuses)
 unwritten limit file fault (inr many) = inr (many.0, says_more file many.1)
 
 pub unstepped : FilesAreOnPlane 62 → (limit : ℕ) (file : List ℕ) (fault : Fault) → RefusesStepWithin limit file fault
-    → IsUnread file fault ⊎ IsUnstepped file fault
+    → IsClaimedUnread file fault ⊎ IsUnstepped file fault
 unstepped on_plane limit file fault (inl refuses) = inl (inl (refuses_agree file fault refuses))
 unstepped on_plane limit file fault (inr (inl w)) = inl (inr (wanted (NeedsMore (λ P. SomeOfStep P file)) limit fault w))
 unstepped on_plane limit file fault (inr (inr h)) = inr (unstepped_is on_plane file h.0 fault h.1 h.2)
@@ -135,7 +135,7 @@ unstepped on_plane limit file fault (inr (inr h)) = inr (unstepped_is on_plane f
 -- ---- by a table
 
 unstepped_by : TablesDecide → (layer : LayerTable) (table : Table) → IsTable layer table → (limit : ℕ) (file : List ℕ) (fault : Fault)
-    → RefusesStepByWithin layer limit file fault → IsUnread file fault ⊎ IsUnsteppedBy table file fault
+    → RefusesStepByWithin layer limit file fault → IsClaimedUnread file fault ⊎ IsUnsteppedBy table file fault
 unstepped_by decide layer table is limit file fault (inl refuses) = inl (inl (refuses_agree file fault refuses))
 unstepped_by decide layer table is limit file fault (inr (inl w)) =
     inl (inr (wanted (NeedsMore (λ P. SomeOfStepBy P layer file)) limit fault w))
@@ -145,16 +145,16 @@ unstepped_by decide layer table is limit file fault (inr (inr h)) = inr (unstepp
 abbrev pub ToldByTable : (file rules : List ℕ) (in_table : ℕ) (before after : List ℕ) → Told → Type 0
 ToldByTable file rules in_table before after told =
     ((in_table ≡ 0) × ((table : Table) × (table_of rules ≡ Ok table)
-    × Answers (IsSteppedBy table file) (λ fault. IsUnread file fault ⊎ IsUnsteppedBy table file fault) before after told))
-    ⊎ ((in_table ≡ 1) × ((fault : Fault) × ((table_of rules ≡ Err fault) ⊎ (fault ≡ fault_of Memory)) × Tells fault before after told))
+    × Returns (IsClaimedStepBy table file) (λ fault. IsClaimedUnread file fault ⊎ IsUnsteppedBy table file fault) before after told))
+    ⊎ ((in_table ≡ 1) × ((fault : Fault) × ((table_of rules ≡ Err fault) ⊎ (fault ≡ claimed_fault_of Memory)) × ReturnsFault fault before after told))
 
 untabled : TablesRefuse → (rules : List ℕ) (fault : Fault) → OrMemory fault (RefusesTable (lines_of rules) fault)
-    → (table_of rules ≡ Err fault) ⊎ (fault ≡ fault_of Memory)
+    → (table_of rules ≡ Err fault) ⊎ (fault ≡ claimed_fault_of Memory)
 untabled refuse rules fault (inl memory) = inr memory
 untabled refuse rules fault (inr refuses) = inl ((refuse rules fault).0 refuses)
 
 pub by_table_so : FilesAreOnPlane 62 → TablesRead → TablesRefuse → TablesDecide
-    → ((lines : List (List ℕ)) (layer : LayerTable) → IsFile lines layer → AreTable lines layer)
+    → ((lines : List (List ℕ)) (layer : LayerTable) → IsPlainTable lines layer → AreTable lines layer)
     → (limit : ℕ) (file rules : List ℕ) (in_table : ℕ) (before after : List ℕ) (told : Told) → StepsByTable limit file rules in_table before after told
     → ToldByTable file rules in_table before after told
 by_table_so on_plane read refuse decide agree limit file rules in_table before after told (by_table layer is zero answers) =
@@ -173,13 +173,13 @@ by_table_so on_plane read refuse decide agree limit file rules in_table before a
 -- ---- two files
 
 answer_so : FilesAreOnPlane 62 → (first second : List ℕ) → Accepted 62 first → Accepted 62 second → (is_same : ℕ) → IsAnswerOf first second is_same
-    → ((is_same ≡ 1) × Same first second) ⊎ ((is_same ≡ 0) × (Same first second → ⊥))
+    → ((is_same ≡ 1) × SayOnePattern first second) ⊎ ((is_same ≡ 0) × (SayOnePattern first second → ⊥))
 answer_so on_plane first second a b is_same (inl h) = inl (h.0, same_to first second h.1)
 answer_so on_plane first second a b is_same (inr h) = inr (h.0, λ s. h.1 (same_from on_plane first second a.0 b.0 a.1 b.1 s))
 
 uncompared : (limit : ℕ) (first second : List ℕ) (fault : Fault) → RefusesEither limit first second fault
     → (pattern_of first ≡ Err fault)
-    ⊎ ((IsOk (pattern_of first) × (pattern_of second ≡ Err fault)) ⊎ IsWantBelow (squares_for first + squares_for second) limit fault)
+    ⊎ ((IsOk (pattern_of first) × (pattern_of second ≡ Err fault)) ⊎ IsShortageBelow (squares_for first + squares_for second) limit fault)
 uncompared limit first second fault (inl refuses) = inl (refuses_agree first fault refuses)
 uncompared limit first second fault (inr (inl h)) = inr (inl (accepted_is_ok first h.0, refuses_agree second fault h.1))
 uncompared limit first second fault (inr (inr w)) = inr (inr (want_below (IsTooLowForBoth first second) (squares_for first + squares_for second) limit fault
@@ -187,7 +187,7 @@ uncompared limit first second fault (inr (inr w)) = inr (inr (want_below (IsTooL
 
 pub compared_so : FilesAreOnPlane 62 → (limit : ℕ) (first second : List ℕ) (told : Compared) → ComparesWithin limit first second told → told.status ≡ 0
     → (told.line ≡ 0) × IsOk (pattern_of first) × IsOk (pattern_of second)
-    × (((told.is_same ≡ 1) × Same first second) ⊎ ((told.is_same ≡ 0) × (Same first second → ⊥)))
+    × (((told.is_same ≡ 1) × SayOnePattern first second) ⊎ ((told.is_same ≡ 0) × (SayOnePattern first second → ⊥)))
 compared_so on_plane limit first second told (by_answer status line a b answer) ok =
     (line, accepted_is_ok first a, accepted_is_ok second b, answer_so on_plane first second a b told.is_same answer)
 compared_so on_plane limit first second told (comparing.by_fault fault status line none why) ok = no_text told.status fault.kind status (inl ok)
@@ -195,7 +195,7 @@ compared_so on_plane limit first second told (comparing.by_fault fault status li
 pub uncompared_so : (limit : ℕ) (first second : List ℕ) (told : Compared) → ComparesWithin limit first second told → told.status ≢ 0
     → (told.is_same ≡ 0) × ((fault : Fault) × (told.status ≡ kind_number fault.kind) × (told.line ≡ fault.place.line)
     × ((pattern_of first ≡ Err fault)
-    ⊎ ((IsOk (pattern_of first) × (pattern_of second ≡ Err fault)) ⊎ IsWantBelow (squares_for first + squares_for second) limit fault)))
+    ⊎ ((IsOk (pattern_of first) × (pattern_of second ≡ Err fault)) ⊎ IsShortageBelow (squares_for first + squares_for second) limit fault)))
 uncompared_so limit first second told (by_answer status line a b answer) not = absurd (not status)
 uncompared_so limit first second told (comparing.by_fault fault status line none why) not =
     (none, (fault, status, line, uncompared limit first second fault why))
@@ -204,15 +204,16 @@ uncompared_so limit first second told (comparing.by_fault fault status line none
 
 -- a status that is no fault's is that of the canonical text
 pub text_so : FilesAreUnique 62 → (file text : List ℕ) {IsFault : Fault → Type 0} (before after : List ℕ) (told : Told) → IsCanonical 62 file text
-    → Answers (LayerText file) IsFault before after told → IsOfText told.status → Gives text before after told
+    → Returns (LayerText file) IsFault before after told → IsOfText told.status → ReturnsText text before after told
 text_so unique file text before after told c (by_text t is gives none) ok =
-    subst (λ (it : List ℕ). Gives it before after told) (one_text unique file t text is.0 c) gives
+    subst (λ (it : List ℕ). ReturnsText it before after told) (one_text unique file t text is.0 c) gives
 text_so unique file text before after told c (by_fault fault why tells) ok = no_text told.status fault.kind tells.status ok
 
 -- the lines count the node lines of the canonical text
 pub counted_so : FilesAreOnPlane 62 → FilesAreUnique 62 → TextsAreFiles 62 → (file text : List ℕ) {IsFault : Fault → Type 0}
-    (before after : List ℕ) (told : Told) → IsCanonical 62 file text → Answers (IsShown 62 file) IsFault before after told → IsOfText told.status
-    → (lines : List ℕ) × Gives lines before after told × ((pattern : Pattern) × (pattern_of file ≡ Ok pattern) × AreLines pattern (node_lines text) lines)
+    (before after : List ℕ) (told : Told) → IsCanonical 62 file text → Returns (IsShownText 62 file) IsFault before after told → IsOfText told.status
+    → (lines : List ℕ) × ReturnsText lines before after told
+    × ((pattern : Pattern) × (pattern_of file ≡ Ok pattern) × AreLines pattern (claimed_node_lines text) lines)
 counted_so on_plane unique files file text before after told c (by_text lines is gives none) ok =
     (lines, gives, shown_is on_plane unique files file lines text is c)
 counted_so on_plane unique files file text before after told c (by_fault fault why tells) ok = no_text told.status fault.kind tells.status ok
@@ -224,13 +225,13 @@ take_front [] ys = refl
 take_front (x ∷ xs) ys = ap (λ (t : List ℕ). x ∷ t) (take_front xs ys)
 
 -- the memory has one text of the length that is told
-one_copy : (s t before after : List ℕ) (told : Told) → Gives s before after told → Gives t before after told → told.status ≡ 0 → s ≡ t
+one_copy : (s t before after : List ℕ) (told : Told) → ReturnsText s before after told → ReturnsText t before after told → told.status ≡ 0 → s ≡ t
 one_copy s t before after told g h ok = by g.1 h.1
   where
     lengths : length s ≡ length t
     lengths = sym g.0 ∙ h.0
 
-    by : Copies s before after told ⊎ LacksRoom s before after told → Copies t before after told ⊎ LacksRoom t before after told → s ≡ t
+    by : Copies s before after told ⊎ LacksTextSpace s before after told → Copies t before after told ⊎ LacksTextSpace t before after told → s ≡ t
     by (inl c) (inl d) =
         sym (take_front s (drop (length s) before)) ∙ ap (λ (b : List ℕ). take (length s) b) (sym c.copied ∙ d.copied)
         ∙ ap (λ n. take n (t ++ drop (length t) before)) lengths ∙ take_front t (drop (length t) before)
@@ -239,15 +240,15 @@ one_copy s t before after told g h ok = by g.1 h.1
 
 -- a text that is its own canonical text is so where it stands in the memory
 pub fixed_so : {IsText : List ℕ → Type 0} {IsFault : Fault → Type 0} (text again : List ℕ) (before after : List ℕ) (told : Told)
-    → ((it : List ℕ) → IsText it → IsCanonical 62 it again → it ≡ again) → Answers IsText IsFault before after told → told.status ≡ 0
-    → Gives text before after told → IsCanonical 62 text again → again ≡ text
+    → ((it : List ℕ) → IsText it → IsCanonical 62 it again → it ≡ again) → Returns IsText IsFault before after told → told.status ≡ 0
+    → ReturnsText text before after told → IsCanonical 62 text again → again ≡ text
 fixed_so text again before after told fixed (by_text it is gives none) ok here c =
     let same : it ≡ text = one_copy it text before after told gives here ok in
     sym (fixed it is (subst (λ (bytes : List ℕ). IsCanonical 62 bytes again) (sym same) c)) ∙ same
 fixed_so text again before after told fixed (by_fault fault why tells) ok here c = no_text told.status fault.kind tells.status (inl ok)
 
 pub fixed_by_so : FilesAreUnique 62 → (limit : ℕ) (file rules text again : List ℕ) (in_table : ℕ) (before after : List ℕ) (told : Told)
-    → StepsByTable limit file rules in_table before after told → told.status ≡ 0 → Gives text before after told → IsCanonical 62 text again → again ≡ text
+    → StepsByTable limit file rules in_table before after told → told.status ≡ 0 → ReturnsText text before after told → IsCanonical 62 text again → again ≡ text
 fixed_by_so unique limit file rules text again in_table before after told (by_table layer is zero answers) ok here c =
     fixed_so text again before after told (λ it stepped. next_by_is_fixed unique layer file it again stepped) answers ok here c
 fixed_by_so unique limit file rules text again in_table before after told (by_no_table fault why one tells) ok here c =

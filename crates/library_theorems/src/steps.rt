@@ -1,7 +1,7 @@
 //! The next generation of a file.
 
 ghost use Rattle.std.specs.Prelude.{◌≡◌, ◌⊎◌, Ok, Err, IfOk};
-ghost use Rattle.library_theorems.specs.Words.{Fault, IsSteppedBy, IsUnsteppedBy, fault_of, IsStepped, IsUnstepped, Table, table_of, Answers, Gives, Tells, IsUnread};
+ghost use Rattle.library_theorems.specs.Words.{Fault, IsClaimedStepBy, IsUnsteppedBy, claimed_fault_of, IsClaimedStep, IsUnstepped, Table, table_of, Returns, ReturnsText, ReturnsFault, IsClaimedUnread};
 
 use library_calls::{Options, Told, step, step_by_table};
 use life_base::{Fault, Kind};
@@ -14,8 +14,9 @@ use table_laws::laws::{tables_decide, tables_read, tables_refuse};
 /// A text of the next generation of a file under its B/S rule is at the beginning of the caller's memory, or its length is
 /// reported where it doesn't fit; or the number and the line of the file's fault are reported, or the first reason why it has none.
 pub fn next_is_told(alloc: Global, file: &[u8], options: Options, out: &mut [u8]) -> Told
-    ensures { Answers (IsStepped file.now)
-        (λ fault. IsUnread file.now fault ⊎ IsUnstepped file.now fault) out.old out.new result }
+    ensures { Returns (IsClaimedStep file.now)
+        (λ fault. IsClaimedUnread file.now fault ⊎ IsUnstepped file.now fault) out.old out.new
+        result }
 {
     files_are_on_plane();
     step(alloc, file, options, out)
@@ -31,11 +32,12 @@ pub fn next_by_table_is_told(
     out: &mut [u8],
 ) -> (Told, u32)
     ensures { ((result.1 ≡ 0) × ((table : Table) × (table_of rules.now ≡ Ok table)
-        × Answers (IsSteppedBy table file.now)
-        (λ fault. IsUnread file.now fault ⊎ IsUnsteppedBy table file.now fault) out.old out.new
+        × Returns (IsClaimedStepBy table file.now)
+        (λ fault. IsClaimedUnread file.now fault ⊎ IsUnsteppedBy table file.now fault) out.old
+        out.new
         result.0)) ⊎ ((result.1 ≡ 1) × ((fault : Fault)
-        × ((table_of rules.now ≡ Err fault) ⊎ (fault ≡ fault_of Kind.Memory))
-        × Tells fault out.old out.new result.0)) }
+        × ((table_of rules.now ≡ Err fault) ⊎ (fault ≡ claimed_fault_of Kind.Memory))
+        × ReturnsFault fault out.old out.new result.0)) }
 {
     files_are_on_plane();
     grammars_agree();
@@ -57,10 +59,10 @@ pub fn told_next_texts_are_fixed(
     store: &mut Shared,
     text: &[u8],
 ) -> (Told, Told, Result<Vec<u8>, Fault>)
-    ensures by_rule { result.0.status ≡ 0 → Gives text.now out.old out.new result.0
+    ensures by_rule { result.0.status ≡ 0 → ReturnsText text.now out.old out.new result.0
         → IfOk result.2 (λ again. again.items ≡ text.now) }
     ensures by_table { result.1.status ≡ 0
-        → Gives text.now out_by_table.old out_by_table.new result.1
+        → ReturnsText text.now out_by_table.old out_by_table.new result.1
         → IfOk result.2 (λ again. again.items ≡ text.now) }
 {
     files_are_unique();

@@ -1,7 +1,7 @@
 //! A file that comes in pieces, and one answer at its end.
 
 ghost use Rattle.std.specs.Prelude.{◌≡◌, ◌⊎◌, ℕ, List, [], Ok, IfOk};
-ghost use Rattle.library_theorems.specs.Words.{kind_number, node_lines, IsCanonicalText, pattern_of, IsStepped, IsUnstepped, Pattern, IsShown, IsTextOf, session_of, IsOpen, IsFed, Answers, Gives, OutputValue, IsRleText, AreFiveLines, IsUnread, IsUnreadWithin, IsUnwritten, IsEndFault, joined};
+ghost use Rattle.library_theorems.specs.Words.{kind_number, claimed_node_lines, IsCanonicalText, pattern_of, IsClaimedStep, IsUnstepped, Pattern, IsClaimedShown, IsOutputText, session_of, IsOpenStream, IsFed, Returns, ReturnsText, OutputValue, IsClaimedRleText, AreFiveLines, IsClaimedUnread, IsUnreadWithin, IsUnwritten, IsEndFault, all_bytes};
 
 use library_calls::{Options, Output, Stream, Told, close, feed, finish, open};
 use life_base::{Fault, Kind};
@@ -15,9 +15,9 @@ use std::alloc::Global;
 /// What is reported at the end of the file that these are the pieces of: each is fed to an open stream, which is finished and closed.
 fn told_of_pieces(alloc: Global, stream: &mut Stream, pieces: &[Vec<u8>], out: &mut [u8]) -> Told
     ensures { (output : OutputValue) (limit : ℕ)
-        → IsOpen (IsFed output limit []) (session_of stream.old)
-        → Answers (IsTextOf output limit (joined pieces.now))
-        (IsEndFault output limit (joined pieces.now))
+        → IsOpenStream (IsFed output limit []) (session_of stream.old)
+        → Returns (IsOutputText output limit (all_bytes pieces.now))
+        (IsEndFault output limit (all_bytes pieces.now))
         out.old out.new result }
 {
     faults_stay();
@@ -41,17 +41,19 @@ pub fn text_of_stream(
 ) -> (u32, Told)
     ensures opened { (result.0 ≡ 0) ⊎ (result.0 ≡ kind_number Kind.Memory) }
     ensures canonical { output ≡ OutputValue.Canonical → result.0 ≡ 0
-        → Answers (IsCanonicalText (joined pieces.now))
-        (IsUnreadWithin options.limit (joined pieces.now)) out.old out.new result.1 }
+        → Returns (IsCanonicalText (all_bytes pieces.now))
+        (IsUnreadWithin options.limit (all_bytes pieces.now)) out.old out.new result.1 }
     ensures rle { output ≡ OutputValue.Rle → result.0 ≡ 0
-        → Answers (IsRleText (joined pieces.now)) (IsUnwritten options.limit (joined pieces.now))
+        → Returns (IsClaimedRleText (all_bytes pieces.now))
+        (IsUnwritten options.limit (all_bytes pieces.now))
         out.old out.new result.1 }
     ensures lines { output ≡ OutputValue.Lines → result.0 ≡ 0
-        → Answers (AreFiveLines (joined pieces.now))
-        (IsUnreadWithin options.limit (joined pieces.now)) out.old out.new result.1 }
+        → Returns (AreFiveLines (all_bytes pieces.now))
+        (IsUnreadWithin options.limit (all_bytes pieces.now)) out.old out.new result.1 }
     ensures next { output ≡ OutputValue.Next → result.0 ≡ 0
-        → Answers (IsStepped (joined pieces.now))
-        (λ fault. IsUnread (joined pieces.now) fault ⊎ IsUnstepped (joined pieces.now) fault)
+        → Returns (IsClaimedStep (all_bytes pieces.now))
+        (λ fault. IsClaimedUnread (all_bytes pieces.now) fault
+        ⊎ IsUnstepped (all_bytes pieces.now) fault)
         out.old out.new result.1 }
 {
     canonical_is_least();
@@ -76,16 +78,16 @@ pub fn text_of_stream_beside_canon(
     options: Options,
     out: &mut [u8],
 ) -> (u32, Told, Result<Vec<u8>, Fault>)
-    ensures text { output ≡ OutputValue.Canonical → bytes.now ≡ joined pieces.now → result.0 ≡ 0
+    ensures text { output ≡ OutputValue.Canonical → bytes.now ≡ all_bytes pieces.now → result.0 ≡ 0
         → (result.1.status ≡ 0) ⊎ (result.1.status ≡ 64)
-        → IfOk result.2 (λ text. Gives text.items out.old out.new result.1) }
-    ensures lines { output ≡ OutputValue.Lines → bytes.now ≡ joined pieces.now → result.0 ≡ 0
+        → IfOk result.2 (λ text. ReturnsText text.items out.old out.new result.1) }
+    ensures lines { output ≡ OutputValue.Lines → bytes.now ≡ all_bytes pieces.now → result.0 ≡ 0
         → (result.1.status ≡ 0) ⊎ (result.1.status ≡ 64)
-        → IfOk result.2 (λ text. (lines : List ℕ) × Gives lines out.old out.new result.1
-        × ((pattern : Pattern) × (pattern_of (joined pieces.now) ≡ Ok pattern)
-        × IsShown pattern (node_lines text.items) lines)) }
+        → IfOk result.2 (λ text. (lines : List ℕ) × ReturnsText lines out.old out.new result.1
+        × ((pattern : Pattern) × (pattern_of (all_bytes pieces.now) ≡ Ok pattern)
+        × IsClaimedShown pattern (claimed_node_lines text.items) lines)) }
     ensures next { output ≡ OutputValue.Next → result.0 ≡ 0 → result.1.status ≡ 0
-        → Gives bytes.now out.old out.new result.1
+        → ReturnsText bytes.now out.old out.new result.1
         → IfOk result.2 (λ again. again.items ≡ bytes.now) }
 {
     files_are_on_plane();

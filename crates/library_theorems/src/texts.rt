@@ -1,7 +1,7 @@
 //! The texts of a file, put into memory of the caller.
 
 ghost use Rattle.std.specs.Prelude.{◌≡◌, ◌⊎◌, ℕ, List, Ok, IfOk};
-ghost use Rattle.library_theorems.specs.Words.{node_lines, IsCanonicalText, pattern_of, Pattern, IsShown, Answers, Gives, IsRleText, AreFiveLines, IsUnreadWithin, IsUnwritten};
+ghost use Rattle.library_theorems.specs.Words.{claimed_node_lines, IsCanonicalText, pattern_of, Pattern, IsClaimedShown, Returns, ReturnsText, IsClaimedRleText, AreFiveLines, IsUnreadWithin, IsUnwritten};
 
 use library_calls::{Options, Told, canon, show, to_rle};
 use life_base::Fault;
@@ -15,7 +15,7 @@ use std::alloc::Global;
 /// the number and the line of the file's fault are reported, and `Full` only where the limit is below 14 squares for each byte of
 /// the file, and 264.
 pub fn text_is_told(alloc: Global, file: &[u8], options: Options, out: &mut [u8]) -> Told
-    ensures { Answers (IsCanonicalText file.now) (IsUnreadWithin options.limit file.now) out.old
+    ensures { Returns (IsCanonicalText file.now) (IsUnreadWithin options.limit file.now) out.old
         out.new result }
 {
     files_are_on_plane();
@@ -26,15 +26,15 @@ pub fn text_is_told(alloc: Global, file: &[u8], options: Options, out: &mut [u8]
 
 /// The same of the text in extended RLE of a file, for which the file may have too many cells.
 pub fn rle_is_told(alloc: Global, file: &[u8], options: Options, out: &mut [u8]) -> Told
-    ensures { Answers (IsRleText file.now) (IsUnwritten options.limit file.now) out.old out.new
-        result }
+    ensures { Returns (IsClaimedRleText file.now) (IsUnwritten options.limit file.now) out.old
+        out.new result }
 {
     to_rle(alloc, file, options, out)
 }
 
 /// The same of the five lines that describe a file's pattern.
 pub fn lines_are_told(alloc: Global, file: &[u8], options: Options, out: &mut [u8]) -> Told
-    ensures { Answers (AreFiveLines file.now) (IsUnreadWithin options.limit file.now)
+    ensures { Returns (AreFiveLines file.now) (IsUnreadWithin options.limit file.now)
         out.old out.new result }
 {
     canonical_is_least();
@@ -56,11 +56,11 @@ pub fn told_texts_are_those_of_canon(
     store: &mut Shared,
 ) -> (Told, Told, Result<Vec<u8>, Fault>)
     ensures text { (result.0.status ≡ 0) ⊎ (result.0.status ≡ 64)
-        → IfOk result.2 (λ text. Gives text.items out.old out.new result.0) }
+        → IfOk result.2 (λ text. ReturnsText text.items out.old out.new result.0) }
     ensures lines { (result.1.status ≡ 0) ⊎ (result.1.status ≡ 64)
-        → IfOk result.2 (λ text. (lines : List ℕ) × Gives lines shown.old shown.new result.1
+        → IfOk result.2 (λ text. (lines : List ℕ) × ReturnsText lines shown.old shown.new result.1
         × ((pattern : Pattern) × (pattern_of file.now ≡ Ok pattern)
-        × IsShown pattern (node_lines text.items) lines)) }
+        × IsClaimedShown pattern (claimed_node_lines text.items) lines)) }
 {
     files_are_on_plane();
     files_are_unique();

@@ -4,21 +4,21 @@ use Rattle.std.specs.List.{list_any}
 use Rattle.life_base.proofs.NamesRead.{four_none}
 use Rattle.life_base.specs.Sets.{DigitSets}
 use Rattle.life_base.specs.Text.{trim}
-use Rattle.life_base.specs.Rules.{rule_of, is_bad_text, has_digit, life_sets, four_sets, life_or_other, four_or_other, moore_or_other, other_rule, names_other_neighbours, counting, CountsEight, MooreRulesStay}
+use Rattle.life_base.specs.Rules.{rule_of, is_bad_text, has_digit, life_sets, four_sets, life_or_other, four_or_other, moore_or_other, other_rule, names_other_neighbours, rule_with_sets, CountsEight, MooreRulesStay}
 use Rattle.life_base.specs.declared.kind.Kind.{Kind}
 use Rattle.life_base.specs.declared.kind.Kind.TheVariants.{BadRule, BoundedGrid, UnsupportedRule, BirthOnZero}
 use Rattle.life_base.specs.declared.rule.Near.TheVariants.{Moore, VonNeumann}
 use Rattle.life_base.specs.declared.rule.Rule.{Rule}
 use Rattle.life_base.specs.declared.rule.Rule.TheVariants.{Named}
 
-eight : (sets : DigitSets) (rule : Rule) (v : Bool) → cond v (Err BirthOnZero) (Ok (counting Moore sets)) ≡ Ok rule → CountsEight rule
+eight : (sets : DigitSets) (rule : Rule) (v : Bool) → cond v (Err BirthOnZero) (Ok (rule_with_sets Moore sets)) ≡ Ok rule → CountsEight rule
 eight sets rule true h = cc
-eight sets rule false h = let same : counting Moore sets ≡ rule = cc in subst CountsEight same refl
+eight sets rule false h = let same : rule_with_sets Moore sets ≡ rule = cc in subst CountsEight same refl
 
-four : (sets : DigitSets) (rule : Rule) (v : Bool) → cond v (Err BirthOnZero) (Ok (counting VonNeumann sets)) ≡ Ok rule → CountsEight rule → ⊥
+four : (sets : DigitSets) (rule : Rule) (v : Bool) → cond v (Err BirthOnZero) (Ok (rule_with_sets VonNeumann sets)) ≡ Ok rule → CountsEight rule → ⊥
 four sets rule true h e = cc
 four sets rule false h e =
-    let same : counting VonNeumann sets ≡ rule = cc in
+    let same : rule_with_sets VonNeumann sets ≡ rule = cc in
     let near : VonNeumann ≡ Moore = subst CountsEight (sym same) e in
     cc
 

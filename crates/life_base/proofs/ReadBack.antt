@@ -7,7 +7,7 @@ use Rattle.std.proofs.lemmas.List.Folds.{list_all-append}
 use Rattle.life_base.proofs.RoundTrip.{moore_again, text_passes, sets_again, set_again, set_digits, set_short, digit_visible, digit_no_colon}
 use Rattle.life_base.proofs.RuleForms.{life_texts_are_forms, rule_texts_are_plain}
 use Rattle.life_base.specs.Sets.{DigitSets}
-use Rattle.life_base.specs.Rules.{digits_of, digit_set, is_count_digit, life_sets, rule_of, rule_text, is_bad_text, counting, IsLifeRule, RulesReadBack}
+use Rattle.life_base.specs.Rules.{digits_of, digit_set, is_count_digit, life_sets, rule_of, rule_text, is_bad_text, rule_with_sets, IsLifeRule, RulesReadBack}
 use Rattle.life_base.specs.RuleForms.{IsFourText, IsRuleWord, SaysRule}
 use Rattle.life_base.specs.declared.rule.Near.{Near}
 use Rattle.life_base.specs.declared.rule.Near.TheVariants.{Moore, VonNeumann}
@@ -74,7 +74,7 @@ module _ (v : DigitSets) (h : IsLifeRule (record { sets = v; near = VonNeumann }
     unbounded = passes (λ b. not (b == 58)) digit_no_colon refl refl;
   }
 
-  four_says : SaysRule word (counting VonNeumann v)
+  four_says : SaysRule word (rule_with_sets VonNeumann v)
   four_says = record {
     word = word;
     around = record { before = []; behind = []; is = sym (append-nil word); blank_before = refl; blank_behind = refl };
@@ -82,21 +82,22 @@ module _ (v : DigitSets) (h : IsLifeRule (record { sets = v; near = VonNeumann }
     says = (is_four, h.no_birth_on_zero);
   }
 
-  four_again : rule_of (rule_text (counting VonNeumann v)) ≡ Ok (counting VonNeumann v)
+  four_again : rule_of (rule_text (rule_with_sets VonNeumann v)) ≡ Ok (rule_with_sets VonNeumann v)
   four_again =
       ap (λ (t : List ℕ). rule_of (66 ∷ (t ++ codes "V"))) (append_assoc ds (codes "/S") es)
-      ∙ (rule_texts_are_plain word (counting VonNeumann v)).1 four_says
+      ∙ (rule_texts_are_plain word (rule_with_sets VonNeumann v)).1 four_says
 
   within_bound : (n : ℕ) → n ≤ 255 → nat_lt 255 n ≡ false
   within_bound n k = grind (arith, nat_tests)
 
-  pub four_visible : is_bad_text (rule_text (counting VonNeumann v)) ≡ false
+  pub four_visible : is_bad_text (rule_text (rule_with_sets VonNeumann v)) ≡ false
   four_visible =
       ap (λ (t : List ℕ). is_bad_text (66 ∷ (t ++ codes "V"))) (append_assoc ds (codes "/S") es)
       ∙ ap (λ w. w || not (list_all (λ b. nat_le 33 b && nat_le b 126) word)) (within_bound (length word) is_word.short)
       ∙ ap not is_word.visible
 
-life_again : (v : DigitSets) (near : Near) → IsLifeRule (record { sets = v; near = near }) → rule_of (rule_text (counting near v)) ≡ Ok (counting near v)
+life_again : (v : DigitSets) (near : Near) → IsLifeRule (record { sets = v; near = near }) → rule_of (rule_text (rule_with_sets near v))
+    ≡ Ok (rule_with_sets near v)
 life_again v Moore h = moore_again v h
 life_again v VonNeumann h = four_again v h
 

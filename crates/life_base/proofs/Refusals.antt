@@ -2,7 +2,7 @@
 use Rattle.std.proofs.Common.{◌≡◌, ℕ, ◌+◌, ◌-◌, ◌^◌, ◌<◌, ◌≤◌, min, List, [], ◌++◌, length, take, get_or, Option, Some, None, refl, ap, sym, ◌∙◌, arith, length-append, inl, inr, take-take, get_or-take, length-take-le}
 use Rattle.std.proofs.lemmas.List.{take-append-le}
 use Rattle.std.proofs.Math.ListN.{get_or-append}
-use Rattle.life_base.specs.Refusal.{Prefix, IsPlace, IsRefusal, BreaksBy, kept, continuations}
+use Rattle.life_base.specs.Refusal.{Prefix, IsPlace, IsRefusal, BreaksBy, kept_lines, continuations}
 use Rattle.life_base.specs.declared.kind.Kind.{Kind}
 use Rattle.life_base.specs.declared.fault.Fault.{Fault}
 use Rattle.life_base.proofs.Basics.{some_same, le_or_lt}
@@ -56,7 +56,7 @@ module _ (Grammar : List (List ℕ) → Type 0) (broken : List (List ℕ) → Li
     -- no line of the front of a file breaks a rule
     pub front_unbroken : (lines : List (List ℕ)) → Prefix Grammar lines → UnbrokenBelow lines (length lines)
     front_unbroken lines (keeps, g) k h =
-        let more = kept keeps continuations in
+        let more = kept_lines keeps continuations in
         let e : take k (lines ++ more) ≡ take k lines = take-append-le k lines more (omega arith) in
         let f : get_or (lines ++ more) k [] ≡ get_or lines k [] = get_or-append lines more [] k h in
         let u : broken (take k (lines ++ more)) (get_or (lines ++ more) k []) ≡ None = by_lines.sound (lines ++ more) g k

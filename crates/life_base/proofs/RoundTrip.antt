@@ -8,7 +8,7 @@ use Rattle.std.specs.Char.{to_ascii_uppercase}
 use Rattle.life_base.proofs.Basics.{right_of_and, left_of_and}
 use Rattle.life_base.specs.Sets.{DigitSets}
 use Rattle.life_base.specs.Text.{is_whitespace, without_last, trim}
-use Rattle.life_base.specs.Rules.{digits_of, digit_set, is_count_digit, digit_groups, marks, life_sets, life_form, rule_of, rule_of_trimmed, rule_text, is_bad_text, life_rule, life_or_other, counting, IsLifeRule, sets}
+use Rattle.life_base.specs.Rules.{digits_of, digit_set, is_count_digit, digit_groups, marks, life_sets, life_form, rule_of, rule_of_trimmed, rule_text, is_bad_text, life_rule, life_or_other, rule_with_sets, IsLifeRule, sets}
 use Rattle.life_base.specs.declared.kind.Kind.TheVariants.{BadRule, BoundedGrid, BirthOnZero}
 use Rattle.life_base.specs.declared.rule.Near.TheVariants.{Moore}
 
@@ -149,11 +149,11 @@ module _ (ds es : List ℕ) (d : list_all is_count_digit ds ≡ true) (e : list_
       (no_any (λ b. b == 58) text (text_passes (λ b. not (b == 58)) digit_no_colon refl ds es d e))
       ∙ ap (life_or_other text) (sets_again ds es d e)
 
-pub moore_again : (v : DigitSets) → IsLifeRule (record { sets = v; near = Moore }) → rule_of (rule_text (counting Moore v)) ≡ Ok (counting Moore v)
+pub moore_again : (v : DigitSets) → IsLifeRule (record { sets = v; near = Moore }) → rule_of (rule_text (rule_with_sets Moore v)) ≡ Ok (rule_with_sets Moore v)
 moore_again v h =
     ap (λ (t : List ℕ). rule_of (66 ∷ t)) (append_assoc (digits_of v.births) (codes "/S") (digits_of v.survivals))
     ∙ text_rule (digits_of v.births) (digits_of v.survivals) (set_digits v.births h.births) (set_digits v.survivals h.survivals) (set_short v.births h.births)
     (set_short v.survivals h.survivals)
     ∙ ap (λ (b : ℕ). life_rule Moore (record { births = b; survivals = digit_set (digits_of v.survivals) })) (set_again v.births h.births)
     ∙ ap (λ (s : ℕ). life_rule Moore (record { births = v.births; survivals = s })) (set_again v.survivals h.survivals)
-    ∙ ap (λ w. cond w (Err BirthOnZero) (Ok (counting Moore v))) h.no_birth_on_zero
+    ∙ ap (λ w. cond w (Err BirthOnZero) (Ok (rule_with_sets Moore v))) h.no_birth_on_zero

@@ -1,7 +1,7 @@
 -- The definitions at worked examples, by computation.
 use Rattle.std.proofs.Common.{◌≡◌, ℕ, ◌^◌, List, [], ◌∷◌, map, refl, codes, Result, Ok, Err}
 use Rattle.life_base.specs.Text.{lines_of, words_of, value_of}
-use Rattle.life_base.specs.Rules.{rule_of, rule_text, life_sets, four_sets, moore_rule_of, counting}
+use Rattle.life_base.specs.Rules.{rule_of, rule_text, life_sets, four_sets, moore_rule_of, rule_with_sets}
 use Rattle.life_base.specs.declared.kind.Kind.{Kind}
 use Rattle.life_base.specs.declared.kind.Kind.TheVariants.{BadRule, BoundedGrid, UnsupportedRule, BirthOnZero}
 use Rattle.life_base.specs.declared.rule.Near.TheVariants.{VonNeumann}
@@ -44,7 +44,7 @@ names_are_kept : map rule_of name_rows ≡ map (λ text. Ok (Named text)) name_r
 unfolding rule_of life_sets four_sets
 names_are_kept = refl
 
-four_is_a_rule : rule_of (codes "B1/S0V") ≡ Ok (counting VonNeumann (record { births = 2; survivals = 1 }))
+four_is_a_rule : rule_of (codes "B1/S0V") ≡ Ok (rule_with_sets VonNeumann (record { births = 2; survivals = 1 }))
 unfolding rule_of life_sets four_sets
 four_is_a_rule = refl
 

@@ -12,7 +12,7 @@ use Rattle.life_base.proofs.Texts.{same_bytes, blank_front}
 use Rattle.life_base.proofs.Basics.{right_of_and, left_of_and}
 use Rattle.life_base.specs.Sets.{DigitSets}
 use Rattle.life_base.specs.Text.{is_whitespace, is_empty, trim, trim_start, without_last, IsAround}
-use Rattle.life_base.specs.Rules.{is_count_digit, digit_set, has_digit, digit_groups, marks, sets, life_form, life_sets, four_sets, up_to_four, life_or_other, four_or_other, counting, names_other_neighbours, is_bad_text, rule_of, rule_of_trimmed}
+use Rattle.life_base.specs.Rules.{is_count_digit, digit_set, has_digit, digit_groups, marks, sets, life_form, life_sets, four_sets, up_to_four, life_or_other, four_or_other, rule_with_sets, names_other_neighbours, is_bad_text, rule_of, rule_of_trimmed}
 use Rattle.life_base.specs.RuleForms.{IsForm, IsLifeText, IsFourText, IsNearText, IsRuleWord, names_neighbours, IsOtherWord, WordSays, SaysRule}
 use Rattle.life_base.specs.declared.kind.Kind.TheVariants.{BadRule, BoundedGrid, UnsupportedRule, BirthOnZero}
 use Rattle.life_base.specs.declared.rule.Near.{Near}
@@ -519,9 +519,9 @@ module _ (word front : List ℕ) (last : ℕ) (s : DigitSets) (w : word ≡ fron
 -- ---- what an accepted text says
 
 life_said : (word : List ℕ) (near : Near) (s : DigitSets) (rule : Rule) (v : Bool) → has_digit s.births 0 ≡ v → IsNearText near word s
-    → cond v (Err BirthOnZero) (Ok (counting near s)) ≡ Ok rule → WordSays word rule
+    → cond v (Err BirthOnZero) (Ok (rule_with_sets near s)) ≡ Ok rule → WordSays word rule
 life_said word near s rule true e l h = cc
-life_said word near s rule false e l h = let same : counting near s ≡ rule = cc in subst (WordSays word) same (l, e)
+life_said word near s rule false e l h = let same : rule_with_sets near s ≡ rule = cc in subst (WordSays word) same (l, e)
 
 is_other : (word : List ℕ) → life_sets word ≡ None → names_other_neighbours word ≡ false → list_any (λ b. b == 47) word ≡ false → IsOtherWord word
 is_other word none others slash = record {
@@ -572,13 +572,14 @@ no_letter word h true e =
     absurd (h.no_neighbours front p.0 s.0 w p.2 (life_is_form front s.0 s.1))
 
 life_answers : (word : List ℕ) (near : Near) (sets : DigitSets) → IsNearText near word sets → has_digit sets.births 0 ≡ false
-    → life_or_other word (life_sets word) ≡ Ok (counting near sets)
-life_answers word Moore sets h quiet = ap (life_or_other word) (is_form_of_life word sets h) ∙ ap (λ v. cond v (Err BirthOnZero) (Ok (counting Moore sets)))
+    → life_or_other word (life_sets word) ≡ Ok (rule_with_sets near sets)
+life_answers word Moore sets h quiet = ap (life_or_other word) (is_form_of_life word sets h)
+    ∙ ap (λ v. cond v (Err BirthOnZero) (Ok (rule_with_sets Moore sets)))
     quiet
 life_answers word VonNeumann sets h quiet =
     ap (life_or_other word) (no_form_with_v word h.front h.last h.is h.letter (life_sets word) refl)
     ∙ ap (four_or_other word) (is_form_of_four word sets h)
-    ∙ ap (λ v. cond v (Err BirthOnZero) (Ok (counting VonNeumann sets))) quiet
+    ∙ ap (λ v. cond v (Err BirthOnZero) (Ok (rule_with_sets VonNeumann sets))) quiet
 
 answers : (word : List ℕ) (rule : Rule) → WordSays word rule → life_or_other word (life_sets word) ≡ Ok rule
 answers word (Life rule) h = life_answers word rule.near rule.sets h.0 h.1

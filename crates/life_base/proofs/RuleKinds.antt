@@ -3,7 +3,7 @@ use Rattle.std.proofs.Common.{◌≡◌, ℕ, List, Bool, true, false, cond, ref
 use Rattle.std.specs.List.{list_any}
 use Rattle.life_base.specs.Sets.{DigitSets}
 use Rattle.life_base.specs.Text.{trim}
-use Rattle.life_base.specs.Rules.{rule_of, is_bad_text, life_or_other, four_or_other, life_sets, four_sets, counting, has_digit, names_other_neighbours, is_rule_kind}
+use Rattle.life_base.specs.Rules.{rule_of, is_bad_text, life_or_other, four_or_other, life_sets, four_sets, rule_with_sets, has_digit, names_other_neighbours, is_rule_kind}
 use Rattle.life_base.specs.declared.kind.Kind.{Kind}
 use Rattle.life_base.specs.declared.kind.Kind.TheVariants.{BadRule, BoundedGrid, UnsupportedRule, BirthOnZero}
 use Rattle.life_base.specs.declared.rule.Near.TheVariants.{Moore, VonNeumann}
@@ -25,14 +25,14 @@ pub kind_passes : {X : Type 0} (test : Kind → Bool) (r : Result X Kind) (kind 
 kind_passes test r kind h e = sym (ap (errs_by test) e) ∙ h
 
 by_four : (text : List ℕ) (found : Option DigitSets) → errs_by is_rule_kind (four_or_other text found) ≡ true
-by_four text (Some sets) = errs_by_cases is_rule_kind (has_digit sets.births 0) (Err BirthOnZero) (Ok (counting VonNeumann sets)) refl refl
+by_four text (Some sets) = errs_by_cases is_rule_kind (has_digit sets.births 0) (Err BirthOnZero) (Ok (rule_with_sets VonNeumann sets)) refl refl
 by_four text None =
     errs_by_cases is_rule_kind (names_other_neighbours text) (Err UnsupportedRule) (cond (list_any (λ b. b == 47) text) (Err UnsupportedRule) (Ok (Named text)))
     refl
     (errs_by_cases is_rule_kind (list_any (λ b. b == 47) text) (Err UnsupportedRule) (Ok (Named text)) refl refl)
 
 by_form : (text : List ℕ) (found : Option DigitSets) → errs_by is_rule_kind (life_or_other text found) ≡ true
-by_form text (Some sets) = errs_by_cases is_rule_kind (has_digit sets.births 0) (Err BirthOnZero) (Ok (counting Moore sets)) refl refl
+by_form text (Some sets) = errs_by_cases is_rule_kind (has_digit sets.births 0) (Err BirthOnZero) (Ok (rule_with_sets Moore sets)) refl refl
 by_form text None = by_four text (four_sets text)
 
 trimmed_kinds : (text : List ℕ)

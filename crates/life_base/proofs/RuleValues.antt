@@ -4,7 +4,7 @@ use Rattle.std.specs.List.{list_any}
 use Rattle.life_base.proofs.NamesRead.{rule_text_trimmed}
 use Rattle.life_base.specs.Sets.{DigitSets, OuterTotalistic}
 use Rattle.life_base.specs.Text.{trim}
-use Rattle.life_base.specs.Rules.{rule_of, rule_of_trimmed, is_bad_text, has_digit, digit_set, digit_groups, marks, sets, life_form, life_sets, four_sets, up_to_four, life_or_other, four_or_other, names_other_neighbours, counting, most_neighbours, IsLifeRule, IsRule, default_rule}
+use Rattle.life_base.specs.Rules.{rule_of, rule_of_trimmed, is_bad_text, has_digit, digit_set, digit_groups, marks, sets, life_form, life_sets, four_sets, up_to_four, life_or_other, four_or_other, names_other_neighbours, rule_with_sets, most_neighbours, IsLifeRule, IsRule, default_rule}
 use Rattle.life_base.specs.declared.kind.Kind.TheVariants.{BadRule, BoundedGrid, UnsupportedRule, BirthOnZero}
 use Rattle.life_base.specs.declared.rule.Near.{Near}
 use Rattle.life_base.specs.declared.rule.Near.TheVariants.{Moore, VonNeumann}
@@ -127,7 +127,7 @@ other_not_life text rule false false h = cc
 
 life_said : (near : Near) (found : DigitSets) (rule : OuterTotalistic) → AreBelow (2 ^ (most_neighbours near + 1)) (Some found) → (v : Bool)
     → has_digit found.births 0 ≡ v
-    → cond v (Err BirthOnZero) (Ok (counting near found)) ≡ Ok (Life rule) → IsLifeRule rule
+    → cond v (Err BirthOnZero) (Ok (rule_with_sets near found)) ≡ Ok (Life rule) → IsLifeRule rule
 life_said near found rule s true e h = cc
 life_said near found rule s false e h =
     let here : OuterTotalistic = record { sets = found; near = near } in

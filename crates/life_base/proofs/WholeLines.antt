@@ -5,7 +5,7 @@ use Rattle.std.proofs.lemmas.List.Folds.{list_all-append}
 use Rattle.std.proofs.lemmas.Bool.{not-true, and_from, and_right}
 use Rattle.std.proofs.lemmas.Bool.Decides.{nat_tests}
 use Rattle.life_base.specs.Text.{lines_of, onto_first}
-use Rattle.life_base.specs.Lines.{has_no_feed, onto_next, whole_lines, rest_line, one_line, IsContinued, IsLonger, IsEnded, joined, AreJoined, AreOnlyJoined}
+use Rattle.life_base.specs.Lines.{has_no_feed, onto_next, whole_lines, rest_line, one_line, IsContinued, IsLonger, IsEnded, joined_lines, AreJoined, AreOnlyJoined}
 use Rattle.life_base.proofs.LineEnds.{onto_alone}
 use Rattle.life_base.proofs.Basics.{right_of_and, left_of_and}
 
@@ -52,30 +52,31 @@ rest_behind (b ∷ bytes) more =
 
 -- ---- lines that are joined
 
-over : (line : List ℕ) (lines : List (List ℕ)) (more : List ℕ) → joined (line ∷ lines) ++ more ≡ line ++ 10 ∷ (joined lines ++ more)
-over line lines more = append_assoc line (10 ∷ joined lines) more
+over : (line : List ℕ) (lines : List (List ℕ)) (more : List ℕ) → joined_lines (line ∷ lines) ++ more ≡ line ++ 10 ∷ (joined_lines lines ++ more)
+over line lines more = append_assoc line (10 ∷ joined_lines lines) more
 
-pub whole-joined : (lines : List (List ℕ)) (more : List ℕ) → list_all has_no_feed lines ≡ true → whole_lines (joined lines ++ more) ≡ lines ++ whole_lines more
+pub whole-joined : (lines : List (List ℕ)) (more : List ℕ) → list_all has_no_feed lines ≡ true → whole_lines (joined_lines lines ++ more) ≡ lines
+    ++ whole_lines more
 whole-joined [] more h = refl
 whole-joined (line ∷ lines) more h =
-    ap whole_lines (over line lines more) ∙ first_whole line (joined lines ++ more) (left_of_and _ _ h)
+    ap whole_lines (over line lines more) ∙ first_whole line (joined_lines lines ++ more) (left_of_and _ _ h)
     ∙ ap (λ (ls : List (List ℕ)). line ∷ ls) (whole-joined lines more (right_of_and (has_no_feed line) _ h))
 
-pub lines-joined : (lines : List (List ℕ)) (more : List ℕ) → list_all has_no_feed lines ≡ true → lines_of (joined lines ++ more) ≡ lines ++ lines_of more
+pub lines-joined : (lines : List (List ℕ)) (more : List ℕ) → list_all has_no_feed lines ≡ true → lines_of (joined_lines lines ++ more) ≡ lines ++ lines_of more
 lines-joined [] more h = refl
 lines-joined (line ∷ lines) more h =
-    ap lines_of (over line lines more) ∙ first_of_lines line (joined lines ++ more) (left_of_and _ _ h)
+    ap lines_of (over line lines more) ∙ first_of_lines line (joined_lines lines ++ more) (left_of_and _ _ h)
     ∙ ap (λ (ls : List (List ℕ)). line ∷ ls) (lines-joined lines more (right_of_and (has_no_feed line) _ h))
 
-pub rest-joined : (lines : List (List ℕ)) (more : List ℕ) → rest_line (joined lines ++ more) ≡ rest_line more
+pub rest-joined : (lines : List (List ℕ)) (more : List ℕ) → rest_line (joined_lines lines ++ more) ≡ rest_line more
 rest-joined [] more = refl
-rest-joined (line ∷ lines) more = ap rest_line (over line lines more) ∙ rest_behind line (joined lines ++ more) ∙ rest-joined lines more
+rest-joined (line ∷ lines) more = ap rest_line (over line lines more) ∙ rest_behind line (joined_lines lines ++ more) ∙ rest-joined lines more
 
 -- ---- what the lines and the rest are that are joined to bytes
 
 module _ (bytes : List ℕ) (lines : List (List ℕ)) (rest : List ℕ) (are : AreJoined bytes lines rest) where
-  behind : (more : List ℕ) → bytes ++ more ≡ joined lines ++ (rest ++ more)
-  behind more = ap (λ (bs : List ℕ). bs ++ more) are.is ∙ append_assoc (joined lines) rest more
+  behind : (more : List ℕ) → bytes ++ more ≡ joined_lines lines ++ (rest ++ more)
+  behind more = ap (λ (bs : List ℕ). bs ++ more) are.is ∙ append_assoc (joined_lines lines) rest more
 
   whole_is : whole_lines bytes ≡ lines
   whole_is =

@@ -19,7 +19,7 @@ abbrev pub is_flushed : {T : Type 0} → Device T → Bool
 is_flushed device = device.flushed
 
 -- no call on the device has failed, no write took no bytes, and nothing was flushed
-pub record IsFresh {T : Type 0} (device : Device T) : Type 0 where
+pub record IsFreshDevice {T : Type 0} (device : Device T) : Type 0 where
   pub failed : device.failed ≡ false
   pub stalled : device.stalled ≡ false
   pub flushed : device.flushed ≡ false

@@ -8,9 +8,9 @@ abbrev pub CountsFailure : {A : Type 0} → ℕ → ℕ → Result A Kind → Ki
 CountsFailure old new r kind = MatchResult r (λ _. new ≡ old) (λ k. (new ≡ old + 1) × (k ≡ kind))
 
 -- a flag as a count
-abbrev pub count_of : Bool → ℕ
-count_of true = 1
-count_of false = 0
+abbrev pub flag_count : Bool → ℕ
+flag_count true = 1
+flag_count false = 0
 
 -- a write that answers this took no byte of these
 abbrev pub takes_none : {E : Type 0} → Result ℕ E → List ℕ → Bool

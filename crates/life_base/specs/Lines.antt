@@ -62,13 +62,13 @@ abbrev pub LinesGrow : Type 0
 LinesGrow = (bytes more : List ℕ) → has_no_feed more ≡ true → IsLonger bytes more × IsEnded bytes more
 
 -- the lines one after another, each with a line feed behind it
-abbrev pub joined : List (List ℕ) → List ℕ
-joined [] = []
-joined (line ∷ lines) = line ++ byte "\n" ∷ joined lines
+abbrev pub joined_lines : List (List ℕ) → List ℕ
+joined_lines [] = []
+joined_lines (line ∷ lines) = line ++ byte "\n" ∷ joined_lines lines
 
 -- the bytes are these lines, each with a line feed behind it, and a rest; and no line feed is in a line or in the rest
 pub record AreJoined (bytes : List ℕ) (lines : List (List ℕ)) (rest : List ℕ) : Type 0 where
-  pub is : bytes ≡ joined lines ++ rest
+  pub is : bytes ≡ joined_lines lines ++ rest
   pub whole : list_all has_no_feed lines ≡ true
   pub behind : has_no_feed rest ≡ true
 

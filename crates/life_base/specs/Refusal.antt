@@ -14,14 +14,14 @@ continuations =
     ∷ codes "neighborhood:vonNeumann" ∷ codes "neighborhood:Moore" ∷ codes "symmetries:none" ∷ []
 
 -- those lines of a list, in their order, that are marked to be kept
-abbrev pub kept : List Bool → List (List ℕ) → List (List ℕ)
-kept [] lines = []
-kept (keep ∷ keeps) [] = []
-kept (keep ∷ keeps) (line ∷ lines) = cond keep (line ∷ kept keeps lines) (kept keeps lines)
+abbrev pub kept_lines : List Bool → List (List ℕ) → List (List ℕ)
+kept_lines [] lines = []
+kept_lines (keep ∷ keeps) [] = []
+kept_lines (keep ∷ keeps) (line ∷ lines) = cond keep (line ∷ kept_lines keeps lines) (kept_lines keeps lines)
 
 -- the lines are the front of a file of the grammar: none, some or all of the continuations make a whole one of them
 abbrev pub Prefix : (List (List ℕ) → Type 0) → List (List ℕ) → Type 0
-Prefix Grammar lines = (keeps : List Bool) × Grammar (lines ++ kept keeps continuations)
+Prefix Grammar lines = (keeps : List Bool) × Grammar (lines ++ kept_lines keeps continuations)
 
 -- n is the least number, counted from 1, for which the first n lines are no front of a file; one more than there are lines,
 -- if all are one

@@ -90,12 +90,12 @@ abbrev pub is_bad_text : List ℕ → Bool
 is_bad_text text = is_empty text || nat_lt 255 (length text) || not (list_all is_ascii_graphic text)
 
 -- the B/S rule with these digits and neighbours
-abbrev pub counting : Near → DigitSets → Rule
-counting near sets = Life (record { sets = sets; near = near })
+abbrev pub rule_with_sets : Near → DigitSets → Rule
+rule_with_sets near sets = Life (record { sets = sets; near = near })
 
 -- a B/S rule, unless cells are born on 0: then the empty plane would not stay empty
 abbrev pub life_rule : Near → DigitSets → Result Rule Kind
-life_rule near sets = if has_digit sets.births 0 then Err BirthOnZero else Ok (counting near sets)
+life_rule near sets = if has_digit sets.births 0 then Err BirthOnZero else Ok (rule_with_sets near sets)
 
 -- a text that is no B/S rule: a name, kept byte for byte, unless it names other neighbours or has a slash
 abbrev pub other_rule : List ℕ → Result Rule Kind
@@ -152,7 +152,7 @@ rule_text (Named name) = name
 
 -- the rule of a file that names none, B3/S23 (the project's own)
 abbrev pub default_rule : Rule
-default_rule = counting Moore (record { births = 8; survivals = 12 })
+default_rule = rule_with_sets Moore (record { births = 8; survivals = 12 })
 
 -- how many neighbours count
 abbrev pub most_neighbours : Near → ℕ

@@ -1,8 +1,8 @@
 -- The words of the contracts of this crate.
-pub use Rattle.life_base.specs.Devices.{count_of, CountsFailure, takes_none}
+pub use Rattle.life_base.specs.Devices.{flag_count, CountsFailure, takes_none}
 pub use Rattle.life_base.specs.Inputs.{CameBeyond, ReadAll}
 pub use Rattle.life_base.specs.Lines.{LinesAreJoined, LinesAreNumbered, LinesAreWhole, LinesContinue, LinesGrow}
-pub use Rattle.life_base.specs.Numbers.{capped, i64_of, number_up_to, u64_of}
+pub use Rattle.life_base.specs.Numbers.{capped_number, i64_of, number_up_to, u64_of}
 pub use Rattle.life_base.specs.Refusal.{Answers, IsMemory}
 pub use Rattle.life_base.specs.RuleForms.{FourTextsAreForms, LifeTextsAreForms, RuleTextsArePlain}
 pub use Rattle.life_base.specs.Rules.{AreSets, digit_groups, digit_set, digits_of, four_or_other, four_sets, has_digit, is_bad_text, is_count_digit, life_form}

@@ -1,6 +1,6 @@
 //! Devices: what bytes are read from and written to.
 ghost use Rattle.std.specs.Prelude.{◌≡◌, ℕ, ◌≤◌, ◌↔◌, ◌||◌, List, Option, None, IsTrue, Bool, true, false, OnOk};
-ghost use Rattle.life_base.specs.Words.{ReadsAtMost, WritesAtMost, ReadConsumes, WriteAppends, Keeps, CountsFailure, count_of, takes_none};
+ghost use Rattle.life_base.specs.Words.{ReadsAtMost, WritesAtMost, ReadConsumes, WriteAppends, Keeps, CountsFailure, flag_count, takes_none};
 ghost use Rattle.std.proofs.Common.{rules};
 
 use crate::kind::Kind;
@@ -88,12 +88,12 @@ pub struct Device<T> {
 }
 
 impl<T> Device<T> {
-    ghost use Rattle.life_base.specs.DeviceState.{device_inner, has_failed, has_stalled, is_flushed, IsFresh};
+    ghost use Rattle.life_base.specs.DeviceState.{device_inner, has_failed, has_stalled, is_flushed, IsFreshDevice};
 
     /// A device over `inner` that has not failed, stalled or flushed.
     pub fn new(inner: T) -> Device<T>
         ensures inner { device_inner result ≡ inner }
-        ensures fresh { IsFresh result }
+        ensures fresh { IsFreshDevice result }
     {
         Device {
             inner,
@@ -118,11 +118,11 @@ impl<T> Device<T> {
 }
 
 impl<R: Read> Source for Device<R> {
-    ghost failures = { λ d. count_of d.failed };
+    ghost failures = { λ d. flag_count d.failed };
 
     ghost remaining = { λ d. R.remaining d.inner };
 
-    ghost at_most_one = { λ d. elim d.failed as (λ f. count_of f ≤ 1) [ true ↦ Prim.search rules | false ↦ Prim.search rules ] };
+    ghost at_most_one = { λ d. elim d.failed as (λ f. flag_count f ≤ 1) [ true ↦ Prim.search rules | false ↦ Prim.search rules ] };
 
     fn failed(&self) -> bool {
         self.failed
@@ -147,7 +147,7 @@ impl<W: Write> Sink for Device<W> {
     ghost use Rattle.std.specs.Prelude.{is_ok};
     ghost use Rattle.life_base.specs.DeviceState.{device_inner, has_failed, has_stalled, is_flushed};
 
-    ghost failures = { λ d. count_of d.failed };
+    ghost failures = { λ d. flag_count d.failed };
 
     ghost contents = { λ d. W.contents d.inner };
 
@@ -155,7 +155,7 @@ impl<W: Write> Sink for Device<W> {
 
     ghost flushed = { λ d. d.flushed };
 
-    ghost at_most_one = { λ d. elim d.failed as (λ f. count_of f ≤ 1) [ true ↦ Prim.search rules | false ↦ Prim.search rules ] };
+    ghost at_most_one = { λ d. elim d.failed as (λ f. flag_count f ≤ 1) [ true ↦ Prim.search rules | false ↦ Prim.search rules ] };
 
     fn failed(&self) -> bool {
         self.failed
@@ -163,10 +163,10 @@ impl<W: Write> Sink for Device<W> {
 
     // What was written last is not flushed yet.
     fn write(&mut self, buf: &[u8]) -> Result<usize, Kind>
-        requires { count_of (has_failed self.old) ≡ 0 }
+        requires { flag_count (has_failed self.old) ≡ 0 }
         ensures count { WritesAtMost result buf.now }
-        ensures failure { CountsFailure (count_of (has_failed self.old))
-            (count_of (has_failed self.new)) result Kind.WriteFault }
+        ensures failure { CountsFailure (flag_count (has_failed self.old))
+            (flag_count (has_failed self.new)) result Kind.WriteFault }
         ensures bytes { WriteAppends (W.contents (device_inner self.old))
             (W.contents (device_inner self.new)) result buf.now }
         ensures stalled { has_stalled self.new
@@ -189,9 +189,9 @@ impl<W: Write> Sink for Device<W> {
     }
 
     fn flush(&mut self) -> Result<(), Kind>
-        requires { count_of (has_failed self.old) ≡ 0 }
-        ensures failure { CountsFailure (count_of (has_failed self.old))
-            (count_of (has_failed self.new)) result Kind.WriteFault }
+        requires { flag_count (has_failed self.old) ≡ 0 }
+        ensures failure { CountsFailure (flag_count (has_failed self.old))
+            (flag_count (has_failed self.new)) result Kind.WriteFault }
         ensures bytes { Keeps (W.contents (device_inner self.old))
             (W.contents (device_inner self.new)) }
         ensures stalled { has_stalled self.new ≡ has_stalled self.old }

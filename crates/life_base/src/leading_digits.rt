@@ -1,12 +1,12 @@
 //! The digits at the beginning of a text.
 
 ghost use Rattle.std.specs.Prelude.{◌≡◌, ◌+◌, ◌*◌, ◌≤◌, length, take_while};
-ghost use Rattle.life_base.specs.Words.{is_ascii_digit, prefix_len, capped, value_of};
+ghost use Rattle.life_base.specs.Words.{is_ascii_digit, prefix_len, capped_number, value_of};
 
 /// A number with one digit more after it, or the greatest of the type.
 fn with_digit(number: u64, digit: u8) -> u64
     requires { digit ≤ 9 }
-    ensures { result ≡ capped (number * 10 + digit) }
+    ensures { result ≡ capped_number (number * 10 + digit) }
 {
     if number < u64::MAX / 10 {
         return number * 10 + u64::from(digit);
@@ -17,7 +17,7 @@ fn with_digit(number: u64, digit: u8) -> u64
 /// The number that the digits at the beginning of a text write, and how many digits these are; a number of 2^64 or more gives 2^64 - 1.
 /// Both are 0 if the text begins with no digit.
 pub fn leading_number(text: &[u8]) -> (u64, usize)
-    ensures number { result.0 ≡ capped (value_of (take_while is_ascii_digit text.now)) }
+    ensures number { result.0 ≡ capped_number (value_of (take_while is_ascii_digit text.now)) }
     ensures count { result.1 ≡ prefix_len is_ascii_digit text.now }
     ensures within { result.1 ≤ length text.now }
 {

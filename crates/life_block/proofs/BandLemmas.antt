@@ -7,12 +7,12 @@ use Rattle.std.proofs.lemmas.Nat.Bits.{bit_at-lt, bit_at_cat_low, bit_at_cat_hig
 use Rattle.life_base.specs.Sets.{OuterTotalistic}
 use Rattle.life_base.specs.declared.rule.Near.{Near}
 use Rattle.life_base.specs.declared.rule.Near.TheVariants.{Moore, VonNeumann}
-use Rattle.life_sweep.specs.Generation.{before, after, next_by_count, next_life}
+use Rattle.life_sweep.specs.Generation.{one_before, one_after, next_by_count, next_life}
 use Rattle.life_table.specs.Meaning.{count_of}
 use Rattle.life_lanes.specs.Places.{place_in}
 use Rattle.life_lanes.proofs.WordLemmas.{bit-mod, bit-shr, shl-high}
-use Rattle.life_block.specs.Bits.{RowWords, counted_in, HasSquare, HasBand}
-use Rattle.life_block.specs.Pieces.{ahead}
+use Rattle.life_block.specs.Bits.{RowWords, counted_in, HasSquareBits, HasBand}
+use Rattle.life_block.specs.Pieces.{step_ahead}
 use Rattle.life_block.proofs.CountLemmas.{four}
 use Rattle.life_sweep.proofs.LawLemmas.{eight}
 use Rattle.life_block.proofs.SquareLemmas.{place-small}
@@ -52,16 +52,17 @@ module _ (a b c d : ℕ) (lb : b < 65536) (lc : c < 65536) (ld : d < 65536) wher
       ap (bit_at together) at ∙ bit_at_cat_low ((a * 65536 + b) * 65536 + c) 16 d (15 - p) (omega arith)
   bit-of_one (suc (suc (suc (suc q)))) p lq lp = absurd (omega (arith, lq))
 
-  module _ (cells : ℤ → ℤ → ℕ) (x y : ℤ) (ha : HasSquare cells x y a) (hb : HasSquare cells (ahead x 4) y b) (hc : HasSquare cells (ahead x 8) y c)
-      (hd : HasSquare cells (ahead x 12) y d) where
+  module _ (cells : ℤ → ℤ → ℕ) (x y : ℤ) (ha : HasSquareBits cells x y a) (hb : HasSquareBits cells (step_ahead x 4) y b)
+      (hc : HasSquareBits cells (step_ahead x 8) y c)
+      (hd : HasSquareBits cells (step_ahead x 12) y d) where
     in-square : (r q i : ℕ) → r < 4 → q < 4 → i < 4 → bit_at (one_of q) (15 - place_in r i) ≡ cells (x +ℤ pos (4 * q + i)) (y +ℤ pos r)
     in-square r zero i lr lq li = let at : x +ℤ pos i ≡ x +ℤ pos (4 * 0 + i) = omega (arith, ints) in ha r i lr li ∙ ap (λ z. cells z (y +ℤ pos r)) at
     in-square r (suc zero) i lr lq li =
-        let at : ahead x 4 +ℤ pos i ≡ x +ℤ pos (4 * 1 + i) = omega (arith, ints) in hb r i lr li ∙ ap (λ z. cells z (y +ℤ pos r)) at
+        let at : step_ahead x 4 +ℤ pos i ≡ x +ℤ pos (4 * 1 + i) = omega (arith, ints) in hb r i lr li ∙ ap (λ z. cells z (y +ℤ pos r)) at
     in-square r (suc (suc zero)) i lr lq li =
-        let at : ahead x 8 +ℤ pos i ≡ x +ℤ pos (4 * 2 + i) = omega (arith, ints) in hc r i lr li ∙ ap (λ z. cells z (y +ℤ pos r)) at
+        let at : step_ahead x 8 +ℤ pos i ≡ x +ℤ pos (4 * 2 + i) = omega (arith, ints) in hc r i lr li ∙ ap (λ z. cells z (y +ℤ pos r)) at
     in-square r (suc (suc (suc zero))) i lr lq li =
-        let at : ahead x 12 +ℤ pos i ≡ x +ℤ pos (4 * 3 + i) = omega (arith, ints) in hd r i lr li ∙ ap (λ z. cells z (y +ℤ pos r)) at
+        let at : step_ahead x 12 +ℤ pos i ≡ x +ℤ pos (4 * 3 + i) = omega (arith, ints) in hd r i lr li ∙ ap (λ z. cells z (y +ℤ pos r)) at
     in-square r (suc (suc (suc (suc q)))) i lr lq li = absurd (omega (arith, lq))
 
     pub band-of_squares : (rows : ℕ)
@@ -80,17 +81,17 @@ module _ (a b c d : ℕ) (lb : b < 65536) (lc : c < 65536) (ld : d < 65536) wher
 -- ---- rows of two words
 
 pub rows-between : (cells : ℤ → ℤ → ℕ) (x y : ℤ) (a b n k m : ℕ) → n ≤ 4 → k ≡ 16 * n → m + k ≡ 64 → b / 2 ^ k < 2 ^ m → HasBand cells x y a
-    → HasBand cells x (ahead y 4) b → HasBand cells x (ahead y (4 - n)) (a % 2 ^ k * 2 ^ m + b / 2 ^ k)
+    → HasBand cells x (step_ahead y 4) b → HasBand cells x (step_ahead y (4 - n)) (a % 2 ^ k * 2 ^ m + b / 2 ^ k)
 rows-between cells x y a b n k m ln ek em small ha hb r i lr li = elim (cases_lt r n) [
   | inl less ↦
       (let at : 63 - (16 * r + i) - m ≡ 63 - (16 * (r + (4 - n)) + i) = omega (arith, ln, ek, em, less, li) in
-      let row : y +ℤ pos (r + (4 - n)) ≡ ahead y (4 - n) +ℤ pos r = omega (arith, ints) in
+      let row : y +ℤ pos (r + (4 - n)) ≡ step_ahead y (4 - n) +ℤ pos r = omega (arith, ints) in
       bit_at_cat_high (a % 2 ^ k) m (b / 2 ^ k) (63 - (16 * r + i)) small (omega (arith, ek, em, less, li))
       ∙ bit-mod a k (63 - (16 * r + i) - m) (omega (arith, ek, em, less, li)) ∙ ap (bit_at a) at ∙ ha (r + (4 - n)) i (omega (arith, less, ln)) li
       ∙ ap (λ z. cells (x +ℤ pos i) z) row)
   | inr more ↦
       (let at : 63 - (16 * r + i) + k ≡ 63 - (16 * (r - n) + i) = omega (arith, ek, more, li, lr) in
-      let row : ahead y 4 +ℤ pos (r - n) ≡ ahead y (4 - n) +ℤ pos r = omega (arith, ints, more, ln) in
+      let row : step_ahead y 4 +ℤ pos (r - n) ≡ step_ahead y (4 - n) +ℤ pos r = omega (arith, ints, more, ln) in
       bit_at_cat_low (a % 2 ^ k) m (b / 2 ^ k) (63 - (16 * r + i)) (omega (arith, ek, em, more, li)) ∙ bit-shr b k (63 - (16 * r + i)) ∙ ap (bit_at b) at
       ∙ hb (r - n) i (omega (arith, lr)) li ∙ ap (λ z. cells (x +ℤ pos i) z) row)
 ]
@@ -108,8 +109,8 @@ four-mirrored : (a b c d : ℕ) → a < 2 → b < 2 → c < 2 → d < 2 → coun
 four-mirrored a b c d la lb lc ld =
     let same : a + b + c + d ≡ a + d + c + b = omega arith in sym (four a b c d la lb lc ld) ∙ same ∙ four a d c b la ld lc lb
 
-module _ (rule : OuterTotalistic) (cells : ℤ → ℤ → ℕ) (x y : ℤ) (w : RowWords) (hn : HasBand cells x (before y) w.north) (hh : HasBand cells x y w.here)
-    (hs : HasBand cells x (after y) w.south) where
+module _ (rule : OuterTotalistic) (cells : ℤ → ℤ → ℕ) (x y : ℤ) (w : RowWords) (hn : HasBand cells x (one_before y) w.north) (hh : HasBand cells x y w.here)
+    (hs : HasBand cells x (one_after y) w.south) where
   -- the state behind a place among four rows
   module _ (r i : ℕ) (lr : r < 4) (li : i < 14) where
     abbrev place : ℕ
@@ -121,42 +122,42 @@ module _ (rule : OuterTotalistic) (cells : ℤ → ℤ → ℕ) (x y : ℤ) (w :
     abbrev row : ℤ
     row = y +ℤ pos r
 
-    north : (p a : ℕ) (z : ℤ) → a < 16 → p ≡ 63 - (16 * r + a) → x +ℤ pos a ≡ z → bit_at w.north p ≡ cells z (before row)
+    north : (p a : ℕ) (z : ℤ) → a < 16 → p ≡ 63 - (16 * r + a) → x +ℤ pos a ≡ z → bit_at w.north p ≡ cells z (one_before row)
     north p a z la is e =
-        let f : before y +ℤ pos r ≡ before row = omega (arith, ints) in ap (bit_at w.north) is ∙ hn r a lr la ∙ (λ j. cells (e j) (f j))
+        let f : one_before y +ℤ pos r ≡ one_before row = omega (arith, ints) in ap (bit_at w.north) is ∙ hn r a lr la ∙ (λ j. cells (e j) (f j))
 
     here : (p a : ℕ) (z : ℤ) → a < 16 → p ≡ 63 - (16 * r + a) → x +ℤ pos a ≡ z → bit_at w.here p ≡ cells z row
     here p a z la is e = ap (bit_at w.here) is ∙ hh r a lr la ∙ ap (λ k. cells k row) e
 
-    south : (p a : ℕ) (z : ℤ) → a < 16 → p ≡ 63 - (16 * r + a) → x +ℤ pos a ≡ z → bit_at w.south p ≡ cells z (after row)
+    south : (p a : ℕ) (z : ℤ) → a < 16 → p ≡ 63 - (16 * r + a) → x +ℤ pos a ≡ z → bit_at w.south p ≡ cells z (one_after row)
     south p a z la is e =
-        let f : after y +ℤ pos r ≡ after row = omega (arith, ints) in ap (bit_at w.south) is ∙ hs r a lr la ∙ (λ j. cells (e j) (f j))
+        let f : one_after y +ℤ pos r ≡ one_after row = omega (arith, ints) in ap (bit_at w.south) is ∙ hs r a lr la ∙ (λ j. cells (e j) (f j))
 
     c : bit_at w.here (place + 1) ≡ cells column row
     c = here _ (i + 1) _ (omega (arith, li)) (omega (arith, lr, li)) refl
 
-    n : bit_at w.north (place + 1) ≡ cells column (before row)
+    n : bit_at w.north (place + 1) ≡ cells column (one_before row)
     n = north _ (i + 1) _ (omega (arith, li)) (omega (arith, lr, li)) refl
 
-    ne : bit_at w.north place ≡ cells (after column) (before row)
+    ne : bit_at w.north place ≡ cells (one_after column) (one_before row)
     ne = north _ (i + 2) _ (omega (arith, li)) (omega (arith, lr, li)) (omega (arith, ints))
 
-    e : bit_at w.here place ≡ cells (after column) row
+    e : bit_at w.here place ≡ cells (one_after column) row
     e = here _ (i + 2) _ (omega (arith, li)) (omega (arith, lr, li)) (omega (arith, ints))
 
-    se : bit_at w.south place ≡ cells (after column) (after row)
+    se : bit_at w.south place ≡ cells (one_after column) (one_after row)
     se = south _ (i + 2) _ (omega (arith, li)) (omega (arith, lr, li)) (omega (arith, ints))
 
-    s : bit_at w.south (place + 1) ≡ cells column (after row)
+    s : bit_at w.south (place + 1) ≡ cells column (one_after row)
     s = south _ (i + 1) _ (omega (arith, li)) (omega (arith, lr, li)) refl
 
-    sw : bit_at w.south (place + 2) ≡ cells (before column) (after row)
+    sw : bit_at w.south (place + 2) ≡ cells (one_before column) (one_after row)
     sw = south _ i _ (omega (arith, li)) (omega (arith, lr, li)) (omega (arith, ints))
 
-    west : bit_at w.here (place + 2) ≡ cells (before column) row
+    west : bit_at w.here (place + 2) ≡ cells (one_before column) row
     west = here _ i _ (omega (arith, li)) (omega (arith, lr, li)) (omega (arith, ints))
 
-    nw : bit_at w.north (place + 2) ≡ cells (before column) (before row)
+    nw : bit_at w.north (place + 2) ≡ cells (one_before column) (one_before row)
     nw = north _ i _ (omega (arith, li)) (omega (arith, lr, li)) (omega (arith, ints))
 
     by : (near : Near)
@@ -179,13 +180,13 @@ module _ (rule : OuterTotalistic) (cells : ℤ → ℤ → ℕ) (x y : ℤ) (w :
       (next : (i : ℕ) → i < 62 → bit_at word i ≡ next_by_count rule.sets (bit_at w.here (i + 1)) (count_of 1 (counted_in rule.near w i)))
       (order : (r q i : ℕ) → r < 4 → q < 4 → i < 4 → bit_at squares (63 - (16 * q + place_in r i)) ≡ bit_at (word * 2 ^ 1 % 2 ^ 64) (63 - (16 * r + 4 * q + i)))
     where
-      pub next-square : (q k : ℕ) → 1 ≤ q → q ≤ 2 → k + 16 * q ≡ 48 → HasSquare (next_life rule cells) (ahead x (4 * q)) y (squares / 2 ^ k % 2 ^ 16)
+      pub next-square : (q k : ℕ) → 1 ≤ q → q ≤ 2 → k + 16 * q ≡ 48 → HasSquareBits (next_life rule cells) (step_ahead x (4 * q)) y (squares / 2 ^ k % 2 ^ 16)
       next-square q k lq uq ek r i lr li =
           let p = place_in r i in
           let lp = place-small r i lr li in
           let at : 15 - p + k ≡ 63 - (16 * q + p) = omega (arith, ek, lp) in
           let below : 63 - (16 * r + 4 * q + i) - 1 ≡ 61 - (16 * r + (4 * q + i - 1)) = omega (arith, lq, uq, lr, li) in
-          let column : x +ℤ pos (4 * q + i - 1 + 1) ≡ ahead x (4 * q) +ℤ pos i = omega (arith, ints, lq) in
+          let column : x +ℤ pos (4 * q + i - 1 + 1) ≡ step_ahead x (4 * q) +ℤ pos i = omega (arith, ints, lq) in
           bit-mod (squares / 2 ^ k) 16 (15 - p) (omega arith) ∙ bit-shr squares k (15 - p) ∙ ap (bit_at squares) at ∙ order r q i lr (omega (arith, uq)) li
           ∙ bit-mod (word * 2 ^ 1) 64 (63 - (16 * r + 4 * q + i)) (omega arith)
           ∙ shl-high word 1 (63 - (16 * r + 4 * q + i)) (omega (arith, uq, lr, li)) ∙ ap (bit_at word) below

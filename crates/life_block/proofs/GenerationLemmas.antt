@@ -1,16 +1,16 @@
 -- A generation under a B/S rule: its cells, and that it isn't refused.
 use Rattle.std.proofs.Common.{◌≡◌, ℕ, ◌-◌, ◌^◌, ◌<◌, ◌≤◌, Bool, true, false, not, inr, ℤ, pos, neg_ℤ, ◌<ℤ◌, Option, Some, None, MatchOption, refl, sym, ◌∙◌, ap, subst, arith}
 use Rattle.life_base.specs.declared.bounds.Bounds.{Bounds}
-use Rattle.life_quad.specs.Cells.{population, IsLeastBox}
+use Rattle.life_quad.specs.Cells.{population, IsBoundingBoxOfTree}
 use Rattle.std.proofs.lemmas.Int.{ints}
 use Rattle.std.proofs.Math.Pow.{pow_mono}
 use Rattle.life_base.specs.Sets.{OuterTotalistic}
 use Rattle.life_base.specs.Tree.{Tree, depth, half_side, tree_cell}
 use Rattle.life_base.specs.declared.cell.TheConstants.{MAX_LEVEL}
 use Rattle.life_base.proofs.Squares.{Inside}
-use Rattle.life_strip.specs.Given.{IsOnPlane}
+use Rattle.life_strip.specs.Given.{IsRunOnPlane}
 use Rattle.life_table.specs.Meaning.{Becomes, Ambiguous}
-use Rattle.life_sweep.specs.Generation.{after, next_life, LifeAnswersAt, LifeAnswers}
+use Rattle.life_sweep.specs.Generation.{one_after, next_life, LifeAnswersAt, LifeAnswers}
 use Rattle.life_block.specs.Needed.{HasClearEdge}
 use Rattle.life_sweep.specs.Refused.{HasStateFrom, SomeAmbiguous, GenerationRefusal}
 use Rattle.life_sweep.specs.Sweep.{IsLeft}
@@ -26,7 +26,7 @@ below-two : (n : ℕ) → n < 2 → 2 ≤ n → ⊥
 below-two n a b = omega (arith, a, b)
 
 -- a cell of a square of the greatest level at most is on the plane
-pub on-plane : (t : Tree) (x y : ℤ) → depth t ≤ MAX_LEVEL → Inside (half_side t) x y → IsOnPlane x y 1
+pub on-plane : (t : Tree) (x y : ℤ) → depth t ≤ MAX_LEVEL → Inside (half_side t) x y → IsRunOnPlane x y 1
 on-plane t x y low i =
     let small : 2 ^ (depth t - 1) ≤ 2 ^ 61 = pow_mono {i = depth t - 1} {j = 61} (omega (arith, low)) in
     record {
@@ -61,11 +61,12 @@ not-false false e = sym e
 
 -- a least box within the plane without its edge
 pub clear-edge : (t : Tree) {found : Option Bounds} {box : Bounds} (A : Type 0) → depth t ≡ MAX_LEVEL → found ≡ Some box
-    → MatchOption found A (λ b. IsLeastBox t b) → neg_ℤ (pos (2 ^ 61)) <ℤ box.left → after box.right <ℤ pos (2 ^ 61) → neg_ℤ (pos (2 ^ 61)) <ℤ box.top
-    → after box.bottom <ℤ pos (2 ^ 61) → HasClearEdge t
+    → MatchOption found A (λ b. IsBoundingBoxOfTree t b) → neg_ℤ (pos (2 ^ 61)) <ℤ box.left → one_after box.right <ℤ pos (2 ^ 61)
+    → neg_ℤ (pos (2 ^ 61)) <ℤ box.top
+    → one_after box.bottom <ℤ pos (2 ^ 61) → HasClearEdge t
 clear-edge t A whole is least west east north south x y n =
     let half : half_side t ≡ 2 ^ 61 = ap (λ k. 2 ^ (k - 1)) whole in
-    let box = subst (λ o. MatchOption o A (λ b. IsLeastBox t b)) is least in
+    let box = subst (λ o. MatchOption o A (λ b. IsBoundingBoxOfTree t b)) is least in
     let i = box.inside x y n in
     let a = i.0 in
     let b = i.1 in

@@ -11,13 +11,13 @@ use Rattle.life_quad.specs.Memory.{Recalls}
 use Rattle.life_quad.specs.declared.id.Id.{Id}
 use Rattle.life_quad.specs.declared.memory.Slot.{Slot}
 use Rattle.life_quad.proofs.KeepingLemmas.{keeps-then}
-use Rattle.life_sweep.specs.Generation.{before, after, states_at, zeros}
+use Rattle.life_sweep.specs.Generation.{one_before, one_after, states_at, zeros}
 use Rattle.life_table.specs.Meaning.{Answer, Becomes}
 use Rattle.life_block.specs.declared.grid.Three.{Three}
 use Rattle.life_block.specs.Laws.{IsPieceBy, IsNextAt, IsAnswerBy, RemembersBy}
 use Rattle.life_block.specs.Needed.{HasClearEdge}
-use Rattle.life_block.specs.Pieces.{Nine, IsPiece, IsAt, InThree, InNine, AreThree, AreNine, back, ahead}
-use Rattle.life_block.specs.Remembered.{ids_of}
+use Rattle.life_block.specs.Pieces.{Nine, IsPiece, IsOfLevel, InThree, InNine, AreThree, AreNine, step_back, step_ahead}
+use Rattle.life_block.specs.Remembered.{ids_of_nine}
 use Rattle.life_block.proofs.PieceLemmas.{IsAt-kept, zero-of_blank}
 use Rattle.life_block.proofs.RootLemmas.{cell-outside, corner, outer, piece-of_root}
 
@@ -41,31 +41,32 @@ module _ (Fits : ℤ → ℤ → ℕ → Type 0) where
   moved x z y w t e f h = subst (λ u. IsPieceBy Fits u w t) e (subst (λ u. IsPieceBy Fits x u t) f h)
 
   -- four pieces are one
-  joined : (x y : ℤ) (a b c d t : Tree) (k : ℕ) → depth a ≡ k → t ≡ quad a b c d → IsPieceBy Fits x y a → IsPieceBy Fits (ahead x (2 ^ k)) y b
-      → IsPieceBy Fits x (ahead y (2 ^ k)) c → IsPieceBy Fits (ahead x (2 ^ k)) (ahead y (2 ^ k)) d → IsPieceBy Fits x y t
+  joined : (x y : ℤ) (a b c d t : Tree) (k : ℕ) → depth a ≡ k → t ≡ quad a b c d → IsPieceBy Fits x y a → IsPieceBy Fits (step_ahead x (2 ^ k)) y b
+      → IsPieceBy Fits x (step_ahead y (2 ^ k)) c → IsPieceBy Fits (step_ahead x (2 ^ k)) (step_ahead y (2 ^ k)) d → IsPieceBy Fits x y t
   joined x y a b c d t k level is pa pb pc pd =
       let side : 2 ^ k ≡ 2 ^ depth a = ap (λ n. 2 ^ n) (sym level) in
-      let ex : ahead x (2 ^ k) ≡ ahead x (2 ^ depth a) = ap (ahead x) side in
-      let ey : ahead y (2 ^ k) ≡ ahead y (2 ^ depth a) = ap (ahead y) side in
+      let ex : step_ahead x (2 ^ k) ≡ step_ahead x (2 ^ depth a) = ap (step_ahead x) side in
+      let ey : step_ahead y (2 ^ k) ≡ step_ahead y (2 ^ depth a) = ap (step_ahead y) side in
       subst (IsPieceBy Fits x y) (sym is) (pa, moved _ _ y y b ex refl pb, moved x x _ _ c refl ey pc, moved _ _ _ _ d ex ey pd)
 
   -- a blank piece, where each of its places may be 0
-  blank-piece : (k : ℕ) (x y : ℤ) → ((u v : ℤ) → x ≤ℤ u → u <ℤ ahead x (2 ^ k) → y ≤ℤ v → v <ℤ ahead y (2 ^ k) → Fits u v 0) → IsPieceBy Fits x y (blank k)
+  blank-piece : (k : ℕ) (x y : ℤ) → ((u v : ℤ) → x ≤ℤ u → u <ℤ step_ahead x (2 ^ k) → y ≤ℤ v → v <ℤ step_ahead y (2 ^ k) → Fits u v 0)
+      → IsPieceBy Fits x y (blank k)
   blank-piece zero x y h = h x y (omega (arith, ints)) (omega (arith, ints)) (omega (arith, ints)) (omega (arith, ints))
   blank-piece (suc k) x y h =
       let twice = double k in
-      let part : (u v : ℤ) → x ≤ℤ u → ahead u (2 ^ k) ≤ℤ ahead x (2 ^ suc k) → y ≤ℤ v → ahead v (2 ^ k) ≤ℤ ahead y (2 ^ suc k)
+      let part : (u v : ℤ) → x ≤ℤ u → step_ahead u (2 ^ k) ≤ℤ step_ahead x (2 ^ suc k) → y ≤ℤ v → step_ahead v (2 ^ k) ≤ℤ step_ahead y (2 ^ suc k)
       → IsPieceBy Fits u v (blank k) = (λ u v w e n s. blank-piece k u v (λ i j a b c d.
       h i j (omega (arith, ints, w, a)) (omega (arith, ints, e, b)) (omega (arith, ints, n, c)) (omega (arith, ints, s, d)))) in
       joined x y _ _ _ _ _ k (depth-blank k) refl
       (part x y (omega (arith, ints)) (omega (arith, ints, twice)) (omega (arith, ints)) (omega (arith, ints, twice)))
-      (part (ahead x (2 ^ k)) y (omega (arith, ints)) (omega (arith, ints, twice)) (omega (arith, ints)) (omega (arith, ints, twice)))
-      (part x (ahead y (2 ^ k)) (omega (arith, ints)) (omega (arith, ints, twice)) (omega (arith, ints)) (omega (arith, ints, twice)))
-      (part (ahead x (2 ^ k)) (ahead y (2 ^ k)) (omega (arith, ints)) (omega (arith, ints, twice)) (omega (arith, ints)) (omega (arith, ints, twice)))
+      (part (step_ahead x (2 ^ k)) y (omega (arith, ints)) (omega (arith, ints, twice)) (omega (arith, ints)) (omega (arith, ints, twice)))
+      (part x (step_ahead y (2 ^ k)) (omega (arith, ints)) (omega (arith, ints, twice)) (omega (arith, ints)) (omega (arith, ints, twice)))
+      (part (step_ahead x (2 ^ k)) (step_ahead y (2 ^ k)) (omega (arith, ints)) (omega (arith, ints, twice)) (omega (arith, ints)) (omega (arith, ints, twice)))
 
   -- the state of a place in a piece fits the place
   fits-at : (f : ℤ → ℤ → ℕ) (t : Tree) (x y : ℤ) → IsFull t → IsPiece f x y t → IsPieceBy Fits x y t
-      → (u v : ℤ) → x ≤ℤ u → u <ℤ ahead x (2 ^ depth t) → y ≤ℤ v → v <ℤ ahead y (2 ^ depth t) → Fits u v (f u v)
+      → (u v : ℤ) → x ≤ℤ u → u <ℤ step_ahead x (2 ^ depth t) → y ≤ℤ v → v <ℤ step_ahead y (2 ^ depth t) → Fits u v (f u v)
   fits-at f (point s) x y full is fits u v w e n h =
       let eu : x ≡ u = omega (arith, ints, w, e) in
       let ev : y ≡ v = omega (arith, ints, n, h) in
@@ -75,8 +76,8 @@ module _ (Fits : ℤ → ℤ → ℕ → Type 0) where
       let sb : 2 ^ depth b ≡ 2 ^ depth a = ap (λ k. 2 ^ k) full.4 in
       let sc : 2 ^ depth c ≡ 2 ^ depth a = ap (λ k. 2 ^ k) full.5 in
       let sd : 2 ^ depth d ≡ 2 ^ depth a = ap (λ k. 2 ^ k) full.6 in
-      let east = ahead x (2 ^ depth a) in
-      let south = ahead y (2 ^ depth a) in
+      let east = step_ahead x (2 ^ depth a) in
+      let south = step_ahead y (2 ^ depth a) in
       by_lt_z v south
       (λ north. by_lt_z u east
       (λ west. fits-at f a x y full.0 is.0 fits.0 u v w west n north)
@@ -115,27 +116,28 @@ cell-small r full high = cells-fit (λ u v s. s < 256) r (corner r) full high re
 
 -- nine cells of state 0
 states-zero : (cells : ℤ → ℤ → ℕ) (x y : ℤ)
-    → ((u v : ℤ) → before x ≤ℤ u → u ≤ℤ after x → before y ≤ℤ v → v ≤ℤ after y → cells u v ≡ 0) → states_at cells x y ≡ zeros
+    → ((u v : ℤ) → one_before x ≤ℤ u → u ≤ℤ one_after x → one_before y ≤ℤ v → v ≤ℤ one_after y → cells u v ≡ 0) → states_at cells x y ≡ zeros
 states-zero cells x y h =
-    let w : (z : ℤ) → (before z ≤ℤ before z) × (before z ≤ℤ after z) = λ z. (omega (arith, ints), omega (arith, ints)) in
-    let m : (z : ℤ) → (before z ≤ℤ z) × (z ≤ℤ after z) = λ z. (omega (arith, ints), omega (arith, ints)) in
-    let e : (z : ℤ) → (before z ≤ℤ after z) × (after z ≤ℤ after z) = λ z. (omega (arith, ints), omega (arith, ints)) in
-    let at : (u v : ℤ) → (before x ≤ℤ u) × (u ≤ℤ after x) → (before y ≤ℤ v) × (v ≤ℤ after y) → cells u v ≡ 0 = λ u v a b. h u v a.0 a.1 b.0 b.1 in
+    let w : (z : ℤ) → (one_before z ≤ℤ one_before z) × (one_before z ≤ℤ one_after z) = λ z. (omega (arith, ints), omega (arith, ints)) in
+    let m : (z : ℤ) → (one_before z ≤ℤ z) × (z ≤ℤ one_after z) = λ z. (omega (arith, ints), omega (arith, ints)) in
+    let e : (z : ℤ) → (one_before z ≤ℤ one_after z) × (one_after z ≤ℤ one_after z) = λ z. (omega (arith, ints), omega (arith, ints)) in
+    let at : (u v : ℤ) → (one_before x ≤ℤ u) × (u ≤ℤ one_after x) → (one_before y ≤ℤ v) × (v ≤ℤ one_after y) → cells u v
+    ≡ 0 = λ u v a b. h u v a.0 a.1 b.0 b.1 in
     let c0 = at x y (m x) (m y) in
-    let c1 = at x (before y) (m x) (w y) in
-    let c2 = at (after x) (before y) (e x) (w y) in
-    let c3 = at (after x) y (e x) (m y) in
-    let c4 = at (after x) (after y) (e x) (e y) in
-    let c5 = at x (after y) (m x) (e y) in
-    let c6 = at (before x) (after y) (w x) (e y) in
-    let c7 = at (before x) y (w x) (m y) in
-    let c8 = at (before x) (before y) (w x) (w y) in
+    let c1 = at x (one_before y) (m x) (w y) in
+    let c2 = at (one_after x) (one_before y) (e x) (w y) in
+    let c3 = at (one_after x) y (e x) (m y) in
+    let c4 = at (one_after x) (one_after y) (e x) (e y) in
+    let c5 = at x (one_after y) (m x) (e y) in
+    let c6 = at (one_before x) (one_after y) (w x) (e y) in
+    let c7 = at (one_before x) y (w x) (m y) in
+    let c8 = at (one_before x) (one_before y) (w x) (w y) in
     (λ i. c0 i ∷ c1 i ∷ c2 i ∷ c3 i ∷ c4 i ∷ c5 i ∷ c6 i ∷ c7 i ∷ c8 i ∷ [])
 
 module _ (answers : List ℕ → Answer → Type 0) (bound : ℕ) (positive : 0 < bound) (quiet : answers zeros (Becomes 0)) where
   -- a cell among cells of state 0
   next-zero : (cells : ℤ → ℤ → ℕ) (x y : ℤ)
-      → ((u v : ℤ) → before x ≤ℤ u → u ≤ℤ after x → before y ≤ℤ v → v ≤ℤ after y → cells u v ≡ 0) → IsNextAt answers bound cells x y 0
+      → ((u v : ℤ) → one_before x ≤ℤ u → u ≤ℤ one_after x → one_before y ≤ℤ v → v ≤ℤ one_after y → cells u v ≡ 0) → IsNextAt answers bound cells x y 0
   next-zero cells x y h =
       record {
         below = subst (λ n. n < bound) (sym (h x y (omega (arith, ints)) (omega (arith, ints)) (omega (arith, ints)) (omega (arith, ints)))) positive;
@@ -153,20 +155,21 @@ module _ (answers : List ℕ → Answer → Type 0) (bound : ℕ) (positive : 0 
       some = pow_pos k
 
       zero_at : (u v : ℤ) (other : Id) → other ≡ id → IsPiece cells u v (content other)
-          → (i j : ℤ) → u ≤ℤ i → i <ℤ ahead u (2 ^ k) → v ≤ℤ j → j <ℤ ahead v (2 ^ k) → cells i j ≡ 0
+          → (i j : ℤ) → u ≤ℤ i → i <ℤ step_ahead u (2 ^ k) → v ≤ℤ j → j <ℤ step_ahead v (2 ^ k) → cells i j ≡ 0
       zero_at u v other e p = (zero-of_blank cells k u v (subst (IsPiece cells u v) (ap content e ∙ is) p)).zero_at
 
       row : (v : ℤ) (three : Three Id) → InThree (λ other. other ≡ id) three → AreThree content cells (2 ^ k) x v three
-          → (i j : ℤ) → back x (2 ^ k) ≤ℤ i → i <ℤ ahead (ahead x (2 ^ k)) (2 ^ k) → v ≤ℤ j → j <ℤ ahead v (2 ^ k) → cells i j ≡ 0
+          → (i j : ℤ) → step_back x (2 ^ k) ≤ℤ i → i <ℤ step_ahead (step_ahead x (2 ^ k)) (2 ^ k) → v ≤ℤ j → j <ℤ step_ahead v (2 ^ k) → cells i j ≡ 0
       row v three all h i j w e n s =
           by_lt_z i x (λ l. zero_at _ v _ all.before h.before i j w (omega (arith, ints, l)) n s)
-          (λ g. by_lt_z i (ahead x (2 ^ k)) (λ l. zero_at x v _ all.here h.here i j g l n s) (λ l. zero_at _ v _ all.after h.after i j l e n s))
+          (λ g. by_lt_z i (step_ahead x (2 ^ k)) (λ l. zero_at x v _ all.here h.here i j g l n s) (λ l. zero_at _ v _ all.after h.after i j l e n s))
 
-      zero : (i j : ℤ) → back x (2 ^ k) ≤ℤ i → i <ℤ ahead (ahead x (2 ^ k)) (2 ^ k) → back y (2 ^ k) ≤ℤ j → j <ℤ ahead (ahead y (2 ^ k)) (2 ^ k)
+      zero : (i j : ℤ) → step_back x (2 ^ k) ≤ℤ i → i <ℤ step_ahead (step_ahead x (2 ^ k)) (2 ^ k) → step_back y (2 ^ k) ≤ℤ j
+          → j <ℤ step_ahead (step_ahead y (2 ^ k)) (2 ^ k)
           → cells i j ≡ 0
       zero i j w e n s =
           by_lt_z j y (λ l. row _ _ all.before h.before i j w e n (omega (arith, ints, l)))
-          (λ g. by_lt_z j (ahead y (2 ^ k)) (λ l. row y _ all.here h.here i j w e g l) (λ l. row _ _ all.after h.after i j w e l s))
+          (λ g. by_lt_z j (step_ahead y (2 ^ k)) (λ l. row y _ all.here h.here i j w e g l) (λ l. row _ _ all.after h.after i j w e l s))
 
   -- a square one level higher whose cells are the next states of a square's, each at its place
   pub square-next : (t r : Tree) → 1 ≤ depth t → IsFull r → depth r ≡ depth t + 1
@@ -207,7 +210,7 @@ module _ (answers : List ℕ → Answer → Type 0) (bound : ℕ) (positive : 0 
       zero-or-not : (n : ℕ) → (n ≡ 0) ⊎ (n ≢ 0)
       zero-or-not n = grind arith
 
-      by : (x y : ℤ) → (Inside (half_side r) x y → ⊥) → (u v : ℤ) → before x ≤ℤ u → u ≤ℤ after x → before y ≤ℤ v → v ≤ℤ after y
+      by : (x y : ℤ) → (Inside (half_side r) x y → ⊥) → (u v : ℤ) → one_before x ≤ℤ u → u ≤ℤ one_after x → one_before y ≤ℤ v → v ≤ℤ one_after y
           → (tree_cell t u v ≡ 0) ⊎ (tree_cell t u v ≢ 0) → tree_cell t u v ≡ 0
       by x y apart u v a b c d (inl e) = e
       by x y apart u v a b c d (inr n) =
@@ -238,15 +241,15 @@ module _ {A : Type 0} (answers : A → List ℕ → Answer → Type 0) (bound : 
 
 module _ {X : Type 0} {knows : X → Id → Type 0} {content : X → Id → Tree} {stored : X → List Tree} {most : X → ℕ} where
   piece-kept : {old new : X} {k : ℕ} {q : Id} (Fits : ℤ → ℤ → ℕ → Type 0) (x y : ℤ) → KeepsSquares knows content stored most old new
-      → IsAt (knows old) (content old) k q → IsPieceBy Fits x y (content old q) → IsPieceBy Fits x y (content new q)
+      → IsOfLevel (knows old) (content old) k q → IsPieceBy Fits x y (content old q) → IsPieceBy Fits x y (content new q)
   piece-kept Fits x y keeps at h = subst (IsPieceBy Fits x y) (sym (keeps.contents _ at.known).1) h
 
   -- four answers of calls behind one another, joined
   pub joined-pieces : {s t u v : X} {a b c d : Id} {n : ℕ} (tree : Tree) (Fits : ℤ → ℤ → ℕ → Type 0) (k : ℕ) (x y : ℤ) → n ≡ k
       → KeepsSquares knows content stored most s t → KeepsSquares knows content stored most t u → KeepsSquares knows content stored most u v
-      → IsAt (knows s) (content s) n a → IsAt (knows t) (content t) n b → IsAt (knows u) (content u) n c
-      → IsPieceBy Fits x y (content s a) → IsPieceBy Fits (ahead x (2 ^ k)) y (content t b) → IsPieceBy Fits x (ahead y (2 ^ k)) (content u c)
-      → IsPieceBy Fits (ahead x (2 ^ k)) (ahead y (2 ^ k)) (content v d)
+      → IsOfLevel (knows s) (content s) n a → IsOfLevel (knows t) (content t) n b → IsOfLevel (knows u) (content u) n c
+      → IsPieceBy Fits x y (content s a) → IsPieceBy Fits (step_ahead x (2 ^ k)) y (content t b) → IsPieceBy Fits x (step_ahead y (2 ^ k)) (content u c)
+      → IsPieceBy Fits (step_ahead x (2 ^ k)) (step_ahead y (2 ^ k)) (content v d)
       → tree ≡ quad (content v a) (content v b) (content v c) (content v d) → IsPieceBy Fits x y tree
   joined-pieces tree Fits k x y level st tu uv aa ab ac pa pb pc pd is =
       let all = keeps-then st (keeps-then tu uv) in
@@ -256,7 +259,7 @@ module _ {X : Type 0} {knows : X → Id → Type 0} {content : X → Id → Tree
   -- the square that is joined is one level higher
   pub joined-level : {s t u v : X} {a b c d : Id} {n : ℕ} (tree : Tree)
       → KeepsSquares knows content stored most s t → KeepsSquares knows content stored most t u → KeepsSquares knows content stored most u v
-      → IsAt (knows s) (content s) n a → tree ≡ quad (content v a) (content v b) (content v c) (content v d) → depth tree ≡ n + 1
+      → IsOfLevel (knows s) (content s) n a → tree ≡ quad (content v a) (content v b) (content v c) (content v d) → depth tree ≡ n + 1
   joined-level {n = n} tree st tu uv aa is = ap depth is ∙ ap suc (IsAt-kept (keeps-then st (keeps-then tu uv)) aa).level ∙ sym (add-one n)
 
 module _ {knows : Id → Type 0} {content : Id → Tree} {answers : List ℕ → Answer → Type 0} {bound : ℕ} where
@@ -280,15 +283,15 @@ module _ {knows : Id → Type 0} {content : Id → Tree} {answers : List ℕ →
     -- a memory without answers
     pub RemembersBy-none : {memory : List Slot} → ((ids : List Id) (answer : Id) → ¬ Recalls memory ids answer)
         → RemembersBy knows content knows_next next answers bound memory
-    RemembersBy-none none = record { answers_by = λ nine answer r. absurd (none (ids_of nine) answer r) }
+    RemembersBy-none none = record { answers_by = λ nine answer r. absurd (none (ids_of_nine nine) answer r) }
 
     -- one more answer
     pub RemembersBy-more : {old new : List Slot} {nine : Nine} {answer : Id} → IsAnswerBy knows content knows_next next answers bound nine answer
-        → ((other : Nine) (q : Id) → Recalls new (ids_of other) q → Recalls old (ids_of other) q ⊎ ((other ≡ nine) × (q ≡ answer)))
+        → ((other : Nine) (q : Id) → Recalls new (ids_of_nine other) q → Recalls old (ids_of_nine other) q ⊎ ((other ≡ nine) × (q ≡ answer)))
         → RemembersBy knows content knows_next next answers bound old → RemembersBy knows content knows_next next answers bound new
     RemembersBy-more {old = old} {nine = nine} {answer = answer} here put h = record { answers_by = λ other q r. by other q (put other q r) }
       where
-        by : (other : Nine) (q : Id) → Recalls old (ids_of other) q ⊎ ((other ≡ nine) × (q ≡ answer))
+        by : (other : Nine) (q : Id) → Recalls old (ids_of_nine other) q ⊎ ((other ≡ nine) × (q ≡ answer))
             → IsAnswerBy knows content knows_next next answers bound other q
         by other q (inl r) = h.answers_by other q r
         by other q (inr e) =

@@ -6,7 +6,7 @@ use Rattle.life_quad.specs.Cells.{population}
 use Rattle.life_quad.specs.Refused.{SomePart}
 use Rattle.life_quad.specs.Turning.{turned_tree}
 use Rattle.life_quad.specs.declared.turning.Turn.{Turn}
-use Rattle.life_strip.specs.Given.{IsOnPlane}
+use Rattle.life_strip.specs.Given.{IsRunOnPlane}
 use Rattle.life_sweep.specs.Refused.{GenerationRefusal, HasStateFrom, SomeAmbiguous, SomeNext, of_plane}
 use Rattle.life_sweep.specs.Sweep.{IsLeft}
 use Rattle.life_table.specs.Meaning.{Answer}
@@ -36,7 +36,7 @@ of-equals P {c = c} {b = b} e f h = subst (P c) f (subst (λ a. P a b) e h)
 
 module _ (answers : List ℕ → Answer → Type 0) (bound : ℕ) (t r : Tree) (full : IsFull r) (whole : depth r ≡ MAX_LEVEL)
     (next : (x y : ℤ) → IsNextAt answers bound (tree_cell t) x y (tree_cell r x y)) where
-  outside : (x y : ℤ) → ¬ (IsOnPlane x y 1) → tree_cell r x y ≡ 0
+  outside : (x y : ℤ) → ¬ (IsRunOnPlane x y 1) → tree_cell r x y ≡ 0
   outside x y apart = cell-outside r x y (λ i. apart (on-plane r x y (omega (arith, whole)) i))
 
   -- it isn't refused, where there is one answer at most

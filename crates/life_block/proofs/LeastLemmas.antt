@@ -8,8 +8,8 @@ use Rattle.life_base.specs.Tree.{Tree, depth, tree_cell, half_side, IsFull}
 use Rattle.life_quad.specs.Store.{four}
 use Rattle.life_lanes.specs.Places.{place_in}
 use Rattle.life_lanes.proofs.WordLemmas.{bit-shr}
-use Rattle.life_block.specs.Bits.{HasSquare, HasBand, AreBands}
-use Rattle.life_block.specs.Pieces.{IsPiece, back, ahead, four_of}
+use Rattle.life_block.specs.Bits.{HasSquareBits, HasBand, AreBands}
+use Rattle.life_block.specs.Pieces.{IsPiece, step_back, step_ahead, four_of}
 use Rattle.life_block.proofs.BandLemmas.{band-of_squares, rows-between}
 use Rattle.life_block.proofs.RootLemmas.{IsAlone, alone-root, piece-of_root}
 use Rattle.life_block.proofs.SquareLemmas.{square-of}
@@ -20,23 +20,23 @@ start = neg_ℤ (pos 2)
 
 module _ (f : ℤ → ℤ → ℕ) (alone : IsAlone f start 2) where
   -- rows without a cell
-  empty-north : (x y : ℤ) → ahead y 4 ≤ℤ start → HasBand f x y 0
+  empty-north : (x y : ℤ) → step_ahead y 4 ≤ℤ start → HasBand f x y 0
   empty-north x y l r i lr li = bit_at-zero (63 - (16 * r + i)) ∙ sym (alone.north _ (y +ℤ pos r) (omega (arith, ints, l, lr)))
 
   empty-south : (x y : ℤ) → pos 2 ≤ℤ y → HasBand f x y 0
   empty-south x y l r i lr li = bit_at-zero (63 - (16 * r + i)) ∙ sym (alone.south _ (y +ℤ pos r) (omega (arith, ints, l)))
 
-  empty-square : (x : ℤ) → pos 2 ≤ℤ x → HasSquare f x start 0
+  empty-square : (x : ℤ) → pos 2 ≤ℤ x → HasSquareBits f x start 0
   empty-square x l r i lr li = bit_at-zero (15 - place_in r i) ∙ sym (alone.east (x +ℤ pos i) _ (omega (arith, ints, l)))
 
   -- its rows, six columns further east
   module _ (rows : ℕ) (fits : rows < 2 ^ 64) (h : HasBand f start start rows) where
-    moved-east : HasBand f (back start 6) start (rows / 2 ^ 6)
+    moved-east : HasBand f (step_back start 6) start (rows / 2 ^ 6)
     moved-east r i lr li = bit-shr rows 6 (63 - (16 * r + i)) ∙ elim (cases_lt i 6) [
-      | inl west ↦ before-row r lr west ∙ sym (alone.west (back start 6 +ℤ pos i) _ (omega (arith, ints, west)))
+      | inl west ↦ before-row r lr west ∙ sym (alone.west (step_back start 6 +ℤ pos i) _ (omega (arith, ints, west)))
       | inr east ↦
           (let at : 63 - (16 * r + i) + 6 ≡ 63 - (16 * r + (i - 6)) = omega (arith, lr, li, east) in
-          let column : start +ℤ pos (i - 6) ≡ back start 6 +ℤ pos i = omega (arith, ints, east) in
+          let column : start +ℤ pos (i - 6) ≡ step_back start 6 +ℤ pos i = omega (arith, ints, east) in
           ap (bit_at rows) at ∙ h r (i - 6) lr (omega (arith, li)) ∙ ap (λ z. f z (start +ℤ pos r)) column)
     ]
       where
@@ -53,14 +53,14 @@ module _ (f : ℤ → ℤ → ℕ) (alone : IsAlone f start 2) where
         let upper : 0 % 2 ^ 32 * 2 ^ 32 + word / 2 ^ 32 ≡ word / 2 ^ 32 = omega arith in
         let lower : word % 2 ^ 32 * 2 ^ 32 + 0 / 2 ^ 32 ≡ word * 2 ^ 32 % 2 ^ 64 = omega arith in
         record {
-          first = empty-north (back start 6) (neg_ℤ (pos 8)) (omega (arith, ints));
-          second = subst (HasBand f (back start 6) (neg_ℤ (pos 4))) upper
-              (rows-between f (back start 6) (neg_ℤ (pos 6)) 0 word 2 32 32 (omega arith) refl refl (omega arith)
-              (empty-north (back start 6) (neg_ℤ (pos 6)) (omega (arith, ints))) moved-east);
-          third = subst (HasBand f (back start 6) (pos 0)) lower
-              (rows-between f (back start 6) start word 0 2 32 32 (omega arith) refl refl (omega arith) moved-east
-              (empty-south (back start 6) (pos 2) (omega (arith, ints))));
-          fourth = empty-south (back start 6) (pos 4) (omega (arith, ints));
+          first = empty-north (step_back start 6) (neg_ℤ (pos 8)) (omega (arith, ints));
+          second = subst (HasBand f (step_back start 6) (neg_ℤ (pos 4))) upper
+              (rows-between f (step_back start 6) (neg_ℤ (pos 6)) 0 word 2 32 32 (omega arith) refl refl (omega arith)
+              (empty-north (step_back start 6) (neg_ℤ (pos 6)) (omega (arith, ints))) moved-east);
+          third = subst (HasBand f (step_back start 6) (pos 0)) lower
+              (rows-between f (step_back start 6) start word 0 2 32 32 (omega arith) refl refl (omega arith) moved-east
+              (empty-south (step_back start 6) (pos 2) (omega (arith, ints))));
+          fourth = empty-south (step_back start 6) (pos 4) (omega (arith, ints));
         }
 
 -- of a square about the middle
@@ -73,10 +73,10 @@ bands-of_least t n rows small fits full level is order =
     let half : half_side t ≡ 2 = ap (λ k. 2 ^ (k - 1)) level in
     let alone : IsAlone f start 2 = subst (λ h. IsAlone f (neg_ℤ (pos h)) h) half (alone-root t) in
     let piece : IsPiece f start start t = subst (λ h. IsPiece f (neg_ℤ (pos h)) (neg_ℤ (pos h)) t) half (piece-of_root t full (omega (arith, level))) in
-    let square : HasSquare f start start n = square-of f start start start t n small refl (is start start piece) piece in
+    let square : HasSquareBits f start start n = square-of f start start start t n small refl (is start start piece) piece in
     let whole : n * 2 ^ 48 % 2 ^ 64 ≡ ((n * 65536 + 0) * 65536 + 0) * 65536 + 0 = omega (arith, small) in
     bands-of_rows f alone rows fits
-    (band-of_squares n 0 0 0 (omega arith) (omega arith) (omega arith) f start start square (empty-square f alone (ahead start 4) (omega (arith, ints)))
-    (empty-square f alone (ahead start 8) (omega (arith, ints)))
-    (empty-square f alone (ahead start 12) (omega (arith, ints)))
+    (band-of_squares n 0 0 0 (omega arith) (omega arith) (omega arith) f start start square (empty-square f alone (step_ahead start 4) (omega (arith, ints)))
+    (empty-square f alone (step_ahead start 8) (omega (arith, ints)))
+    (empty-square f alone (step_ahead start 12) (omega (arith, ints)))
     rows (λ r q i lr lq li. order r q i lr lq li ∙ ap (λ z. bit_at z (63 - (16 * q + place_in r i))) whole))

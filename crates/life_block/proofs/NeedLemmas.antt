@@ -8,7 +8,7 @@ use Rattle.life_quad.specs.declared.id.Id.{Id}
 use Rattle.life_quad.proofs.KeepingLemmas.{keeps-then}
 use Rattle.life_sweep.specs.Generation.{next_life}
 use Rattle.life_block.specs.Needed.{square_from, SomeOfNine, SomeOfSixteen}
-use Rattle.life_block.specs.Pieces.{IsPiece, IsAt, Nine, Sixteen, InSixteen, AreNine, AreSixteen, ahead, front, rear, western, eastern}
+use Rattle.life_block.specs.Pieces.{IsPiece, IsOfLevel, Nine, Sixteen, InSixteen, AreNine, AreSixteen, step_ahead, first_three, last_three, western, eastern}
 use Rattle.life_block.specs.declared.grid.Three.{Three}
 use Rattle.life_block.specs.declared.grid.Four.{Four}
 use Rattle.life_block.proofs.PieceLemmas.{IsPiece-moved, IsPiece-joined, AreSixteen-kept, first-of_four, last-of_four, western-nine, eastern-nine}
@@ -23,13 +23,13 @@ piece-is f (suc k) x y (point s) full level h = absurd (omega (arith, level))
 piece-is f (suc k) x y (quad a b c d) full level h =
     let one : depth a ≡ k = omega (arith, level) in
     let side : 2 ^ depth a ≡ 2 ^ k = ap (λ n. 2 ^ n) one in
-    let ex : ahead x (2 ^ depth a) ≡ ahead x (2 ^ k) = ap (ahead x) side in
-    let ey : ahead y (2 ^ depth a) ≡ ahead y (2 ^ k) = ap (ahead y) side in
+    let ex : step_ahead x (2 ^ depth a) ≡ step_ahead x (2 ^ k) = ap (step_ahead x) side in
+    let ey : step_ahead y (2 ^ depth a) ≡ step_ahead y (2 ^ k) = ap (step_ahead y) side in
     same_quads
     (piece-is f k x y a full.0 one h.0)
-    (piece-is f k (ahead x (2 ^ k)) y b full.1 (full.4 ∙ one) (IsPiece-moved f _ _ y y b ex refl h.1))
-    (piece-is f k x (ahead y (2 ^ k)) c full.2 (full.5 ∙ one) (IsPiece-moved f x x _ _ c refl ey h.2))
-    (piece-is f k (ahead x (2 ^ k)) (ahead y (2 ^ k)) d full.3 (full.6 ∙ one) (IsPiece-moved f _ _ _ _ d ex ey h.3))
+    (piece-is f k (step_ahead x (2 ^ k)) y b full.1 (full.4 ∙ one) (IsPiece-moved f _ _ y y b ex refl h.1))
+    (piece-is f k x (step_ahead y (2 ^ k)) c full.2 (full.5 ∙ one) (IsPiece-moved f x x _ _ c refl ey h.2))
+    (piece-is f k (step_ahead x (2 ^ k)) (step_ahead y (2 ^ k)) d full.3 (full.6 ∙ one) (IsPiece-moved f _ _ _ _ d ex ey h.3))
 
 -- and that square is of its level, and a piece
 pub depth-square : (f : ℤ → ℤ → ℕ) (k : ℕ) (x y : ℤ) → depth (square_from f k x y) ≡ k
@@ -41,9 +41,9 @@ pub square-piece : (f : ℤ → ℤ → ℕ) (k : ℕ) (x y : ℤ) → IsPiece f
 unfolding square_from
 square-piece f zero x y = refl
 square-piece f (suc k) x y =
-    IsPiece-joined f x y _ _ _ _ _ k (depth-square f k x y) refl (square-piece f k x y) (square-piece f k (ahead x (2 ^ k)) y)
-    (square-piece f k x (ahead y (2 ^ k)))
-    (square-piece f k (ahead x (2 ^ k)) (ahead y (2 ^ k)))
+    IsPiece-joined f x y _ _ _ _ _ k (depth-square f k x y) refl (square-piece f k x y) (square-piece f k (step_ahead x (2 ^ k)) y)
+    (square-piece f k x (step_ahead y (2 ^ k)))
+    (square-piece f k (step_ahead x (2 ^ k)) (step_ahead y (2 ^ k)))
 
 pub is-piece : (f : ℤ → ℤ → ℕ) (k : ℕ) (x y : ℤ) (t : Tree) → t ≡ square_from f k x y → IsPiece f x y t
 is-piece f k x y t e = subst (IsPiece f x y) (sym e) (square-piece f k x y)
@@ -52,9 +52,9 @@ is-piece f k x y t e = subst (IsPiece f x y) (sym e) (square-piece f k x y)
 
 pub record AreParts (f : ℤ → ℤ → ℕ) (k : ℕ) (x y : ℤ) (a b c d : Tree) : Type 0 where
   pub nw : a ≡ square_from f k x y
-  pub ne : b ≡ square_from f k (ahead x (2 ^ k)) y
-  pub sw : c ≡ square_from f k x (ahead y (2 ^ k))
-  pub se : d ≡ square_from f k (ahead x (2 ^ k)) (ahead y (2 ^ k))
+  pub ne : b ≡ square_from f k (step_ahead x (2 ^ k)) y
+  pub sw : c ≡ square_from f k x (step_ahead y (2 ^ k))
+  pub se : d ≡ square_from f k (step_ahead x (2 ^ k)) (step_ahead y (2 ^ k))
 
 pub joined-is : {f : ℤ → ℤ → ℕ} {k : ℕ} {x y : ℤ} {a b c d : Tree} → AreParts f k x y a b c d → quad a b c d ≡ square_from f (suc k) x y
 unfolding square_from
@@ -63,8 +63,8 @@ joined-is p = same_quads p.nw p.ne p.sw p.se
 -- one of four squares of a level has such a part
 abbrev pub SomeOfFour : (Tree → Type 0) → (ℤ → ℤ → ℕ) → ℕ → ℕ → ℤ → ℤ → Type 0
 SomeOfFour P f k side x y =
-    SomePart P (square_from f k x y) ⊎ SomePart P (square_from f k (ahead x side) y) ⊎ SomePart P (square_from f k x (ahead y side))
-    ⊎ SomePart P (square_from f k (ahead x side) (ahead y side))
+    SomePart P (square_from f k x y) ⊎ SomePart P (square_from f k (step_ahead x side) y) ⊎ SomePart P (square_from f k x (step_ahead y side))
+    ⊎ SomePart P (square_from f k (step_ahead x side) (step_ahead y side))
 
 -- the square itself, and a part of a quarter
 module _ (P : Tree → Type 0) (f : ℤ → ℤ → ℕ) (k : ℕ) (x y : ℤ) where
@@ -89,16 +89,16 @@ module _ (P : Tree → Type 0) (f : ℤ → ℤ → ℕ) (k : ℕ) (x y : ℤ) w
 module _ {S : Type 0} {knows : S → Id → Type 0} {content : S → Id → Tree} {stored : S → List Tree} {most : S → ℕ} {n : ℕ} (f : ℤ → ℤ → ℕ) (k : ℕ)
     (full : (s : S) (id : Id) → knows s id → IsFull (content s id)) (level : n ≡ k) where
   -- a square that was answered as a piece is the square of its level still, behind further calls
-  still-is : {s t : S} {id : Id} (x y : ℤ) → KeepsSquares knows content stored most s t → IsAt (knows s) (content s) n id → IsPiece f x y (content s id)
+  still-is : {s t : S} {id : Id} (x y : ℤ) → KeepsSquares knows content stored most s t → IsOfLevel (knows s) (content s) n id → IsPiece f x y (content s id)
       → content t id ≡ square_from f k x y
   still-is x y keeps at h = (keeps.contents _ at.known).1 ∙ piece-is f k x y _ (full _ _ at.known) (at.level ∙ level) h
 
   -- four answers of calls behind one another
   pub parts-of_pieces : {s t u v : S} {a b c d : Id} (x y : ℤ)
       → KeepsSquares knows content stored most s t → KeepsSquares knows content stored most t u → KeepsSquares knows content stored most u v
-      → IsAt (knows s) (content s) n a → IsAt (knows t) (content t) n b → IsAt (knows u) (content u) n c → IsAt (knows v) (content v) n d
-      → IsPiece f x y (content s a) → IsPiece f (ahead x (2 ^ k)) y (content t b) → IsPiece f x (ahead y (2 ^ k)) (content u c)
-      → IsPiece f (ahead x (2 ^ k)) (ahead y (2 ^ k)) (content v d)
+      → IsOfLevel (knows s) (content s) n a → IsOfLevel (knows t) (content t) n b → IsOfLevel (knows u) (content u) n c → IsOfLevel (knows v) (content v) n d
+      → IsPiece f x y (content s a) → IsPiece f (step_ahead x (2 ^ k)) y (content t b) → IsPiece f x (step_ahead y (2 ^ k)) (content u c)
+      → IsPiece f (step_ahead x (2 ^ k)) (step_ahead y (2 ^ k)) (content v d)
       → AreParts f k x y (content v a) (content v b) (content v c) (content v d)
   parts-of_pieces x y st tu uv aa ab ac ad pa pb pc pd =
       record {
@@ -112,24 +112,24 @@ module _ {S : Type 0} {knows : S → Id → Type 0} {content : S → Id → Tree
 
 -- A part of the next states of one of the four squares in the middle is one of the next states of the four. The store may have grown between them.
 pub of_north_west : (P : Tree → Type 0) (rule : OuterTotalistic) (content : Id → Tree) (k : ℕ) {s : Sixteen} {three : Three (Four Id)} {nine : Nine}
-    → three ≡ front s → nine ≡ western three → SomeOfNine P rule content k nine → SomeOfSixteen P rule content k s
+    → three ≡ first_three s → nine ≡ western three → SomeOfNine P rule content k nine → SomeOfSixteen P rule content k s
 of_north_west P rule content k rows columns some cells x y binary h =
     quarter-part P _ k x y (inl (some cells _ _ binary (western-nine content cells columns (first-of_four rows h))))
 
 module _ {S : Type 0} {knows : S → Id → Type 0} {content : S → Id → Tree} {stored : S → List Tree} {most : S → ℕ} {old now : S} (P : Tree → Type 0)
     (rule : OuterTotalistic) {k : ℕ} {s : Sixteen} {three : Three (Four Id)} {nine : Nine} (keeps : KeepsSquares knows content stored most old now)
-    (known : InSixteen (IsAt (knows old) (content old) k) s) where
-  pub of_north_east : three ≡ front s → nine ≡ eastern three → SomeOfNine P rule (content now) k nine → SomeOfSixteen P rule (content old) k s
+    (known : InSixteen (IsOfLevel (knows old) (content old) k) s) where
+  pub of_north_east : three ≡ first_three s → nine ≡ eastern three → SomeOfNine P rule (content now) k nine → SomeOfSixteen P rule (content old) k s
   of_north_east rows columns some cells x y binary h =
       quarter-part P _ k x y
       (inr (inl (some cells _ _ binary (eastern-nine (content now) cells columns (first-of_four rows (AreSixteen-kept keeps cells known h))))))
 
-  pub of_south_west : three ≡ rear s → nine ≡ western three → SomeOfNine P rule (content now) k nine → SomeOfSixteen P rule (content old) k s
+  pub of_south_west : three ≡ last_three s → nine ≡ western three → SomeOfNine P rule (content now) k nine → SomeOfSixteen P rule (content old) k s
   of_south_west rows columns some cells x y binary h =
       quarter-part P _ k x y
       (inr (inr (inl (some cells _ _ binary (western-nine (content now) cells columns (last-of_four rows (AreSixteen-kept keeps cells known h)))))))
 
-  pub of_south_east : three ≡ rear s → nine ≡ eastern three → SomeOfNine P rule (content now) k nine → SomeOfSixteen P rule (content old) k s
+  pub of_south_east : three ≡ last_three s → nine ≡ eastern three → SomeOfNine P rule (content now) k nine → SomeOfSixteen P rule (content old) k s
   of_south_east rows columns some cells x y binary h =
       quarter-part P _ k x y
       (inr (inr (inr (some cells _ _ binary (eastern-nine (content now) cells columns (last-of_four rows (AreSixteen-kept keeps cells known h)))))))

@@ -10,11 +10,11 @@ use Rattle.life_base.specs.Tree.{Tree, quad, depth, blank}
 use Rattle.life_base.proofs.Squares.{depth-blank}
 use Rattle.life_quad.specs.Keeping.{KeepsSquares}
 use Rattle.life_quad.specs.declared.id.Id.{Id}
-use Rattle.life_sweep.specs.Generation.{before, after, next_by_count, next_life}
+use Rattle.life_sweep.specs.Generation.{one_before, one_after, next_by_count, next_life}
 use Rattle.life_table.specs.Meaning.{count_of}
 use Rattle.life_block.specs.declared.grid.Three.{Three}
 use Rattle.life_block.specs.declared.grid.Four.{Four}
-use Rattle.life_block.specs.Pieces.{Nine, Sixteen, IsPiece, IsAt, InThree, InNine, InFour, InSixteen, AreThreeAt, AreFourAt, AreThree, AreNine, AreFour, AreSixteen, back, ahead, front, rear, western, eastern}
+use Rattle.life_block.specs.Pieces.{Nine, Sixteen, IsPiece, IsOfLevel, InThree, InNine, InFour, InSixteen, AreThreeAt, AreFourAt, AreThree, AreNine, AreFour, AreSixteen, step_back, step_ahead, first_three, last_three, western, eastern}
 
 pub twice : (n : ℕ) → 2 ^ (n + 1) ≡ 2 ^ n + 2 ^ n
 twice n = ap (λ m. 2 ^ m) (add-one n) ∙ double n
@@ -27,12 +27,13 @@ IsPiece-moved cells x z y w t e f h = subst (λ u. IsPiece cells u w t) e (subst
 
 -- four pieces are one
 pub IsPiece-joined : (cells : ℤ → ℤ → ℕ) (x y : ℤ) (a b c d t : Tree) (k : ℕ) → depth a ≡ k → t ≡ quad a b c d
-    → IsPiece cells x y a → IsPiece cells (ahead x (2 ^ k)) y b → IsPiece cells x (ahead y (2 ^ k)) c → IsPiece cells (ahead x (2 ^ k)) (ahead y (2 ^ k)) d
+    → IsPiece cells x y a → IsPiece cells (step_ahead x (2 ^ k)) y b → IsPiece cells x (step_ahead y (2 ^ k)) c
+    → IsPiece cells (step_ahead x (2 ^ k)) (step_ahead y (2 ^ k)) d
     → IsPiece cells x y t
 IsPiece-joined cells x y a b c d t k level is pa pb pc pd =
     let side : 2 ^ k ≡ 2 ^ depth a = ap (λ n. 2 ^ n) (sym level) in
-    let ex : ahead x (2 ^ k) ≡ ahead x (2 ^ depth a) = ap (ahead x) side in
-    let ey : ahead y (2 ^ k) ≡ ahead y (2 ^ depth a) = ap (ahead y) side in
+    let ex : step_ahead x (2 ^ k) ≡ step_ahead x (2 ^ depth a) = ap (step_ahead x) side in
+    let ey : step_ahead y (2 ^ k) ≡ step_ahead y (2 ^ depth a) = ap (step_ahead y) side in
     subst (IsPiece cells x y) (sym is) (
       pa,
       IsPiece-moved cells _ _ y y b ex refl pb,
@@ -42,17 +43,17 @@ IsPiece-joined cells x y a b c d t k level is pa pb pc pd =
 
 -- ---- squares side by side
 
-back-ahead : (side : ℕ) (y : ℤ) → y ≡ back (ahead y side) side
+back-ahead : (side : ℕ) (y : ℤ) → y ≡ step_back (step_ahead y side) side
 back-ahead side y = omega (arith, ints)
 
 -- three of four
 module _ {T : Type 0} {P : ℤ → T → Type 0} {side : ℕ} {place : ℤ} {four : Four T} where
-  pub first-of_four : {three : Three T} → three ≡ front four → AreFourAt P side place four → AreThreeAt P side place three
+  pub first-of_four : {three : Three T} → three ≡ first_three four → AreFourAt P side place four → AreThreeAt P side place three
   first-of_four e h = subst (AreThreeAt P side place) (sym e) (record { before = h.first; here = h.second; after = h.third })
 
-  pub last-of_four : {three : Three T} → three ≡ rear four → AreFourAt P side place four → AreThreeAt P side (ahead place side) three
+  pub last-of_four : {three : Three T} → three ≡ last_three four → AreFourAt P side place four → AreThreeAt P side (step_ahead place side) three
   last-of_four e h =
-      subst (AreThreeAt P side (ahead place side)) (sym e)
+      subst (AreThreeAt P side (step_ahead place side)) (sym e)
       (record { before = subst (λ u. P u four.second) (back-ahead side place) h.second; here = h.third; after = h.fourth })
 
 module _ (content : Id → Tree) (cells : ℤ → ℤ → ℕ) {side : ℕ} where
@@ -67,9 +68,9 @@ module _ (content : Id → Tree) (cells : ℤ → ℤ → ℕ) {side : ℕ} wher
       (record { before = first-of_four refl h.before; here = first-of_four refl h.here; after = first-of_four refl h.after })
 
   pub eastern-nine : {x y : ℤ} {rows : Three (Four Id)} {n : Nine} → n ≡ eastern rows → AreThreeAt (AreFour content cells side x) side y rows
-      → AreNine content cells side (ahead x side) y n
+      → AreNine content cells side (step_ahead x side) y n
   eastern-nine {x = x} {y = y} e h =
-      subst (AreNine content cells side (ahead x side) y) (sym e)
+      subst (AreNine content cells side (step_ahead x side) y) (sym e)
       (record { before = last-of_four refl h.before; here = last-of_four refl h.here; after = last-of_four refl h.after })
 
 -- what follows for each of four values follows for the four
@@ -86,14 +87,14 @@ four-kept keep known h =
 -- what is known stays
 module _ {S : Type 0} {knows : S → Id → Type 0} {content : S → Id → Tree} {stored : S → List Tree} {most : S → ℕ} {old new : S}
     (keeps : KeepsSquares knows content stored most old new) where
-  pub IsAt-kept : {k : ℕ} {q : Id} → IsAt (knows old) (content old) k q → IsAt (knows new) (content new) k q
+  pub IsAt-kept : {k : ℕ} {q : Id} → IsOfLevel (knows old) (content old) k q → IsOfLevel (knows new) (content new) k q
   IsAt-kept at = let e = keeps.contents _ at.known in record { known = e.0; level = ap depth e.1 ∙ at.level }
 
-  pub IsPiece-kept : {k : ℕ} {q : Id} (cells : ℤ → ℤ → ℕ) (x y : ℤ) → IsAt (knows old) (content old) k q → IsPiece cells x y (content old q)
+  pub IsPiece-kept : {k : ℕ} {q : Id} (cells : ℤ → ℤ → ℕ) (x y : ℤ) → IsOfLevel (knows old) (content old) k q → IsPiece cells x y (content old q)
       → IsPiece cells x y (content new q)
   IsPiece-kept cells x y at h = subst (IsPiece cells x y) (sym (keeps.contents _ at.known).1) h
 
-  pub AreSixteen-kept : (cells : ℤ → ℤ → ℕ) {k side : ℕ} {x y : ℤ} {s : Sixteen} → InSixteen (IsAt (knows old) (content old) k) s
+  pub AreSixteen-kept : (cells : ℤ → ℤ → ℕ) {k side : ℕ} {x y : ℤ} {s : Sixteen} → InSixteen (IsOfLevel (knows old) (content old) k) s
       → AreSixteen (content old) cells side x y s → AreSixteen (content new) cells side x y s
   AreSixteen-kept cells = four-kept (λ row four. four-kept (λ column id. IsPiece-kept cells column row))
 
@@ -113,7 +114,7 @@ pub IsZero-below : (cells : ℤ → ℤ → ℕ) (west north middle east south :
 IsZero-below cells west north middle east south p q =
     record { zero_at = λ x y w e n s. by_lt_z y middle (λ l. p.zero_at x y w e n l) (λ l. q.zero_at x y w e l s) }
 
-pub zero-of_blank : (cells : ℤ → ℤ → ℕ) (k : ℕ) (x y : ℤ) → IsPiece cells x y (blank k) → IsZero cells x y (ahead x (2 ^ k)) (ahead y (2 ^ k))
+pub zero-of_blank : (cells : ℤ → ℤ → ℕ) (k : ℕ) (x y : ℤ) → IsPiece cells x y (blank k) → IsZero cells x y (step_ahead x (2 ^ k)) (step_ahead y (2 ^ k))
 zero-of_blank cells zero x y h =
     record {
       zero_at = λ u v w e n s.
@@ -123,78 +124,79 @@ zero-of_blank cells zero x y h =
     }
 zero-of_blank cells (suc k) x y h =
     let side : 2 ^ depth (blank k) ≡ 2 ^ k = ap (λ n. 2 ^ n) (depth-blank k) in
-    let ex : ahead x (2 ^ depth (blank k)) ≡ ahead x (2 ^ k) = ap (ahead x) side in
-    let ey : ahead y (2 ^ depth (blank k)) ≡ ahead y (2 ^ k) = ap (ahead y) side in
+    let ex : step_ahead x (2 ^ depth (blank k)) ≡ step_ahead x (2 ^ k) = ap (step_ahead x) side in
+    let ey : step_ahead y (2 ^ depth (blank k)) ≡ step_ahead y (2 ^ k) = ap (step_ahead y) side in
     let double : 2 ^ suc k ≡ 2 ^ k + 2 ^ k = grind arith in
     let nw = zero-of_blank cells k x y h.0 in
-    let ne = zero-of_blank cells k (ahead x (2 ^ k)) y (IsPiece-moved cells _ _ y y (blank k) ex refl h.1) in
-    let sw = zero-of_blank cells k x (ahead y (2 ^ k)) (IsPiece-moved cells x x _ _ (blank k) refl ey h.2) in
-    let se = zero-of_blank cells k (ahead x (2 ^ k)) (ahead y (2 ^ k)) (IsPiece-moved cells _ _ _ _ (blank k) ex ey h.3) in
-    let fx : ahead (ahead x (2 ^ k)) (2 ^ k) ≡ ahead x (2 ^ suc k) = omega (arith, ints, double) in
-    let fy : ahead (ahead y (2 ^ k)) (2 ^ k) ≡ ahead y (2 ^ suc k) = omega (arith, ints, double) in
-    subst (λ e. IsZero cells x y e (ahead y (2 ^ suc k))) fx (subst (λ s. IsZero cells x y (ahead (ahead x (2 ^ k)) (2 ^ k)) s) fy
-    (IsZero-below cells x y (ahead y (2 ^ k)) _ _ (IsZero-beside cells x (ahead x (2 ^ k)) y _ _ nw ne)
-    (IsZero-beside cells x (ahead x (2 ^ k)) (ahead y (2 ^ k)) _ _ sw se)))
+    let ne = zero-of_blank cells k (step_ahead x (2 ^ k)) y (IsPiece-moved cells _ _ y y (blank k) ex refl h.1) in
+    let sw = zero-of_blank cells k x (step_ahead y (2 ^ k)) (IsPiece-moved cells x x _ _ (blank k) refl ey h.2) in
+    let se = zero-of_blank cells k (step_ahead x (2 ^ k)) (step_ahead y (2 ^ k)) (IsPiece-moved cells _ _ _ _ (blank k) ex ey h.3) in
+    let fx : step_ahead (step_ahead x (2 ^ k)) (2 ^ k) ≡ step_ahead x (2 ^ suc k) = omega (arith, ints, double) in
+    let fy : step_ahead (step_ahead y (2 ^ k)) (2 ^ k) ≡ step_ahead y (2 ^ suc k) = omega (arith, ints, double) in
+    subst (λ e. IsZero cells x y e (step_ahead y (2 ^ suc k))) fx (subst (λ s. IsZero cells x y (step_ahead (step_ahead x (2 ^ k)) (2 ^ k)) s) fy
+    (IsZero-below cells x y (step_ahead y (2 ^ k)) _ _ (IsZero-beside cells x (step_ahead x (2 ^ k)) y _ _ nw ne)
+    (IsZero-beside cells x (step_ahead x (2 ^ k)) (step_ahead y (2 ^ k)) _ _ sw se)))
 
-pub blank-of_zero : (cells : ℤ → ℤ → ℕ) (k : ℕ) (x y : ℤ) → IsZero cells x y (ahead x (2 ^ k)) (ahead y (2 ^ k)) → IsPiece cells x y (blank k)
+pub blank-of_zero : (cells : ℤ → ℤ → ℕ) (k : ℕ) (x y : ℤ) → IsZero cells x y (step_ahead x (2 ^ k)) (step_ahead y (2 ^ k)) → IsPiece cells x y (blank k)
 blank-of_zero cells zero x y h = sym (h.zero_at x y (omega (arith, ints)) (omega (arith, ints)) (omega (arith, ints)) (omega (arith, ints)))
 blank-of_zero cells (suc k) x y h =
     let side : 2 ^ k ≡ 2 ^ depth (blank k) = ap (λ n. 2 ^ n) (sym (depth-blank k)) in
-    let ex : ahead x (2 ^ k) ≡ ahead x (2 ^ depth (blank k)) = ap (ahead x) side in
-    let ey : ahead y (2 ^ k) ≡ ahead y (2 ^ depth (blank k)) = ap (ahead y) side in
+    let ex : step_ahead x (2 ^ k) ≡ step_ahead x (2 ^ depth (blank k)) = ap (step_ahead x) side in
+    let ey : step_ahead y (2 ^ k) ≡ step_ahead y (2 ^ depth (blank k)) = ap (step_ahead y) side in
     let double : 2 ^ suc k ≡ 2 ^ k + 2 ^ k = grind arith in
-    let part : (u v : ℤ) → x ≤ℤ u → ahead u (2 ^ k) ≤ℤ ahead x (2 ^ suc k) → y ≤ℤ v → ahead v (2 ^ k) ≤ℤ ahead y (2 ^ suc k)
+    let part : (u v : ℤ) → x ≤ℤ u → step_ahead u (2 ^ k) ≤ℤ step_ahead x (2 ^ suc k) → y ≤ℤ v → step_ahead v (2 ^ k) ≤ℤ step_ahead y (2 ^ suc k)
     → IsPiece cells u v (blank k) = (λ u v w e n s.
     blank-of_zero cells k u v (record {
       zero_at = λ i j a b c d. h.zero_at i j (omega (arith, ints, w, a)) (omega (arith, ints, e, b)) (omega (arith, ints, n, c)) (omega (arith, ints, s, d));
     })) in (
       part x y (omega (arith, ints)) (omega (arith, ints, double)) (omega (arith, ints)) (omega (arith, ints, double)),
       IsPiece-moved cells _ _ y y (blank k) ex refl
-          (part (ahead x (2 ^ k)) y (omega (arith, ints)) (omega (arith, ints, double)) (omega (arith, ints)) (omega (arith, ints, double))),
+          (part (step_ahead x (2 ^ k)) y (omega (arith, ints)) (omega (arith, ints, double)) (omega (arith, ints)) (omega (arith, ints, double))),
       IsPiece-moved cells x x _ _ (blank k) refl ey
-          (part x (ahead y (2 ^ k)) (omega (arith, ints)) (omega (arith, ints, double)) (omega (arith, ints)) (omega (arith, ints, double))),
+          (part x (step_ahead y (2 ^ k)) (omega (arith, ints)) (omega (arith, ints, double)) (omega (arith, ints)) (omega (arith, ints, double))),
       IsPiece-moved cells _ _ _ _ (blank k) ex ey
-          (part (ahead x (2 ^ k)) (ahead y (2 ^ k)) (omega (arith, ints)) (omega (arith, ints, double)) (omega (arith, ints)) (omega (arith, ints, double))),
+          (part (step_ahead x (2 ^ k)) (step_ahead y (2 ^ k)) (omega (arith, ints)) (omega (arith, ints, double)) (omega (arith, ints))
+          (omega (arith, ints, double))),
     )
 
 -- a cell among cells of state 0
 pub next-zero : (rule : OuterTotalistic) (cells : ℤ → ℤ → ℕ) (x y : ℤ) → has_digit rule.sets.births 0 ≡ false
-    → ((u v : ℤ) → before x ≤ℤ u → u ≤ℤ after x → before y ≤ℤ v → v ≤ℤ after y → cells u v ≡ 0) → next_life rule cells x y ≡ 0
+    → ((u v : ℤ) → one_before x ≤ℤ u → u ≤ℤ one_after x → one_before y ≤ℤ v → v ≤ℤ one_after y → cells u v ≡ 0) → next_life rule cells x y ≡ 0
 next-zero rule cells x y quiet h = by rule.near ∙ ap (λ (b : Bool). if b || false then 1 else 0) quiet
   where
-    at : (u v : ℤ) → (before x ≤ℤ u) × (u ≤ℤ after x) → (before y ≤ℤ v) × (v ≤ℤ after y) → cells u v ≡ 0
+    at : (u v : ℤ) → (one_before x ≤ℤ u) × (u ≤ℤ one_after x) → (one_before y ≤ℤ v) × (v ≤ℤ one_after y) → cells u v ≡ 0
     at u v a b = h u v a.0 a.1 b.0 b.1
 
-    one_less : (z : ℤ) → (before z ≤ℤ before z) × (before z ≤ℤ after z)
+    one_less : (z : ℤ) → (one_before z ≤ℤ one_before z) × (one_before z ≤ℤ one_after z)
     one_less z = (omega (arith, ints), omega (arith, ints))
 
-    itself : (z : ℤ) → (before z ≤ℤ z) × (z ≤ℤ after z)
+    itself : (z : ℤ) → (one_before z ≤ℤ z) × (z ≤ℤ one_after z)
     itself z = (omega (arith, ints), omega (arith, ints))
 
-    one_more : (z : ℤ) → (before z ≤ℤ after z) × (after z ≤ℤ after z)
+    one_more : (z : ℤ) → (one_before z ≤ℤ one_after z) × (one_after z ≤ℤ one_after z)
     one_more z = (omega (arith, ints), omega (arith, ints))
 
     c : cells x y ≡ 0
     c = at x y (itself x) (itself y)
 
-    n : cells x (before y) ≡ 0
-    n = at x (before y) (itself x) (one_less y)
+    n : cells x (one_before y) ≡ 0
+    n = at x (one_before y) (itself x) (one_less y)
 
-    e : cells (after x) y ≡ 0
-    e = at (after x) y (one_more x) (itself y)
+    e : cells (one_after x) y ≡ 0
+    e = at (one_after x) y (one_more x) (itself y)
 
-    s : cells x (after y) ≡ 0
-    s = at x (after y) (itself x) (one_more y)
+    s : cells x (one_after y) ≡ 0
+    s = at x (one_after y) (itself x) (one_more y)
 
-    w : cells (before x) y ≡ 0
-    w = at (before x) y (one_less x) (itself y)
+    w : cells (one_before x) y ≡ 0
+    w = at (one_before x) y (one_less x) (itself y)
 
     by : (near : Near) → next_life (record { sets = rule.sets; near = near }) cells x y ≡ next_by_count rule.sets 0 0
     by Moore =
-        let ne = at (after x) (before y) (one_more x) (one_less y) in
-        let se = at (after x) (after y) (one_more x) (one_more y) in
-        let sw = at (before x) (after y) (one_less x) (one_more y) in
-        let nw = at (before x) (before y) (one_less x) (one_less y) in
+        let ne = at (one_after x) (one_before y) (one_more x) (one_less y) in
+        let se = at (one_after x) (one_after y) (one_more x) (one_more y) in
+        let sw = at (one_before x) (one_after y) (one_less x) (one_more y) in
+        let nw = at (one_before x) (one_before y) (one_less x) (one_less y) in
         (λ i. next_by_count rule.sets (c i) (count_of 1 (n i ∷ ne i ∷ e i ∷ se i ∷ s i ∷ sw i ∷ w i ∷ nw i ∷ [])))
     by VonNeumann = (λ i. next_by_count rule.sets (c i) (count_of 1 (n i ∷ e i ∷ s i ∷ w i ∷ [])))
 
@@ -205,25 +207,25 @@ pub next-of_blank : (rule : OuterTotalistic) (content : Id → Tree) (cells : �
 next-of_blank rule content cells k x y id nine quiet is all h =
     subst (IsPiece (next_life rule cells) x y) (sym is) (blank-of_zero _ k x y whole)
   where
-    at : (u v : ℤ) (other : Id) → other ≡ id → IsPiece cells u v (content other) → IsZero cells u v (ahead u (2 ^ k)) (ahead v (2 ^ k))
+    at : (u v : ℤ) (other : Id) → other ≡ id → IsPiece cells u v (content other) → IsZero cells u v (step_ahead u (2 ^ k)) (step_ahead v (2 ^ k))
     at u v other e p = zero-of_blank cells k u v (subst (IsPiece cells u v) (ap content e ∙ is) p)
 
     row : (v : ℤ) (three : Three Id) → InThree (λ other. other ≡ id) three → AreThree content cells (2 ^ k) x v three
-        → IsZero cells (back x (2 ^ k)) v (ahead (ahead x (2 ^ k)) (2 ^ k)) (ahead v (2 ^ k))
+        → IsZero cells (step_back x (2 ^ k)) v (step_ahead (step_ahead x (2 ^ k)) (2 ^ k)) (step_ahead v (2 ^ k))
     row v three e p =
-        let a : ahead (back x (2 ^ k)) (2 ^ k) ≡ x = omega (arith, ints) in
-        IsZero-beside cells _ (ahead x (2 ^ k)) v _ _
-        (IsZero-beside cells _ x v _ _ (subst (λ u. IsZero cells (back x (2 ^ k)) v u (ahead v (2 ^ k))) a (at _ v _ e.before p.before))
+        let a : step_ahead (step_back x (2 ^ k)) (2 ^ k) ≡ x = omega (arith, ints) in
+        IsZero-beside cells _ (step_ahead x (2 ^ k)) v _ _
+        (IsZero-beside cells _ x v _ _ (subst (λ u. IsZero cells (step_back x (2 ^ k)) v u (step_ahead v (2 ^ k))) a (at _ v _ e.before p.before))
         (at x v _ e.here p.here)) (at _ v _ e.after p.after)
 
-    around : IsZero cells (back x (2 ^ k)) (back y (2 ^ k)) (ahead (ahead x (2 ^ k)) (2 ^ k)) (ahead (ahead y (2 ^ k)) (2 ^ k))
+    around : IsZero cells (step_back x (2 ^ k)) (step_back y (2 ^ k)) (step_ahead (step_ahead x (2 ^ k)) (2 ^ k)) (step_ahead (step_ahead y (2 ^ k)) (2 ^ k))
     around =
-        let a : ahead (back y (2 ^ k)) (2 ^ k) ≡ y = omega (arith, ints) in
-        IsZero-below cells _ _ (ahead y (2 ^ k)) _ _
-        (IsZero-below cells _ _ y _ _ (subst (λ u. IsZero cells (back x (2 ^ k)) (back y (2 ^ k)) (ahead (ahead x (2 ^ k)) (2 ^ k)) u) a
+        let a : step_ahead (step_back y (2 ^ k)) (2 ^ k) ≡ y = omega (arith, ints) in
+        IsZero-below cells _ _ (step_ahead y (2 ^ k)) _ _
+        (IsZero-below cells _ _ y _ _ (subst (λ u. IsZero cells (step_back x (2 ^ k)) (step_back y (2 ^ k)) (step_ahead (step_ahead x (2 ^ k)) (2 ^ k)) u) a
         (row _ _ all.before h.before)) (row y _ all.here h.here)) (row _ _ all.after h.after)
 
-    whole : IsZero (next_life rule cells) x y (ahead x (2 ^ k)) (ahead y (2 ^ k))
+    whole : IsZero (next_life rule cells) x y (step_ahead x (2 ^ k)) (step_ahead y (2 ^ k))
     whole =
         let some : 0 < 2 ^ k = pow_pos k in
         record {

@@ -11,7 +11,7 @@ use Rattle.life_strip.specs.Needed.{SomeSquare}
 use Rattle.life_sweep.specs.Generation.{next_life, LifeAnswersAt}
 use Rattle.life_sweep.specs.Refused.{of_plane as of_next}
 use Rattle.life_block.specs.Needed.{HasClearEdge, SomeOfNext, of_plane, next_plane, square_from}
-use Rattle.life_block.specs.Pieces.{ahead}
+use Rattle.life_block.specs.Pieces.{step_ahead}
 use Rattle.life_block.proofs.GenerationLemmas.{on-plane}
 use Rattle.life_block.proofs.NeedLemmas.{depth-square, square-piece}
 use Rattle.life_block.proofs.RootLemmas.{cells-of_piece, next-outside}
@@ -90,8 +90,8 @@ module _ (P : Tree → Type 0) (f : ℤ → ℤ → ℕ) (small : (x y : ℤ) �
       let s1 : (row + row + 1 + 1) * m ≤ 2 ^ MAX_LEVEL = omega (arith, last-y, south) in
       let x0 : at (column * 2 ^ suc k) ≡ at ((column + column) * m) = ap at near-x in
       let y0 : at (row * 2 ^ suc k) ≡ at ((row + row) * m) = ap at near-y in
-      let x1 : ahead (at (column * 2 ^ suc k)) m ≡ at ((column + column + 1) * m) = omega (arith, ints, far-x) in
-      let y1 : ahead (at (row * 2 ^ suc k)) m ≡ at ((row + row + 1) * m) = omega (arith, ints, far-y) in
+      let x1 : step_ahead (at (column * 2 ^ suc k)) m ≡ at ((column + column + 1) * m) = omega (arith, ints, far-x) in
+      let y1 : step_ahead (at (row * 2 ^ suc k)) m ≡ at ((row + row + 1) * m) = omega (arith, ints, far-y) in
       elim h [
         | inl a ↦ part-square k (column + column) (row + row) e0 s0 (moved k _ _ _ _ x0 y0 a)
         | inr h ↦ elim h [

@@ -14,9 +14,9 @@ use Rattle.life_quad.specs.declared.id.Id.{Id}
 use Rattle.life_quad.specs.declared.moves.Quarters.{Quarters}
 use Rattle.life_block.specs.declared.grid.Corner.TheVariants.{NorthWest, NorthEast, SouthWest, SouthEast}
 use Rattle.life_block.specs.declared.grid.Four.{Four}
-use Rattle.life_sweep.specs.Generation.{before, after, next_life}
+use Rattle.life_sweep.specs.Generation.{one_before, one_after, next_life}
 use Rattle.life_block.specs.Needed.{HasClearEdge, square_from}
-use Rattle.life_block.specs.Pieces.{Sixteen, IsPiece, IsAt, InFour, InSixteen, AreFour, AreSixteen, back, ahead, four_of, at_corner, in_middle}
+use Rattle.life_block.specs.Pieces.{Sixteen, IsPiece, IsOfLevel, InFour, InSixteen, AreFour, AreSixteen, step_back, step_ahead, four_of, at_corner, in_middle}
 use Rattle.life_block.proofs.NeedLemmas.{SomeOfFour, quarter-part}
 use Rattle.life_block.proofs.PieceLemmas.{twice, IsPiece-moved, AreFour-moved, IsAt-kept, IsPiece-kept, blank-of_zero, next-zero}
 
@@ -33,15 +33,15 @@ piece-of_cells cells (quad a b c d) x y full h =
     let sb : 2 ^ depth b ≡ 2 ^ depth a = ap (λ k. 2 ^ k) full.4 in
     let sc : 2 ^ depth c ≡ 2 ^ depth a = ap (λ k. 2 ^ k) full.5 in
     let sd : 2 ^ depth d ≡ 2 ^ depth a = ap (λ k. 2 ^ k) full.6 in
-    let further : (z : ℤ) (i : ℕ) → z +ℤ pos (2 ^ depth a + i) ≡ ahead z (2 ^ depth a) +ℤ pos i = (λ z i. omega (arith, ints)) in (
+    let further : (z : ℤ) (i : ℕ) → z +ℤ pos (2 ^ depth a + i) ≡ step_ahead z (2 ^ depth a) +ℤ pos i = (λ z i. omega (arith, ints)) in (
       piece-of_cells cells a x y full.0 (λ i j li lj. sym (state_nw a b c d full i j li lj) ∙ h i j (omega (arith, li, d2)) (omega (arith, lj, d2))),
-      piece-of_cells cells b (ahead x (2 ^ depth a)) y full.1
+      piece-of_cells cells b (step_ahead x (2 ^ depth a)) y full.1
           (λ i j li lj. sym (state_ne a b c d full (2 ^ depth a + i) i j refl lj)
           ∙ h (2 ^ depth a + i) j (omega (arith, li, d2, sb)) (omega (arith, lj, d2, sb)) ∙ ap (λ u. cells u (y +ℤ pos j)) (further x i)),
-      piece-of_cells cells c x (ahead y (2 ^ depth a)) full.2
+      piece-of_cells cells c x (step_ahead y (2 ^ depth a)) full.2
           (λ i j li lj. sym (state_sw a b c d full i (2 ^ depth a + j) j refl li)
           ∙ h i (2 ^ depth a + j) (omega (arith, li, d2, sc)) (omega (arith, lj, d2, sc)) ∙ ap (cells (x +ℤ pos i)) (further y j)),
-      piece-of_cells cells d (ahead x (2 ^ depth a)) (ahead y (2 ^ depth a)) full.3
+      piece-of_cells cells d (step_ahead x (2 ^ depth a)) (step_ahead y (2 ^ depth a)) full.3
           (λ i j li lj. sym (state_se a b c d full (2 ^ depth a + i) i (2 ^ depth a + j) j refl refl)
           ∙ h (2 ^ depth a + i) (2 ^ depth a + j) (omega (arith, li, d2, sd)) (omega (arith, lj, d2, sd))
           ∙ (let ex = further x i in let ey = further y j in (λ z. cells (ex z) (ey z)))),
@@ -63,19 +63,19 @@ cells-of_piece cells (quad a b c d) x y full h i j li lj =
     elim (cases_lt j (2 ^ depth a)) [
       | inl below ↦ elim (cases_lt i (2 ^ depth a)) [
         | inl west ↦ state_nw a b c d full i j west below ∙ cells-of_piece cells a x y full.0 h.0 i j west below
-        | inr east ↦ (let back-x : ahead x (2 ^ depth a) +ℤ pos (i - 2 ^ depth a) ≡ x +ℤ pos i = omega (arith, ints, east) in
+        | inr east ↦ (let back-x : step_ahead x (2 ^ depth a) +ℤ pos (i - 2 ^ depth a) ≡ x +ℤ pos i = omega (arith, ints, east) in
             state_ne a b c d full i m j (omega (arith, east)) (omega (arith, below, sb))
-            ∙ cells-of_piece cells b (ahead x (2 ^ depth a)) y full.1 h.1 m j (omega (arith, li, d2, sb, east)) (omega (arith, below, sb))
+            ∙ cells-of_piece cells b (step_ahead x (2 ^ depth a)) y full.1 h.1 m j (omega (arith, li, d2, sb, east)) (omega (arith, below, sb))
             ∙ ap (λ u. cells u (y +ℤ pos j)) back-x)
       ]
-      | inr above ↦ (let back-y : ahead y (2 ^ depth a) +ℤ pos (j - 2 ^ depth a) ≡ y +ℤ pos j = omega (arith, ints, above) in
+      | inr above ↦ (let back-y : step_ahead y (2 ^ depth a) +ℤ pos (j - 2 ^ depth a) ≡ y +ℤ pos j = omega (arith, ints, above) in
           elim (cases_lt i (2 ^ depth a)) [
             | inl west ↦ state_sw a b c d full i j n (omega (arith, above)) (omega (arith, west, sc))
-                ∙ cells-of_piece cells c x (ahead y (2 ^ depth a)) full.2 h.2 i n (omega (arith, west, sc)) (omega (arith, lj, d2, sc, above))
+                ∙ cells-of_piece cells c x (step_ahead y (2 ^ depth a)) full.2 h.2 i n (omega (arith, west, sc)) (omega (arith, lj, d2, sc, above))
                 ∙ ap (cells (x +ℤ pos i)) back-y
-            | inr east ↦ (let back-x : ahead x (2 ^ depth a) +ℤ pos (i - 2 ^ depth a) ≡ x +ℤ pos i = omega (arith, ints, east) in
+            | inr east ↦ (let back-x : step_ahead x (2 ^ depth a) +ℤ pos (i - 2 ^ depth a) ≡ x +ℤ pos i = omega (arith, ints, east) in
                 state_se a b c d full i m j n (omega (arith, east)) (omega (arith, above))
-                ∙ cells-of_piece cells d (ahead x (2 ^ depth a)) (ahead y (2 ^ depth a)) full.3 h.3 m n (omega (arith, li, d2, sd, east))
+                ∙ cells-of_piece cells d (step_ahead x (2 ^ depth a)) (step_ahead y (2 ^ depth a)) full.3 h.3 m n (omega (arith, li, d2, sd, east))
                 (omega (arith, lj, d2, sd, above))
                 ∙ (λ z. cells (back-x z) (back-y z)))
           ])
@@ -162,7 +162,8 @@ pub next-outside : (rule : OuterTotalistic) (t : Tree) → has_digit rule.sets.b
     → (Inside (half_side t) x y → ⊥) → next_life rule (tree_cell t) x y ≡ 0
 next-outside rule t quiet clear x y apart = next-zero rule (tree_cell t) x y quiet (λ u v a b c d. by u v a b c d (cases_eq (tree_cell t u v) 0))
   where
-    by : (u v : ℤ) → before x ≤ℤ u → u ≤ℤ after x → before y ≤ℤ v → v ≤ℤ after y → (tree_cell t u v ≡ 0) ⊎ (tree_cell t u v ≢ 0) → tree_cell t u v ≡ 0
+    by : (u v : ℤ) → one_before x ≤ℤ u → u ≤ℤ one_after x → one_before y ≤ℤ v → v ≤ℤ one_after y → (tree_cell t u v ≡ 0) ⊎ (tree_cell t u v ≢ 0)
+        → tree_cell t u v ≡ 0
     by u v a b c d (inl e) = e
     by u v a b c d (inr n) =
         let i = clear u v n in
@@ -191,15 +192,15 @@ plane-next rule t r quiet high full level clear piece =
 
 -- known squares of one level: the four quarters of a square that begins in this column and row, and a blank one
 pub record AreQuarters (knows : Id → Type 0) (content : Id → Tree) (cells : ℤ → ℤ → ℕ) (k : ℕ) (start : ℤ) (q : Quarters) (other : Id) : Type 0 where
-  pub known_nw : IsAt knows content k q.nw
-  pub known_ne : IsAt knows content k q.ne
-  pub known_sw : IsAt knows content k q.sw
-  pub known_se : IsAt knows content k q.se
-  pub known_other : IsAt knows content k other
+  pub known_nw : IsOfLevel knows content k q.nw
+  pub known_ne : IsOfLevel knows content k q.ne
+  pub known_sw : IsOfLevel knows content k q.sw
+  pub known_se : IsOfLevel knows content k q.se
+  pub known_other : IsOfLevel knows content k other
   pub nw : IsPiece cells start start (content q.nw)
-  pub ne : IsPiece cells (ahead start (2 ^ k)) start (content q.ne)
-  pub sw : IsPiece cells start (ahead start (2 ^ k)) (content q.sw)
-  pub se : IsPiece cells (ahead start (2 ^ k)) (ahead start (2 ^ k)) (content q.se)
+  pub ne : IsPiece cells (step_ahead start (2 ^ k)) start (content q.ne)
+  pub sw : IsPiece cells start (step_ahead start (2 ^ k)) (content q.sw)
+  pub se : IsPiece cells (step_ahead start (2 ^ k)) (step_ahead start (2 ^ k)) (content q.se)
   pub blank_other : content other ≡ blank k
 
 pub AreQuarters-kept : {S : Type 0} {knows : S → Id → Type 0} {content : S → Id → Tree} {stored : S → List Tree} {most : S → ℕ} {old new : S}
@@ -229,7 +230,7 @@ quarters-at knows content t q b k full level is nw ne sw se known_b blank_b leve
     let whole : IsFull (quad (content q.nw) (content q.ne) (content q.sw) (content q.se)) = subst IsFull is full in
     let deep : suc (depth (content q.nw)) ≡ k + 1 = ap depth (sym is) ∙ level in
     let one : depth (content q.nw) ≡ k = omega (arith, deep) in
-    let e : ahead (corner t) (2 ^ depth (content q.nw)) ≡ ahead (corner t) (2 ^ k) = ap (λ n. ahead (corner t) (2 ^ n)) one in
+    let e : step_ahead (corner t) (2 ^ depth (content q.nw)) ≡ step_ahead (corner t) (2 ^ k) = ap (λ n. step_ahead (corner t) (2 ^ n)) one in
     let pieces : IsPiece (tree_cell t) (corner t) (corner t) (quad (content q.nw) (content q.ne) (content q.sw) (content q.se)) = subst
     (IsPiece (tree_cell t) (corner t) (corner t)) is (piece-of_root t full (omega (arith, level))) in
     record {
@@ -249,8 +250,8 @@ quarters-at knows content t q b k full level is nw ne sw se known_b blank_b leve
 pub record IsAlone (cells : ℤ → ℤ → ℕ) (start : ℤ) (half : ℕ) : Type 0 where
   pub west : (x y : ℤ) → x <ℤ start → cells x y ≡ 0
   pub north : (x y : ℤ) → y <ℤ start → cells x y ≡ 0
-  pub east : (x y : ℤ) → ahead (ahead start half) half ≤ℤ x → cells x y ≡ 0
-  pub south : (x y : ℤ) → ahead (ahead start half) half ≤ℤ y → cells x y ≡ 0
+  pub east : (x y : ℤ) → step_ahead (step_ahead start half) half ≤ℤ x → cells x y ≡ 0
+  pub south : (x y : ℤ) → step_ahead (step_ahead start half) half ≤ℤ y → cells x y ≡ 0
 
 pub alone-root : (t : Tree) → IsAlone (tree_cell t) (corner t) (half_side t)
 alone-root t =
@@ -267,16 +268,16 @@ in-four a b c d = record { first = a; second = b; third = c; fourth = d }
 module _ {knows : Id → Type 0} {content : Id → Tree} {cells : ℤ → ℤ → ℕ} {k : ℕ} {start : ℤ} {q : Quarters} {b : Id}
     (h : AreQuarters knows content cells k start q b) where
   abbrev InAll : Sixteen → Type 0
-  InAll s = InSixteen (IsAt knows content k) s
+  InAll s = InSixteen (IsOfLevel knows content k) s
 
-  none : InFour (IsAt knows content k) (four_of b b b b)
+  none : InFour (IsOfLevel knows content k) (four_of b b b b)
   none = in-four h.known_other h.known_other h.known_other h.known_other
 
   -- two squares at the western end of a row, and at the eastern end
-  west-end : {a c : Id} → IsAt knows content k a → IsAt knows content k c → InFour (IsAt knows content k) (four_of a c b b)
+  west-end : {a c : Id} → IsOfLevel knows content k a → IsOfLevel knows content k c → InFour (IsOfLevel knows content k) (four_of a c b b)
   west-end a c = in-four a c h.known_other h.known_other
 
-  east-end : {a c : Id} → IsAt knows content k a → IsAt knows content k c → InFour (IsAt knows content k) (four_of b b a c)
+  east-end : {a c : Id} → IsOfLevel knows content k a → IsOfLevel knows content k c → InFour (IsOfLevel knows content k) (four_of b b a c)
   east-end a c = in-four h.known_other h.known_other a c
 
   pub known-south_east : {s : Sixteen} → s ≡ at_corner SouthEast q b → InAll s
@@ -293,41 +294,41 @@ module _ {knows : Id → Type 0} {content : Id → Tree} {cells : ℤ → ℤ �
 
 module _ (knows : Id → Type 0) (content : Id → Tree) (cells : ℤ → ℤ → ℕ) (k : ℕ) (start : ℤ) (q : Quarters) (b : Id)
     (h : AreQuarters knows content cells k start q b) (alone : IsAlone cells start (2 ^ k)) where
-  nothing : (x y : ℤ) → ((u v : ℤ) → x ≤ℤ u → u <ℤ ahead x (2 ^ k) → y ≤ℤ v → v <ℤ ahead y (2 ^ k) → cells u v ≡ 0) → IsPiece cells x y (content b)
+  nothing : (x y : ℤ) → ((u v : ℤ) → x ≤ℤ u → u <ℤ step_ahead x (2 ^ k) → y ≤ℤ v → v <ℤ step_ahead y (2 ^ k) → cells u v ≡ 0) → IsPiece cells x y (content b)
   nothing x y zero_at = subst (IsPiece cells x y) (sym h.blank_other) (blank-of_zero cells k x y (record { zero_at = λ u v a b c d. zero_at u v a b c d }))
 
-  to-west : (x y : ℤ) → ahead x (2 ^ k) ≤ℤ start → IsPiece cells x y (content b)
+  to-west : (x y : ℤ) → step_ahead x (2 ^ k) ≤ℤ start → IsPiece cells x y (content b)
   to-west x y l = nothing x y (λ u v a e n s. alone.west u v (omega (arith, ints, l, e)))
 
-  to-east : (x y : ℤ) → ahead (ahead start (2 ^ k)) (2 ^ k) ≤ℤ x → IsPiece cells x y (content b)
+  to-east : (x y : ℤ) → step_ahead (step_ahead start (2 ^ k)) (2 ^ k) ≤ℤ x → IsPiece cells x y (content b)
   to-east x y l = nothing x y (λ u v a e n s. alone.east u v (omega (arith, ints, l, a)))
 
-  no-north : (x y : ℤ) → ahead y (2 ^ k) ≤ℤ start → AreFour content cells (2 ^ k) x y (four_of b b b b)
+  no-north : (x y : ℤ) → step_ahead y (2 ^ k) ≤ℤ start → AreFour content cells (2 ^ k) x y (four_of b b b b)
   no-north x y l =
       let at : (z : ℤ) → IsPiece cells z y (content b) = (λ z. nothing z y (λ u v a e n s. alone.north u v (omega (arith, ints, l, s)))) in
       record { first = at _; second = at _; third = at _; fourth = at _ }
 
-  no-south : (x y : ℤ) → ahead (ahead start (2 ^ k)) (2 ^ k) ≤ℤ y → AreFour content cells (2 ^ k) x y (four_of b b b b)
+  no-south : (x y : ℤ) → step_ahead (step_ahead start (2 ^ k)) (2 ^ k) ≤ℤ y → AreFour content cells (2 ^ k) x y (four_of b b b b)
   no-south x y l =
       let at : (z : ℤ) → IsPiece cells z y (content b) = (λ z. nothing z y (λ u v a e n s. alone.south u v (omega (arith, ints, l, n)))) in
       record { first = at _; second = at _; third = at _; fourth = at _ }
 
   -- two squares side by side, with nothing west or east of them
-  east-row : (y : ℤ) (a c : Id) → IsPiece cells start y (content a) → IsPiece cells (ahead start (2 ^ k)) y (content c)
-      → AreFour content cells (2 ^ k) (back start (2 ^ k)) y (four_of b b a c)
+  east-row : (y : ℤ) (a c : Id) → IsPiece cells start y (content a) → IsPiece cells (step_ahead start (2 ^ k)) y (content c)
+      → AreFour content cells (2 ^ k) (step_back start (2 ^ k)) y (four_of b b a c)
   east-row y a c pa pc =
-      let e : start ≡ ahead (back start (2 ^ k)) (2 ^ k) = omega (arith, ints) in
+      let e : start ≡ step_ahead (step_back start (2 ^ k)) (2 ^ k) = omega (arith, ints) in
       record {
         first = to-west _ y (omega (arith, ints));
         second = to-west _ y (omega (arith, ints));
         third = IsPiece-moved cells start _ y y _ e refl pa;
-        fourth = IsPiece-moved cells _ _ y y _ (ap (λ z. ahead z (2 ^ k)) e) refl pc;
+        fourth = IsPiece-moved cells _ _ y y _ (ap (λ z. step_ahead z (2 ^ k)) e) refl pc;
       }
 
-  west-row : (y : ℤ) (a c : Id) → IsPiece cells start y (content a) → IsPiece cells (ahead start (2 ^ k)) y (content c)
-      → AreFour content cells (2 ^ k) (ahead start (2 ^ k)) y (four_of a c b b)
+  west-row : (y : ℤ) (a c : Id) → IsPiece cells start y (content a) → IsPiece cells (step_ahead start (2 ^ k)) y (content c)
+      → AreFour content cells (2 ^ k) (step_ahead start (2 ^ k)) y (four_of a c b b)
   west-row y a c pa pc =
-      let e : start ≡ back (ahead start (2 ^ k)) (2 ^ k) = omega (arith, ints) in
+      let e : start ≡ step_back (step_ahead start (2 ^ k)) (2 ^ k) = omega (arith, ints) in
       record {
         first = IsPiece-moved cells start _ y y _ e refl pa;
         second = pc;
@@ -335,26 +336,26 @@ module _ (knows : Id → Type 0) (content : Id → Tree) (cells : ℤ → ℤ �
         fourth = to-east _ y (omega (arith, ints));
       }
 
-  southern : start ≡ ahead (back start (2 ^ k)) (2 ^ k)
+  southern : start ≡ step_ahead (step_back start (2 ^ k)) (2 ^ k)
   southern = omega (arith, ints)
 
-  northern : start ≡ back (ahead start (2 ^ k)) (2 ^ k)
+  northern : start ≡ step_back (step_ahead start (2 ^ k)) (2 ^ k)
   northern = omega (arith, ints)
 
   -- two rows with the quarters, and nothing north of them, or south
-  in_south : (x : ℤ) (upper lower : Four Id) → AreFour content cells (2 ^ k) x start upper → AreFour content cells (2 ^ k) x (ahead start (2 ^ k)) lower
-      → AreSixteen content cells (2 ^ k) x (back start (2 ^ k))
+  in_south : (x : ℤ) (upper lower : Four Id) → AreFour content cells (2 ^ k) x start upper → AreFour content cells (2 ^ k) x (step_ahead start (2 ^ k)) lower
+      → AreSixteen content cells (2 ^ k) x (step_back start (2 ^ k))
       (four_of (four_of b b b b) (four_of b b b b) upper lower)
   in_south x upper lower north south =
       record {
         first = no-north _ _ (omega (arith, ints));
         second = no-north _ _ (omega (arith, ints));
         third = AreFour-moved content cells southern north;
-        fourth = AreFour-moved content cells (ap (λ z. ahead z (2 ^ k)) southern) south;
+        fourth = AreFour-moved content cells (ap (λ z. step_ahead z (2 ^ k)) southern) south;
       }
 
-  in_north : (x : ℤ) (upper lower : Four Id) → AreFour content cells (2 ^ k) x start upper → AreFour content cells (2 ^ k) x (ahead start (2 ^ k)) lower
-      → AreSixteen content cells (2 ^ k) x (ahead start (2 ^ k))
+  in_north : (x : ℤ) (upper lower : Four Id) → AreFour content cells (2 ^ k) x start upper → AreFour content cells (2 ^ k) x (step_ahead start (2 ^ k)) lower
+      → AreSixteen content cells (2 ^ k) x (step_ahead start (2 ^ k))
       (four_of upper lower (four_of b b b b) (four_of b b b b))
   in_north x upper lower north south =
       record {
@@ -364,20 +365,20 @@ module _ (knows : Id → Type 0) (content : Id → Tree) (cells : ℤ → ℤ �
         fourth = no-south _ _ (omega (arith, ints));
       }
 
-  pieces-south_east : AreSixteen content cells (2 ^ k) (back start (2 ^ k)) (back start (2 ^ k)) (at_corner SouthEast q b)
+  pieces-south_east : AreSixteen content cells (2 ^ k) (step_back start (2 ^ k)) (step_back start (2 ^ k)) (at_corner SouthEast q b)
   pieces-south_east = in_south _ _ _ (east-row _ _ _ h.nw h.ne) (east-row _ _ _ h.sw h.se)
 
-  pieces-south_west : AreSixteen content cells (2 ^ k) (ahead start (2 ^ k)) (back start (2 ^ k)) (at_corner SouthWest q b)
+  pieces-south_west : AreSixteen content cells (2 ^ k) (step_ahead start (2 ^ k)) (step_back start (2 ^ k)) (at_corner SouthWest q b)
   pieces-south_west = in_south _ _ _ (west-row _ _ _ h.nw h.ne) (west-row _ _ _ h.sw h.se)
 
-  pieces-north_east : AreSixteen content cells (2 ^ k) (back start (2 ^ k)) (ahead start (2 ^ k)) (at_corner NorthEast q b)
+  pieces-north_east : AreSixteen content cells (2 ^ k) (step_back start (2 ^ k)) (step_ahead start (2 ^ k)) (at_corner NorthEast q b)
   pieces-north_east = in_north _ _ _ (east-row _ _ _ h.nw h.ne) (east-row _ _ _ h.sw h.se)
 
-  pieces-north_west : AreSixteen content cells (2 ^ k) (ahead start (2 ^ k)) (ahead start (2 ^ k)) (at_corner NorthWest q b)
+  pieces-north_west : AreSixteen content cells (2 ^ k) (step_ahead start (2 ^ k)) (step_ahead start (2 ^ k)) (at_corner NorthWest q b)
   pieces-north_west = in_north _ _ _ (west-row _ _ _ h.nw h.ne) (west-row _ _ _ h.sw h.se)
 
   -- two squares in the middle of a row
-  middle-row : (y : ℤ) (a c : Id) → IsPiece cells start y (content a) → IsPiece cells (ahead start (2 ^ k)) y (content c)
+  middle-row : (y : ℤ) (a c : Id) → IsPiece cells start y (content a) → IsPiece cells (step_ahead start (2 ^ k)) y (content c)
       → AreFour content cells (2 ^ k) start y (four_of b a c b)
   middle-row y a c pa pc =
       record { first = to-west _ y (omega (arith, ints)); second = pa; third = pc; fourth = to-east _ y (omega (arith, ints)) }
@@ -410,10 +411,10 @@ module _ {knows : Id → Type 0} {content : Id → Tree} {t : Tree} {k : ℕ} {q
   whole : 2 ^ depth t ≡ 2 ^ k + 2 ^ k
   whole = ap (λ n. 2 ^ n) d.level ∙ twice k
 
-  near : back (corner t) (2 ^ k) ≡ outer t
+  near : step_back (corner t) (2 ^ k) ≡ outer t
   near = let e = half in let f = whole in omega (arith, ints, e, f)
 
-  middle : ahead (corner t) (2 ^ k) ≡ ahead (outer t) (2 ^ depth t)
+  middle : step_ahead (corner t) (2 ^ k) ≡ step_ahead (outer t) (2 ^ depth t)
   middle = let e = half in let f = whole in omega (arith, ints, e, f)
 
   alone : IsAlone (tree_cell t) (corner t) (2 ^ k)
@@ -428,14 +429,16 @@ module _ {knows : Id → Type 0} {content : Id → Tree} {t : Tree} {k : ℕ} {q
   pub around-north_west : {s : Sixteen} → s ≡ at_corner SouthEast q b → AreSixteen content (tree_cell t) (2 ^ k) (outer t) (outer t) s
   around-north_west e = at e near near (pieces-south_east knows content (tree_cell t) k (corner t) q b d.quarters alone)
 
-  pub around-north_east : {s : Sixteen} → s ≡ at_corner SouthWest q b → AreSixteen content (tree_cell t) (2 ^ k) (ahead (outer t) (2 ^ depth t)) (outer t) s
+  pub around-north_east : {s : Sixteen} → s ≡ at_corner SouthWest q b
+      → AreSixteen content (tree_cell t) (2 ^ k) (step_ahead (outer t) (2 ^ depth t)) (outer t) s
   around-north_east e = at e middle near (pieces-south_west knows content (tree_cell t) k (corner t) q b d.quarters alone)
 
-  pub around-south_west : {s : Sixteen} → s ≡ at_corner NorthEast q b → AreSixteen content (tree_cell t) (2 ^ k) (outer t) (ahead (outer t) (2 ^ depth t)) s
+  pub around-south_west : {s : Sixteen} → s ≡ at_corner NorthEast q b
+      → AreSixteen content (tree_cell t) (2 ^ k) (outer t) (step_ahead (outer t) (2 ^ depth t)) s
   around-south_west e = at e near middle (pieces-north_east knows content (tree_cell t) k (corner t) q b d.quarters alone)
 
-  pub around-south_east : {s : Sixteen} → s ≡ at_corner NorthWest q b → AreSixteen content (tree_cell t) (2 ^ k) (ahead (outer t) (2 ^ depth t))
-      (ahead (outer t) (2 ^ depth t)) s
+  pub around-south_east : {s : Sixteen} → s ≡ at_corner NorthWest q b → AreSixteen content (tree_cell t) (2 ^ k) (step_ahead (outer t) (2 ^ depth t))
+      (step_ahead (outer t) (2 ^ depth t)) s
   around-south_east e = at e middle middle (pieces-north_west knows content (tree_cell t) k (corner t) q b d.quarters alone)
 
   -- and about its own middle

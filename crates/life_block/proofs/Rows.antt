@@ -2,7 +2,7 @@
 use Rattle.std.proofs.Common.{◌≡◌, ℕ, ℤ, pos, negsuc, [], ◌∷◌, refl, ◌&&◌, int_le, if◌then◌else◌}
 use Rattle.life_base.specs.Tree.{point, quad}
 use Rattle.life_block.specs.Bits.{neighbours_in, sides_in, count_at}
-use Rattle.life_block.specs.Pieces.{IsPiece, back, ahead}
+use Rattle.life_block.specs.Pieces.{IsPiece, step_back, step_ahead}
 
 -- the cells of a diagonal
 abbrev diagonal : ℤ → ℤ → ℕ
@@ -22,10 +22,10 @@ larger : IsPiece diagonal (negsuc 1) (pos 0)
     (quad (point 0) (point 0) (point 0) (point 0)))
 larger = ((refl, refl, refl, refl), (refl, refl, refl, refl), (refl, refl, refl, refl), (refl, refl, refl, refl))
 
-two_west : back (pos 1) 2 ≡ negsuc 0
+two_west : step_back (pos 1) 2 ≡ negsuc 0
 two_west = refl
 
-two_east : ahead (negsuc 0) 2 ≡ pos 1
+two_east : step_ahead (negsuc 0) 2 ≡ pos 1
 two_east = refl
 
 -- three rows of three cells, whose north-eastern and western ones are alive

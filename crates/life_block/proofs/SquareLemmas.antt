@@ -5,7 +5,7 @@ use Rattle.std.proofs.lemmas.Int.{ints}
 use Rattle.life_base.specs.Tree.{Tree, point}
 use Rattle.life_quad.specs.Store.{two, four}
 use Rattle.life_lanes.specs.Places.{place_in}
-use Rattle.life_block.specs.Bits.{HasSquare}
+use Rattle.life_block.specs.Bits.{HasSquareBits}
 use Rattle.life_block.specs.Needed.{square_from}
 use Rattle.life_block.specs.Pieces.{IsPiece}
 use Rattle.life_base.proofs.Squares.{same_quads}
@@ -18,7 +18,7 @@ module _ (f : ℤ → ℤ → ℕ) (x y : ℤ) (n : ℕ) (small : n < 65536) whe
   bit-of : {v : ℕ} {u w : ℤ} → v ≡ f u w → (p : ℕ) (s t : ℤ) → v ≡ bit_at n p → u ≡ s → w ≡ t → bit_at n p ≡ f s t
   bit-of e p s t is eu ew = sym is ∙ e ∙ (λ j. f (eu j) (ew j))
 
-  pub square-of_piece : IsPiece f x y (four n) → HasSquare f x y n
+  pub square-of_piece : IsPiece f x y (four n) → HasSquareBits f x y n
   square-of_piece h zero zero lr li = bit-of h.0.0 15 _ _ (omega (arith, small)) (omega (arith, ints)) (omega (arith, ints))
   square-of_piece h zero (suc zero) lr li = bit-of h.0.1 14 _ _ (omega (arith, small)) (omega (arith, ints)) (omega (arith, ints))
   square-of_piece h zero (suc (suc zero)) lr li = bit-of h.1.0 11 _ _ (omega (arith, small)) (omega (arith, ints)) (omega (arith, ints))
@@ -39,12 +39,12 @@ module _ (f : ℤ → ℤ → ℕ) (x y : ℤ) (n : ℕ) (small : n < 65536) whe
   square-of_piece h r (suc (suc (suc (suc i)))) lr li = absurd (omega (arith, li))
 
   -- a bit as a cell of the plane
-  cell-of : {v : ℕ} {s t : ℤ} → HasSquare f x y n → (r i : ℕ) → r < 4 → i < 4 → v ≡ bit_at n (15 - place_in r i) → x +ℤ pos i ≡ s → y +ℤ pos r ≡ t
+  cell-of : {v : ℕ} {s t : ℤ} → HasSquareBits f x y n → (r i : ℕ) → r < 4 → i < 4 → v ≡ bit_at n (15 - place_in r i) → x +ℤ pos i ≡ s → y +ℤ pos r ≡ t
       → point v ≡ point (f s t)
   cell-of h r i lr li is es et = ap point (is ∙ h r i lr li ∙ (λ j. f (es j) (et j)))
 
   -- four of them as a square of level 1
-  quarter : (m : ℕ) {s t : ℤ} → HasSquare f x y n → (r i : ℕ) → r < 3 → i < 3 → x +ℤ pos i ≡ s → y +ℤ pos r ≡ t → m / 8 ≡ bit_at n (15 - place_in r i)
+  quarter : (m : ℕ) {s t : ℤ} → HasSquareBits f x y n → (r i : ℕ) → r < 3 → i < 3 → x +ℤ pos i ≡ s → y +ℤ pos r ≡ t → m / 8 ≡ bit_at n (15 - place_in r i)
       → m / 4 % 2 ≡ bit_at n (15 - place_in r (i + 1)) → m / 2 % 2 ≡ bit_at n (15 - place_in (r + 1) i)
       → m % 2 ≡ bit_at n (15 - place_in (r + 1) (i + 1)) → two m ≡ square_from f 1 s t
   unfolding square_from
@@ -55,7 +55,7 @@ module _ (f : ℤ → ℤ → ℕ) (x y : ℤ) (n : ℕ) (small : n < 65536) whe
       (cell-of h (r + 1) i (omega (arith, lr)) (omega (arith, li)) sw es (omega (arith, ints, et)))
       (cell-of h (r + 1) (i + 1) (omega (arith, lr)) (omega (arith, li)) se (omega (arith, ints, es)) (omega (arith, ints, et)))
 
-  pub square-is : HasSquare f x y n → four n ≡ square_from f 2 x y
+  pub square-is : HasSquareBits f x y n → four n ≡ square_from f 2 x y
   unfolding square_from
   square-is h =
       same_quads
@@ -65,6 +65,6 @@ module _ (f : ℤ → ℤ → ℕ) (x y : ℤ) (n : ℕ) (small : n < 65536) whe
       (quarter _ h 2 2 (omega arith) (omega arith) (omega (arith, ints)) (omega (arith, ints)) (omega arith) (omega arith) (omega arith) (omega arith))
 
 -- of a piece whose cells are those of the number
-pub square-of : (f : ℤ → ℤ → ℕ) (x z y : ℤ) (t : Tree) (n : ℕ) → n < 65536 → x ≡ z → t ≡ four n → IsPiece f x y t → HasSquare f z y n
+pub square-of : (f : ℤ → ℤ → ℕ) (x z y : ℤ) (t : Tree) (n : ℕ) → n < 65536 → x ≡ z → t ≡ four n → IsPiece f x y t → HasSquareBits f z y n
 square-of f x z y t n small e is h r i lr li =
     square-of_piece f x y n small (subst (IsPiece f x y) is h) r i lr li ∙ ap (λ u. f (u +ℤ pos i) (y +ℤ pos r)) e

@@ -6,7 +6,7 @@ use Rattle.life_base.specs.declared.rule.Near.TheVariants.{Moore, VonNeumann}
 use Rattle.life_lanes.specs.Places.{place_in}
 use Rattle.life_block.specs.declared.counts.BitCounts.{BitCounts}
 use Rattle.life_block.specs.declared.grid.Four.{Four}
-use Rattle.life_block.specs.Pieces.{AreFourAt, back}
+use Rattle.life_block.specs.Pieces.{AreFourAt, step_back}
 use Rattle.life_sweep.specs.declared.column.Column.{Column}
 
 -- a word of cells, and those of the rows one further north and south
@@ -33,8 +33,8 @@ abbrev pub count_at : BitCounts → ℕ → ℕ
 count_at c i = bit_at c.ones i + 2 * bit_at c.twos i + 4 * bit_at c.fours i + 8 * bit_at c.eights i
 
 -- the number has the states of a square of level 2 from the column x and the row y on, the north-western one in the highest of 16 bits
-abbrev pub HasSquare : (ℤ → ℤ → ℕ) → ℤ → ℤ → ℕ → Type 0
-HasSquare cells x y square = (r i : ℕ) → r < 4 → i < 4 → bit_at square (15 - place_in r i) ≡ cells (x +ℤ pos i) (y +ℤ pos r)
+abbrev pub HasSquareBits : (ℤ → ℤ → ℕ) → ℤ → ℤ → ℕ → Type 0
+HasSquareBits cells x y square = (r i : ℕ) → r < 4 → i < 4 → bit_at square (15 - place_in r i) ≡ cells (x +ℤ pos i) (y +ℤ pos r)
 
 -- the word has the states of four rows of sixteen cells from the column x and the row y on, the north-western one in the highest bit
 abbrev pub HasBand : (ℤ → ℤ → ℕ) → ℤ → ℤ → ℕ → Type 0
@@ -42,4 +42,4 @@ HasBand cells x y word = (r i : ℕ) → r < 4 → i < 16 → bit_at word (63 - 
 
 -- four words have the states of sixteen rows of sixteen cells, of which the 64 in the middle are those from the column x and the row y on
 abbrev pub AreBands : (ℤ → ℤ → ℕ) → ℤ → ℤ → Four ℕ → Type 0
-AreBands cells x = AreFourAt (HasBand cells (back x 4)) 4
+AreBands cells x = AreFourAt (HasBand cells (step_back x 4)) 4

@@ -6,8 +6,8 @@ use Rattle.life_quad.specs.declared.id.Id.{Id}
 use Rattle.life_quad.specs.declared.memory.Slot.{Slot}
 use Rattle.life_sweep.specs.Generation.{states_at}
 use Rattle.life_table.specs.Meaning.{Answer, Becomes}
-use Rattle.life_block.specs.Pieces.{Nine, IsAt, InNine, AreNine}
-use Rattle.life_block.specs.Remembered.{ids_of}
+use Rattle.life_block.specs.Pieces.{Nine, IsOfLevel, InNine, AreNine}
+use Rattle.life_block.specs.Remembered.{ids_of_nine}
 
 -- each cell of the square, which begins in the column x and the row y, has a state that fits its place
 abbrev pub IsPieceBy : (ℤ → ℤ → ℕ → Type 0) → ℤ → ℤ → Tree → Type 0
@@ -31,10 +31,10 @@ module _ (knows : Id → Type 0) (content : Id → Tree) (knows_next : Id → Ty
   -- known squares of one level, and one of that level with the next states of the one amid them
   pub record IsAnswerBy (nine : Nine) (answer : Id) : Type 0 where
     pub level : ℕ
-    pub known : InNine (IsAt knows content level) nine
-    pub at : IsAt knows_next next level answer
+    pub known : InNine (IsOfLevel knows content level) nine
+    pub at : IsOfLevel knows_next next level answer
     pub right : IsNextOfNine answers bound content level nine (next answer)
 
   -- each answer that is remembered is right
   pub record RemembersBy (memory : List Slot) : Type 0 where
-    pub answers_by : (nine : Nine) (answer : Id) → Recalls memory (ids_of nine) answer → IsAnswerBy nine answer
+    pub answers_by : (nine : Nine) (answer : Id) → Recalls memory (ids_of_nine nine) answer → IsAnswerBy nine answer

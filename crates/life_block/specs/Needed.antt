@@ -5,11 +5,11 @@ use Rattle.life_base.specs.Tree.{Tree, point, quad, depth, half_side, tree_cell}
 use Rattle.life_base.specs.declared.cell.TheConstants.{MAX_LEVEL}
 use Rattle.life_quad.specs.declared.id.Id.{Id}
 use Rattle.life_quad.specs.Refused.{SomePart}
-use Rattle.life_sweep.specs.Generation.{after, next_life, LifeAnswers}
+use Rattle.life_sweep.specs.Generation.{one_after, next_life, LifeAnswers}
 use Rattle.life_sweep.specs.Refused.{SomeNext}
 use Rattle.life_block.specs.declared.grid.Four.{Four}
 use Rattle.life_block.specs.Bits.{AreBands}
-use Rattle.life_block.specs.Pieces.{AreNine, AreSixteen, IsBinary, Nine, Sixteen, ahead}
+use Rattle.life_block.specs.Pieces.{AreNine, AreSixteen, IsBinary, Nine, Sixteen, step_ahead}
 
 -- the square of level k with the states of the plane from the column x and the row y on
 unfoldable pub square_from : (ℤ → ℤ → ℕ) → ℕ → ℤ → ℤ → Tree
@@ -17,9 +17,9 @@ square_from cells zero x y = point (cells x y)
 square_from cells (suc k) x y =
     quad
     (square_from cells k x y)
-    (square_from cells k (ahead x (2 ^ k)) y)
-    (square_from cells k x (ahead y (2 ^ k)))
-    (square_from cells k (ahead x (2 ^ k)) (ahead y (2 ^ k)))
+    (square_from cells k (step_ahead x (2 ^ k)) y)
+    (square_from cells k x (step_ahead y (2 ^ k)))
+    (square_from cells k (step_ahead x (2 ^ k)) (step_ahead y (2 ^ k)))
 
 -- The next three say that a square has a property which is part of some next states under a B/S rule, wherever on a plane the squares are: of a square of
 -- level k amid its eight neighbours, of four squares of that level amid twelve others, or of the 64 cells in the middle of four words.
@@ -50,11 +50,11 @@ next_plane rule t =
 abbrev pub HasClearEdge : Tree → Type 0
 HasClearEdge t =
     (x y : ℤ) → tree_cell t x y ≢ 0
-    → (neg_ℤ (pos (half_side t)) <ℤ x) × (after x <ℤ pos (half_side t)) × (neg_ℤ (pos (half_side t)) <ℤ y) × (after y <ℤ pos (half_side t))
+    → (neg_ℤ (pos (half_side t)) <ℤ x) × (one_after x <ℤ pos (half_side t)) × (neg_ℤ (pos (half_side t)) <ℤ y) × (one_after y <ℤ pos (half_side t))
 
 -- the level of a square with the next generation of one of this level: one more, as far as the plane goes
-abbrev pub level_behind : ℕ → ℕ
-level_behind k = min (k + 1) MAX_LEVEL
+abbrev pub level_after : ℕ → ℕ
+level_after k = min (k + 1) MAX_LEVEL
 
 -- A square of the next generation has a property: a part of the square that is one level higher; or, where that would be larger than the plane,
 -- a square of the plane's next states.

@@ -31,30 +31,30 @@ abbrev pub IsWhereBinary : Tree → Tree → Type 0
 IsWhereBinary t u = (cells : ℤ → ℤ → ℕ) (x y : ℤ) → IsBinary cells → IsPiece cells x y t → t ≡ u
 
 -- so far west or north
-abbrev pub back : ℤ → ℕ → ℤ
-back x side = x +ℤ neg_ℤ (pos side)
+abbrev pub step_back : ℤ → ℕ → ℤ
+step_back x side = x +ℤ neg_ℤ (pos side)
 
 -- so far east or south
-abbrev pub ahead : ℤ → ℕ → ℤ
-ahead x side = x +ℤ pos side
+abbrev pub step_ahead : ℤ → ℕ → ℤ
+step_ahead x side = x +ℤ pos side
 
 -- four values side by side
 abbrev pub four_of : {T : Type 0} → T → T → T → T → Four T
 four_of a b c d = record { first = a; second = b; third = c; fourth = d }
 
 -- the first three and the last three of them
-abbrev pub front : {T : Type 0} → Four T → Three T
-front four = record { before = four.first; here = four.second; after = four.third }
+abbrev pub first_three : {T : Type 0} → Four T → Three T
+first_three four = record { before = four.first; here = four.second; after = four.third }
 
-abbrev pub rear : {T : Type 0} → Four T → Three T
-rear four = record { before = four.second; here = four.third; after = four.fourth }
+abbrev pub last_three : {T : Type 0} → Four T → Three T
+last_three four = record { before = four.second; here = four.third; after = four.fourth }
 
 -- the three western and the three eastern squares of each of three rows
 abbrev pub western : Three (Four Id) → Nine
-western rows = record { before = front rows.before; here = front rows.here; after = front rows.after }
+western rows = record { before = first_three rows.before; here = first_three rows.here; after = first_three rows.after }
 
 abbrev pub eastern : Three (Four Id) → Nine
-eastern rows = record { before = rear rows.before; here = rear rows.here; after = rear rows.after }
+eastern rows = record { before = last_three rows.before; here = last_three rows.here; after = last_three rows.after }
 
 -- four quarters in one corner of sixteen squares that are another square everywhere else
 abbrev pub at_corner : Corner → Quarters → Id → Sixteen
@@ -68,7 +68,7 @@ abbrev pub in_middle : Quarters → Id → Sixteen
 in_middle q b = four_of (four_of b b b b) (four_of b q.nw q.ne b) (four_of b q.sw q.se b) (four_of b b b b)
 
 -- a known square of this level
-pub record IsAt (knows : Id → Type 0) (content : Id → Tree) (k : ℕ) (id : Id) : Type 0 where
+pub record IsOfLevel (knows : Id → Type 0) (content : Id → Tree) (k : ℕ) (id : Id) : Type 0 where
   pub known : knows id
   pub level : depth (content id) ≡ k
 
@@ -95,15 +95,15 @@ InSixteen P = InFour (InFour P)
 -- side length further
 module _ {T : Type 0} (P : ℤ → T → Type 0) (side : ℕ) (place : ℤ) where
   pub record AreThreeAt (three : Three T) : Type 0 where
-    pub before : P (back place side) three.before
+    pub before : P (step_back place side) three.before
     pub here : P place three.here
-    pub after : P (ahead place side) three.after
+    pub after : P (step_ahead place side) three.after
 
   pub record AreFourAt (four : Four T) : Type 0 where
-    pub first : P (back place side) four.first
+    pub first : P (step_back place side) four.first
     pub second : P place four.second
-    pub third : P (ahead place side) four.third
-    pub fourth : P (ahead (ahead place side) side) four.fourth
+    pub third : P (step_ahead place side) four.third
+    pub fourth : P (step_ahead (step_ahead place side) side) four.fourth
 
 -- squares of one side length as pieces of the plane, of which the middle one, or the western one of the two in the middle, begins in the column x
 -- and the row y

@@ -6,11 +6,11 @@ use Rattle.life_quad.specs.Memory.{Recalls}
 use Rattle.life_quad.specs.declared.id.Id.{Id}
 use Rattle.life_quad.specs.declared.memory.Slot.{Slot}
 use Rattle.life_sweep.specs.Generation.{next_life}
-use Rattle.life_block.specs.Pieces.{Nine, IsPiece, IsBinary, IsAt, InNine, AreNine}
+use Rattle.life_block.specs.Pieces.{Nine, IsPiece, IsBinary, IsOfLevel, InNine, AreNine}
 
 -- the nine squares, row by row
-abbrev pub ids_of : Nine → List Id
-ids_of nine =
+abbrev pub ids_of_nine : Nine → List Id
+ids_of_nine nine =
     nine.before.before ∷ nine.before.here ∷ nine.before.after
     ∷ nine.here.before ∷ nine.here.here ∷ nine.here.after
     ∷ nine.after.before ∷ nine.after.here ∷ nine.after.after ∷ []
@@ -19,10 +19,10 @@ module _ (knows : Id → Type 0) (content : Id → Tree) (rule : OuterTotalistic
   -- known squares of one level, of which the last has the next states of the one amid the nine, wherever on a plane these stand
   pub record IsAnswer (nine : Nine) (answer : Id) : Type 0 where
     pub level : ℕ
-    pub known : InNine (IsAt knows content level) nine
-    pub at : IsAt knows content level answer
+    pub known : InNine (IsOfLevel knows content level) nine
+    pub at : IsOfLevel knows content level answer
     pub next : (cells : ℤ → ℤ → ℕ) (x y : ℤ) → IsBinary cells → AreNine content cells (2 ^ level) x y nine → IsPiece (next_life rule cells) x y (content answer)
 
   -- each answer that is remembered is right
-  pub record Remembers (memory : List Slot) : Type 0 where
-    pub answers : (nine : Nine) (answer : Id) → Recalls memory (ids_of nine) answer → IsAnswer nine answer
+  pub record RemembersBlocks (memory : List Slot) : Type 0 where
+    pub answers : (nine : Nine) (answer : Id) → Recalls memory (ids_of_nine nine) answer → IsAnswer nine answer

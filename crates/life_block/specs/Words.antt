@@ -4,18 +4,18 @@ pub use Rattle.life_base.specs.Rules.{has_digit}
 pub use Rattle.life_base.specs.Tree.{depth, point, tree_cell}
 pub use Rattle.life_block.specs.Bits.{AreBands, count_at, counted_in, HasBand, neighbours_in, sides_in}
 pub use Rattle.life_block.specs.Laws.{IsNextAt, IsNextOfNine, IsPieceBy, RemembersBy}
-pub use Rattle.life_block.specs.Needed.{HasClearEdge, level_behind, next_plane, next_square, SomeOfBands, SomeOfNext, SomeOfNine, SomeOfSixteen, square_from}
-pub use Rattle.life_block.specs.Pieces.{ahead, AreFour, AreNine, AreSixteen, AreThree, at_corner, back, eastern, four_of, front, in_middle, InFour, InNine}
-pub use Rattle.life_block.specs.Pieces.{InSixteen, InThree, IsAt, IsBinary, IsPiece, IsWhereBinary, Nine as NineValue, rear, western}
-pub use Rattle.life_block.specs.Remembered.{ids_of, Remembers}
+pub use Rattle.life_block.specs.Needed.{HasClearEdge, level_after, next_plane, next_square, SomeOfBands, SomeOfNext, SomeOfNine, SomeOfSixteen, square_from}
+pub use Rattle.life_block.specs.Pieces.{step_ahead, AreFour, AreNine, AreSixteen, AreThree, at_corner, step_back, eastern, four_of, first_three, in_middle, InFour, InNine}
+pub use Rattle.life_block.specs.Pieces.{InSixteen, InThree, IsOfLevel, IsBinary, IsPiece, IsWhereBinary, Nine as NineValue, last_three, western}
+pub use Rattle.life_block.specs.Remembered.{ids_of_nine, RemembersBlocks}
 pub use Rattle.life_lanes.specs.Places.{place_in}
-pub use Rattle.life_quad.specs.Grows.{IsWantOf, Keeps}
-pub use Rattle.life_quad.specs.Keeping.{AddsOnly, IsWantFault}
+pub use Rattle.life_quad.specs.Grows.{IsShortageIn, KeepsStore}
+pub use Rattle.life_quad.specs.Keeping.{AddsOnly, IsShortageFault}
 pub use Rattle.life_quad.specs.Memory.{Recalls}
 pub use Rattle.life_quad.specs.Refused.{SomePart}
 pub use Rattle.life_quad.specs.Store.{four, two}
 pub use Rattle.life_quad.specs.declared.id.Id.{Id as IdValue}
-pub use Rattle.life_sweep.specs.Generation.{after, before, IsNextLife, LifeAnswers, next_by_count, next_life, states_at}
+pub use Rattle.life_sweep.specs.Generation.{one_after, one_before, IsNextLife, LifeAnswers, next_by_count, next_life, states_at}
 pub use Rattle.life_sweep.specs.Refused.{GenerationRefusal, SomeNext}
 pub use Rattle.life_table.specs.Meaning.{Becomes, count_of}
 pub use Rattle.std.specs.Int.{bit_at}

@@ -1,6 +1,6 @@
 //! The next states of squares.
 ghost use Rattle.std.specs.Prelude.{◌≡◌, ℕ, ℤ, ◌+◌, ◌^◌, ◌<◌, ◌≤◌, false, IfOk, IfErr, OnErr};
-ghost use Rattle.life_block.specs.Words.{has_digit, depth, tree_cell, SomePart, SomeOfNine, SomeOfSixteen, next_life, IsNextLife, HasClearEdge, next_plane, next_square, Remembers, IsPiece, IsBinary, IsAt, InNine, InSixteen, AreNine, AreSixteen, AddsOnly, Keeps, IsWantOf};
+ghost use Rattle.life_block.specs.Words.{has_digit, depth, tree_cell, SomePart, SomeOfNine, SomeOfSixteen, next_life, IsNextLife, HasClearEdge, next_plane, next_square, RemembersBlocks, IsPiece, IsBinary, IsOfLevel, InNine, InSixteen, AreNine, AreSixteen, AddsOnly, KeepsStore, IsShortageIn};
 
 use crate::grid::{Corner, Nine, Sixteen, in_middle};
 use crate::leaf::{next_of_leaf, next_of_least};
@@ -18,20 +18,21 @@ fn next_of<S: Squares>(
     level: u8,
     nine: &Nine,
 ) -> Result<Id, Kind>
-    requires remembers { Remembers (S.knows squares.old) (S.content squares.old) rule.now
+    requires remembers { RemembersBlocks (S.knows squares.old) (S.content squares.old) rule.now
         memory.old }
-    requires known { InNine (IsAt (S.knows squares.old) (S.content squares.old) level) nine.now }
+    requires known { InNine (IsOfLevel (S.knows squares.old) (S.content squares.old) level)
+        nine.now }
     requires low { 3 ≤ level }
     requires high { level ≤ MAX_LEVEL }
     requires quiet { has_digit rule.now.sets.births 0 ≡ false }
-    ensures at { IfOk result (IsAt (S.knows squares.new) (S.content squares.new) level) }
+    ensures at { IfOk result (IsOfLevel (S.knows squares.new) (S.content squares.new) level) }
     ensures remembers { IfOk result
-        (λ _. Remembers (S.knows squares.new) (S.content squares.new) rule.now memory.new) }
+        (λ _. RemembersBlocks (S.knows squares.new) (S.content squares.new) rule.now memory.new) }
     ensures next { IfOk result (λ r. (cells : ℤ → ℤ → ℕ) (x y : ℤ) → IsBinary cells
         → AreNine (S.content squares.old) cells (2 ^ level) x y nine.now
         → IsPiece (next_life rule.now cells) x y (S.content squares.new r)) }
-    ensures keeps { Keeps S.Squares squares.old squares.new }
-    ensures refusals { IfErr result (IsWantOf S.Squares squares.new) }
+    ensures keeps { KeepsStore S.Squares squares.old squares.new }
+    ensures refusals { IfErr result (IsShortageIn S.Squares squares.new) }
     ensures needed { OnErr result (SomeOfNine (S.needs_node squares.new) rule.now
         (S.content squares.old) level nine.now) }
     ensures adds { AddsOnly S.stored
@@ -60,21 +61,21 @@ fn next_of_middle<S: Squares>(
     level: u8,
     sixteen: &Sixteen,
 ) -> Result<Id, Kind>
-    requires remembers { Remembers (S.knows squares.old) (S.content squares.old) rule.now
+    requires remembers { RemembersBlocks (S.knows squares.old) (S.content squares.old) rule.now
         memory.old }
-    requires known { InSixteen (IsAt (S.knows squares.old) (S.content squares.old) level)
+    requires known { InSixteen (IsOfLevel (S.knows squares.old) (S.content squares.old) level)
         sixteen.now }
     requires low { 2 ≤ level }
     requires high { level < MAX_LEVEL }
     requires quiet { has_digit rule.now.sets.births 0 ≡ false }
-    ensures at { IfOk result (IsAt (S.knows squares.new) (S.content squares.new) (level + 1)) }
+    ensures at { IfOk result (IsOfLevel (S.knows squares.new) (S.content squares.new) (level + 1)) }
     ensures remembers { IfOk result
-        (λ _. Remembers (S.knows squares.new) (S.content squares.new) rule.now memory.new) }
+        (λ _. RemembersBlocks (S.knows squares.new) (S.content squares.new) rule.now memory.new) }
     ensures next { IfOk result (λ r. (cells : ℤ → ℤ → ℕ) (x y : ℤ) → IsBinary cells
         → AreSixteen (S.content squares.old) cells (2 ^ level) x y sixteen.now
         → IsPiece (next_life rule.now cells) x y (S.content squares.new r)) }
-    ensures keeps { Keeps S.Squares squares.old squares.new }
-    ensures refusals { IfErr result (IsWantOf S.Squares squares.new) }
+    ensures keeps { KeepsStore S.Squares squares.old squares.new }
+    ensures refusals { IfErr result (IsShortageIn S.Squares squares.new) }
     ensures needed { OnErr result (SomeOfSixteen (S.needs_node squares.new) rule.now
         (S.content squares.old) level sixteen.now) }
     ensures adds { AddsOnly S.stored
@@ -112,8 +113,8 @@ pub fn next_life_square<S: SharedSquares>(
         (λ r. depth (S.content squares.new r) ≡ depth (S.content squares.old id) + 1) }
     ensures next { IfOk result
         (λ r. IsNextLife rule.now (S.content squares.old id) (S.content squares.new r)) }
-    ensures keeps { Keeps S.Squares squares.old squares.new }
-    ensures refusals { IfErr result (IsWantOf S.Squares squares.new) }
+    ensures keeps { KeepsStore S.Squares squares.old squares.new }
+    ensures refusals { IfErr result (IsShortageIn S.Squares squares.new) }
     ensures needed { OnErr result
         (SomePart (S.needs_node squares.new) (next_square rule.now (S.content squares.old id))) }
     ensures adds { AddsOnly S.stored
@@ -163,8 +164,8 @@ pub(crate) fn next_life_plane<S: SharedSquares>(
     ensures level { IfOk result (λ r. depth (S.content squares.new r) ≡ MAX_LEVEL) }
     ensures next { IfOk result
         (λ r. IsNextLife rule.now (S.content squares.old id) (S.content squares.new r)) }
-    ensures keeps { Keeps S.Squares squares.old squares.new }
-    ensures refusals { IfErr result (IsWantOf S.Squares squares.new) }
+    ensures keeps { KeepsStore S.Squares squares.old squares.new }
+    ensures refusals { IfErr result (IsShortageIn S.Squares squares.new) }
     ensures needed { OnErr result
         (SomePart (S.needs_node squares.new) (next_plane rule.now (S.content squares.old id))) }
     ensures adds { AddsOnly S.stored

@@ -1,6 +1,6 @@
 //! The next generation of a pattern.
 ghost use Rattle.std.specs.Prelude.{◌≡◌, ◌⊎◌, ℤ, pos, neg_ℤ, ◌<ℤ◌, ◌^◌, ◌<◌, ◌≤◌, true, false, Err, Some, None, IfOk, IfErr};
-ghost use Rattle.life_block.specs.Words.{fault_of, depth, tree_cell, IsWantFault, after, IsNextLife, LifeAnswers, GenerationRefusal, HasClearEdge, SomeOfNext, level_behind, IsMemory, AddsOnly, Keeps};
+ghost use Rattle.life_block.specs.Words.{fault_of, depth, tree_cell, IsShortageFault, one_after, IsNextLife, LifeAnswers, GenerationRefusal, HasClearEdge, SomeOfNext, level_after, IsMemory, AddsOnly, KeepsStore};
 
 use crate::blocks::{next_life_plane, next_life_square};
 use life_base::{Bounds, Fault, Kind, LifeRule, MAX_LEVEL};
@@ -15,9 +15,9 @@ const HALF_PLANE: i64 = 1 << (MAX_LEVEL - 1);
 /// Whether a box on the plane doesn't reach the plane's edge.
 fn is_off_edge(bounds: &Bounds) -> bool
     ensures west { result ≡ true → neg_ℤ (pos (2 ^ 61)) <ℤ bounds.now.left }
-    ensures east { result ≡ true → after bounds.now.right <ℤ pos (2 ^ 61) }
+    ensures east { result ≡ true → one_after bounds.now.right <ℤ pos (2 ^ 61) }
     ensures north { result ≡ true → neg_ℤ (pos (2 ^ 61)) <ℤ bounds.now.top }
-    ensures south { result ≡ true → after bounds.now.bottom <ℤ pos (2 ^ 61) }
+    ensures south { result ≡ true → one_after bounds.now.bottom <ℤ pos (2 ^ 61) }
 {
     if bounds.left <= -HALF_PLANE || bounds.right >= HALF_PLANE - 1 {
         return false;
@@ -76,18 +76,19 @@ pub fn next_life_generation<S: SharedSquares>(
     ensures high { IfOk result (λ r. 3 ≤ depth (S.content squares.new r)) }
     ensures low { IfOk result (λ r. depth (S.content squares.new r) ≤ MAX_LEVEL) }
     ensures level { IfOk result
-        (λ r. depth (S.content squares.new r) ≡ level_behind (depth (S.content squares.old id))) }
+        (λ r. depth (S.content squares.new r) ≡ level_after (depth (S.content squares.old id))) }
     ensures next { IfOk result
         (λ r. IsNextLife rule.now (S.content squares.old id) (S.content squares.new r)) }
     ensures accepted { IfOk result
         (λ _. GenerationRefusal (LifeAnswers rule.now) 2 most (S.content squares.old id) None) }
-    ensures refusals { IfErr result (λ f. IsWantFault (S.stored squares.new) (S.most squares.new)
+    ensures refusals { IfErr result (λ f. IsShortageFault (S.stored squares.new)
+        (S.most squares.new)
         f ⊎ GenerationRefusal (LifeAnswers rule.now) 2 most (S.content squares.old id) (Some f)) }
     ensures needed { result ≡ Err (fault_of Kind.Full)
         → SomeOfNext (S.needs_node squares.new) rule.now (S.content squares.old id) }
     ensures adds { AddsOnly S.stored
         (λ P. SomeOfNext P rule.now (S.content squares.old id)) squares.old squares.new }
-    ensures keeps { Keeps S.Squares squares.old squares.new }
+    ensures keeps { KeepsStore S.Squares squares.old squares.new }
 {
     life_answers_at();
     if reaches_edge(alloc, squares, id)? {

@@ -1,6 +1,6 @@
 //! Squares of one level side by side.
 ghost use Rattle.std.specs.Prelude.{◌≡◌, ℕ, ℤ, ◌+◌, ◌^◌, true};
-ghost use Rattle.life_block.specs.Words.{IsAt, InThree, InNine, InFour, InSixteen, AreThree, AreNine, AreFour, AreSixteen, ahead, four_of, front, rear, western, eastern, at_corner, in_middle, ids_of};
+ghost use Rattle.life_block.specs.Words.{IsOfLevel, InThree, InNine, InFour, InSixteen, AreThree, AreNine, AreFour, AreSixteen, step_ahead, four_of, first_three, last_three, western, eastern, at_corner, in_middle, ids_of_nine};
 
 use life_quad::{Id, Quarters, Squares, divide};
 
@@ -51,18 +51,19 @@ impl Three<Id> {
     // Their northern halves, and their southern halves. Inlined, the generation of a soup takes a third less time.
     #[inline(always)]
     fn halves<S: Squares>(&self, squares: &S, level: u8) -> (Four<Id>, Four<Id>)
-        requires { InThree (IsAt (S.knows squares.now) (S.content squares.now) (level + 1))
+        requires { InThree (IsOfLevel (S.knows squares.now) (S.content squares.now) (level + 1))
             self.now }
-        ensures northern { InFour (IsAt (S.knows squares.now) (S.content squares.now) level)
+        ensures northern { InFour (IsOfLevel (S.knows squares.now) (S.content squares.now) level)
             result.0 }
-        ensures southern { InFour (IsAt (S.knows squares.now) (S.content squares.now) level)
+        ensures southern { InFour (IsOfLevel (S.knows squares.now) (S.content squares.now) level)
             result.1 }
         ensures north { (cells : ℤ → ℤ → ℕ) (x y : ℤ)
             → AreThree (S.content squares.now) cells (2 ^ (level + 1)) x y self.now
             → AreFour (S.content squares.now) cells (2 ^ level) x y result.0 }
         ensures south { (cells : ℤ → ℤ → ℕ) (x y : ℤ)
             → AreThree (S.content squares.now) cells (2 ^ (level + 1)) x y self.now
-            → AreFour (S.content squares.now) cells (2 ^ level) x (ahead y (2 ^ level)) result.1 }
+            → AreFour (S.content squares.now) cells (2 ^ level) x (step_ahead y (2 ^ level))
+            result.1 }
     {
         let west = divide(squares, self.before);
         let middle = divide(squares, self.here);
@@ -84,7 +85,7 @@ impl Nine {
 
     /// The nine squares, row by row.
     pub(crate) fn ids(&self) -> [Id; 9]
-        ensures { result ≡ ids_of self.now }
+        ensures { result ≡ ids_of_nine self.now }
     {
         let Three {
             before,
@@ -106,9 +107,9 @@ impl Nine {
 
     /// The four quarters of the square in the middle, and the twelve around them.
     pub(crate) fn quarters<S: Squares>(&self, squares: &S, level: u8) -> Sixteen
-        requires { InNine (IsAt (S.knows squares.now) (S.content squares.now) (level + 1))
+        requires { InNine (IsOfLevel (S.knows squares.now) (S.content squares.now) (level + 1))
             self.now }
-        ensures known { InSixteen (IsAt (S.knows squares.now) (S.content squares.now) level)
+        ensures known { InSixteen (IsOfLevel (S.knows squares.now) (S.content squares.now) level)
             result }
         ensures pieces { (cells : ℤ → ℤ → ℕ) (x y : ℤ)
             → AreNine (S.content squares.now) cells (2 ^ (level + 1)) x y self.now
@@ -136,14 +137,14 @@ impl<T: Copy> Four<T> {
 
     /// The first three.
     pub(crate) fn front(&self) -> Three<T>
-        ensures { result ≡ front self.now }
+        ensures { result ≡ first_three self.now }
     {
         Three::of(self.first, self.second, self.third)
     }
 
     /// The last three.
     pub(crate) fn rear(&self) -> Three<T>
-        ensures { result ≡ rear self.now }
+        ensures { result ≡ last_three self.now }
     {
         Three::of(self.second, self.third, self.fourth)
     }

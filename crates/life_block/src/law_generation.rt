@@ -1,7 +1,7 @@
 //! The next generation of a pattern by any law of a cell and its neighbours.
 ghost use Rattle.std.specs.Prelude.{◌≡◌, ◌⊎◌, ℤ, ◌≤◌, Ok, Err, Some, None, IfOk, IfErr, IfSome};
 ghost use Rattle.life_quad.specs.Grows.{Grows};
-ghost use Rattle.life_block.specs.Words.{fault_of, depth, tree_cell, IsWantFault, Becomes, states_at, IsNextAt, SomeNext, GenerationRefusal, AddsOnly, Keeps};
+ghost use Rattle.life_block.specs.Words.{fault_of, depth, tree_cell, IsShortageFault, Becomes, states_at, IsNextAt, SomeNext, GenerationRefusal, AddsOnly, KeepsStore};
 
 use crate::generation::reaches_edge;
 use crate::law_squares::next_law_plane;
@@ -91,8 +91,8 @@ pub fn next_law_generation<S: SharedSquares, L: Law>(
         (Becomes (tree_cell (S.content squares.new r) x y))) }
     ensures accepted { IfOk result (λ _. GenerationRefusal (L.answers law.old) (L.bound law.old)
         most (S.content squares.old id) None) }
-    ensures refusals { IfErr result (λ f. IsWantFault (S.stored squares.new) (S.most squares.new)
-        f ⊎ GenerationRefusal (L.answers law.old) (L.bound law.old) most
+    ensures refusals { IfErr result (λ f. IsShortageFault (S.stored squares.new)
+        (S.most squares.new) f ⊎ GenerationRefusal (L.answers law.old) (L.bound law.old) most
         (S.content squares.old id) (Some f)) }
     ensures needed { result ≡ Err (fault_of Kind.Full)
         → SomeNext (S.needs_node squares.new) (L.answers law.old)
@@ -100,7 +100,7 @@ pub fn next_law_generation<S: SharedSquares, L: Law>(
     ensures adds { AddsOnly S.stored
         (λ P. SomeNext P (L.answers law.old) (tree_cell (S.content squares.old id))) squares.old
         squares.new }
-    ensures keeps { Keeps S.Squares squares.old squares.new }
+    ensures keeps { KeepsStore S.Squares squares.old squares.new }
 {
     let count = population(alloc, squares, id)?;
     if count > u128::from(most) {

@@ -1,6 +1,6 @@
 //! The next states of squares by any law of a cell and its neighbours, in another store.
 ghost use Rattle.std.specs.Prelude.{◌≡◌, ℕ, ℤ, ◌+◌, ◌^◌, ◌<◌, ◌≤◌, IfSome, All, IsTrue};
-ghost use Rattle.life_block.specs.Words.{depth, point, tree_cell, HasClearEdge, Becomes, states_at, IsNextAt, IsNextOfNine, IsPieceBy, RemembersBy, IsAt, InNine, InSixteen, AreNine, AreSixteen, Keeps};
+ghost use Rattle.life_block.specs.Words.{depth, point, tree_cell, HasClearEdge, Becomes, states_at, IsNextAt, IsNextOfNine, IsPieceBy, RemembersBy, IsOfLevel, InNine, InSixteen, AreNine, AreSixteen, KeepsStore};
 
 use crate::grid::{Corner, Nine, Sixteen, in_middle};
 use crate::remembered::{recalled, remember};
@@ -15,7 +15,7 @@ const LEAST_LEVEL: u8 = 3;
 
 // The state of a square of level 0.
 fn state_of<S: Squares>(squares: &S, id: Id) -> State
-    requires { IsAt (S.knows squares.now) (S.content squares.now) 0 id }
+    requires { IsOfLevel (S.knows squares.now) (S.content squares.now) 0 id }
     ensures { S.content squares.now id ≡ point result }
 {
     match squares.state(id) {
@@ -26,7 +26,7 @@ fn state_of<S: Squares>(squares: &S, id: Id) -> State
 
 // The states of a cell and of its neighbours, from north clockwise.
 fn states_of<S: Squares>(squares: &S, nine: &Nine) -> [State; 9]
-    requires { InNine (IsAt (S.knows squares.now) (S.content squares.now) 0) nine.now }
+    requires { InNine (IsOfLevel (S.knows squares.now) (S.content squares.now) 0) nine.now }
     ensures { (cells : ℤ → ℤ → ℕ) (x y : ℤ) → AreNine (S.content squares.now) cells 1 x y nine.now
         → result ≡ states_at cells x y }
 {
@@ -52,7 +52,7 @@ fn are_below(around: &[State; 9], bound: u16) -> bool
 
 // The next state of a cell amid its neighbours, unless the law lacks a state or answers with two.
 fn next_state<S: Squares, L: Law>(from: &S, law: &mut L, nine: &Nine) -> Option<State>
-    requires { InNine (IsAt (S.knows from.now) (S.content from.now) 0) nine.now }
+    requires { InNine (IsOfLevel (S.knows from.now) (S.content from.now) 0) nine.now }
     ensures same { law.new ≡ law.old }
     ensures next { IfSome result (λ s. (cells : ℤ → ℤ → ℕ) (x y : ℤ)
         → AreNine (S.content from.now) cells 1 x y nine.now
@@ -77,11 +77,11 @@ fn next_of<S: Squares, T: Squares, L: Law>(
 ) -> Option<Id>
     requires remembers { RemembersBy (S.knows from.now) (S.content from.now) (T.knows to.old)
         (T.content to.old) (L.answers law.old) (L.bound law.old) memory.old }
-    requires known { InNine (IsAt (S.knows from.now) (S.content from.now) level) nine.now }
+    requires known { InNine (IsOfLevel (S.knows from.now) (S.content from.now) level) nine.now }
     requires high { level ≤ MAX_LEVEL }
     ensures same { law.new ≡ law.old }
-    ensures keeps { Keeps T.Squares to.old to.new }
-    ensures at { IfSome result (IsAt (T.knows to.new) (T.content to.new) level) }
+    ensures keeps { KeepsStore T.Squares to.old to.new }
+    ensures at { IfSome result (IsOfLevel (T.knows to.new) (T.content to.new) level) }
     ensures remembers { IfSome result (λ _. RemembersBy (S.knows from.now) (S.content from.now)
         (T.knows to.new) (T.content to.new) (L.answers law.old) (L.bound law.old) memory.new) }
     ensures next { IfSome result (λ r. IsNextOfNine (L.answers law.old) (L.bound law.old)
@@ -115,11 +115,12 @@ fn next_of_middle<S: Squares, T: Squares, L: Law>(
 ) -> Option<Id>
     requires remembers { RemembersBy (S.knows from.now) (S.content from.now) (T.knows to.old)
         (T.content to.old) (L.answers law.old) (L.bound law.old) memory.old }
-    requires known { InSixteen (IsAt (S.knows from.now) (S.content from.now) level) sixteen.now }
+    requires known { InSixteen (IsOfLevel (S.knows from.now) (S.content from.now) level)
+        sixteen.now }
     requires high { level < MAX_LEVEL }
     ensures same { law.new ≡ law.old }
-    ensures keeps { Keeps T.Squares to.old to.new }
-    ensures at { IfSome result (IsAt (T.knows to.new) (T.content to.new) (level + 1)) }
+    ensures keeps { KeepsStore T.Squares to.old to.new }
+    ensures at { IfSome result (IsOfLevel (T.knows to.new) (T.content to.new) (level + 1)) }
     ensures remembers { IfSome result (λ _. RemembersBy (S.knows from.now) (S.content from.now)
         (T.knows to.new) (T.content to.new) (L.answers law.old) (L.bound law.old) memory.new) }
     ensures next { IfSome result (λ r. (cells : ℤ → ℤ → ℕ) (x y : ℤ)

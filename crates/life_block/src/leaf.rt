@@ -1,6 +1,6 @@
 //! The next states of four squares of level 2 amid twelve others, by words of their cells.
 ghost use Rattle.std.specs.Prelude.{◌≡◌, ℕ, ℤ, pos, neg_ℤ, ◌<◌, IfOk, IfErr, OnErr};
-ghost use Rattle.life_block.specs.Words.{point, tree_cell, SomePart, two, four, next_life, HasBand, AreBands, square_from, SomeOfBands, SomeOfSixteen, IsPiece, IsBinary, IsWhereBinary, IsAt, InFour, InSixteen, AreFour, AreSixteen, back, AddsOnly, Keeps, IsWantOf};
+ghost use Rattle.life_block.specs.Words.{point, tree_cell, SomePart, two, four, next_life, HasBand, AreBands, square_from, SomeOfBands, SomeOfSixteen, IsPiece, IsBinary, IsWhereBinary, IsOfLevel, InFour, InSixteen, AreFour, AreSixteen, step_back, AddsOnly, KeepsStore, IsShortageIn};
 
 use crate::grid::{Four, Sixteen};
 use crate::words::{next_squares, rows_of_squares};
@@ -9,7 +9,7 @@ use life_quad::{Id, Quarters, Squares, divide};
 
 // The state of a cell that is 0 or 1.
 fn one_cell<S: Squares>(squares: &S, id: Id) -> u16
-    requires { IsAt (S.knows squares.now) (S.content squares.now) 0 id }
+    requires { IsOfLevel (S.knows squares.now) (S.content squares.now) 0 id }
     ensures small { result < 2 }
     ensures square { IsWhereBinary (S.content squares.now id) (point result) }
 {
@@ -21,7 +21,7 @@ fn one_cell<S: Squares>(squares: &S, id: Id) -> u16
 
 // The cells of a square of level 1, the north-western one the highest bit.
 fn two_by_two<S: Squares>(squares: &S, id: Id) -> u16
-    requires { IsAt (S.knows squares.now) (S.content squares.now) 1 id }
+    requires { IsOfLevel (S.knows squares.now) (S.content squares.now) 1 id }
     ensures small { result < 16 }
     ensures square { IsWhereBinary (S.content squares.now id) (two result) }
 {
@@ -35,7 +35,7 @@ fn two_by_two<S: Squares>(squares: &S, id: Id) -> u16
 // The cells of a square of level 2 without a short cut of the store. It is never inlined, so that the way by one stays short.
 #[inline(never)]
 fn four_by_four<S: Squares>(squares: &S, id: Id) -> u16
-    requires { IsAt (S.knows squares.now) (S.content squares.now) 2 id }
+    requires { IsOfLevel (S.knows squares.now) (S.content squares.now) 2 id }
     ensures { IsWhereBinary (S.content squares.now id) (four result) }
 {
     let Quarters { nw, ne, sw, se } = divide(squares, id);
@@ -47,7 +47,7 @@ fn four_by_four<S: Squares>(squares: &S, id: Id) -> u16
 
 // The cells of a square of level 2, as `Squares::small_cells` takes them.
 fn cells_in<S: Squares>(squares: &S, id: Id) -> u64
-    requires { IsAt (S.knows squares.now) (S.content squares.now) 2 id }
+    requires { IsOfLevel (S.knows squares.now) (S.content squares.now) 2 id }
     ensures small { result < 65536 }
     ensures square { IsWhereBinary (S.content squares.now id) (four result) }
 {
@@ -59,9 +59,10 @@ fn cells_in<S: Squares>(squares: &S, id: Id) -> u64
 
 // The four rows of sixteen cells of four squares of level 2.
 fn band<S: Squares>(squares: &S, four: &Four<Id>) -> u64
-    requires { InFour (IsAt (S.knows squares.now) (S.content squares.now) 2) four.now }
+    requires { InFour (IsOfLevel (S.knows squares.now) (S.content squares.now) 2) four.now }
     ensures { (cells : ℤ → ℤ → ℕ) (x y : ℤ) → IsBinary cells
-        → AreFour (S.content squares.now) cells 4 x y four.now → HasBand cells (back x 4) y result }
+        → AreFour (S.content squares.now) cells 4 x y four.now
+        → HasBand cells (step_back x 4) y result }
 {
     let a = cells_in(squares, four.first);
     let b = cells_in(squares, four.second);
@@ -76,11 +77,11 @@ fn next_of_bands<S: Squares>(
     rule: &LifeRule,
     bands: &Four<u64>,
 ) -> Result<Id, Kind>
-    ensures at { IfOk result (IsAt (S.knows squares.new) (S.content squares.new) 3) }
+    ensures at { IfOk result (IsOfLevel (S.knows squares.new) (S.content squares.new) 3) }
     ensures next { IfOk result (λ r. (cells : ℤ → ℤ → ℕ) (x y : ℤ) → AreBands cells x y bands.now
         → IsPiece (next_life rule.now cells) x y (S.content squares.new r)) }
-    ensures keeps { Keeps S.Squares squares.old squares.new }
-    ensures refusals { IfErr result (IsWantOf S.Squares squares.new) }
+    ensures keeps { KeepsStore S.Squares squares.old squares.new }
+    ensures refusals { IfErr result (IsShortageIn S.Squares squares.new) }
     ensures needed { OnErr result (SomeOfBands (S.needs_node squares.new) rule.now bands.now) }
     ensures adds { AddsOnly S.stored (λ P. SomeOfBands P rule.now bands.now) squares.old
         squares.new }
@@ -100,13 +101,13 @@ pub(crate) fn next_of_leaf<S: Squares>(
     rule: &LifeRule,
     sixteen: &Sixteen,
 ) -> Result<Id, Kind>
-    requires { InSixteen (IsAt (S.knows squares.old) (S.content squares.old) 2) sixteen.now }
-    ensures at { IfOk result (IsAt (S.knows squares.new) (S.content squares.new) 3) }
+    requires { InSixteen (IsOfLevel (S.knows squares.old) (S.content squares.old) 2) sixteen.now }
+    ensures at { IfOk result (IsOfLevel (S.knows squares.new) (S.content squares.new) 3) }
     ensures next { IfOk result (λ r. (cells : ℤ → ℤ → ℕ) (x y : ℤ) → IsBinary cells
         → AreSixteen (S.content squares.old) cells 4 x y sixteen.now
         → IsPiece (next_life rule.now cells) x y (S.content squares.new r)) }
-    ensures keeps { Keeps S.Squares squares.old squares.new }
-    ensures refusals { IfErr result (IsWantOf S.Squares squares.new) }
+    ensures keeps { KeepsStore S.Squares squares.old squares.new }
+    ensures refusals { IfErr result (IsShortageIn S.Squares squares.new) }
     ensures needed { OnErr result (SomeOfSixteen (S.needs_node squares.new) rule.now
         (S.content squares.old) 2 sixteen.now) }
     ensures adds { AddsOnly S.stored
@@ -128,14 +129,14 @@ pub(crate) fn next_of_least<S: Squares>(
     rule: &LifeRule,
     id: Id,
 ) -> Result<Id, Kind>
-    requires at { IsAt (S.knows squares.old) (S.content squares.old) 2 id }
+    requires at { IsOfLevel (S.knows squares.old) (S.content squares.old) 2 id }
     requires states { (x y : ℤ) → tree_cell (S.content squares.old id) x y < 2 }
-    ensures at { IfOk result (IsAt (S.knows squares.new) (S.content squares.new) 3) }
+    ensures at { IfOk result (IsOfLevel (S.knows squares.new) (S.content squares.new) 3) }
     ensures next { IfOk result (λ r. let corner = neg_ℤ (pos 4) in IsPiece
         (next_life rule.now (tree_cell (S.content squares.old id))) corner corner
         (S.content squares.new r)) }
-    ensures keeps { Keeps S.Squares squares.old squares.new }
-    ensures refusals { IfErr result (IsWantOf S.Squares squares.new) }
+    ensures keeps { KeepsStore S.Squares squares.old squares.new }
+    ensures refusals { IfErr result (IsShortageIn S.Squares squares.new) }
     ensures needed { OnErr result (let corner = neg_ℤ (pos 4) in SomePart
         (S.needs_node squares.new)
         (square_from (next_life rule.now (tree_cell (S.content squares.old id))) 3 corner corner)) }

@@ -1,7 +1,7 @@
 //! Words of four rows of sixteen cells, and their next states. The highest bit is the north-western cell, then come the cells east of it, and
 //! then the rows south of it.
 ghost use Rattle.std.specs.Prelude.{◌≡◌, ℕ, ℤ, ◌+◌, ◌-◌, ◌*◌, ◌<◌};
-ghost use Rattle.life_block.specs.Words.{bit_at, four, before, after, next_life, place_in, HasBand, square_from, back, ahead};
+ghost use Rattle.life_block.specs.Words.{bit_at, four, one_before, one_after, next_life, place_in, HasBand, square_from, step_back, step_ahead};
 
 use crate::counts::next_word;
 use life_base::LifeRule;
@@ -31,8 +31,8 @@ fn squares_of_rows(rows: u64) -> u64
 
 // The four rows that begin one row north of a word's, by the word of the four rows above.
 fn one_north(above: u64, here: u64) -> u64
-    ensures { (cells : ℤ → ℤ → ℕ) (x y : ℤ) → HasBand cells x (back y 4) above
-        → HasBand cells x y here → HasBand cells x (before y) result }
+    ensures { (cells : ℤ → ℤ → ℕ) (x y : ℤ) → HasBand cells x (step_back y 4) above
+        → HasBand cells x y here → HasBand cells x (one_before y) result }
 {
     above % 0x1_0000 * 0x1_0000_0000_0000 + here / 0x1_0000
 }
@@ -40,19 +40,23 @@ fn one_north(above: u64, here: u64) -> u64
 // Those that begin one row south, by the word of the four rows below.
 fn one_south(here: u64, below: u64) -> u64
     ensures { (cells : ℤ → ℤ → ℕ) (x y : ℤ) → HasBand cells x y here
-        → HasBand cells x (ahead y 4) below → HasBand cells x (after y) result }
+        → HasBand cells x (step_ahead y 4) below → HasBand cells x (one_after y) result }
 {
     here % 0x1_0000_0000_0000 * 0x1_0000 + below / 0x1_0000_0000_0000
 }
 
 /// The cells of the two squares of level 2 in the middle of four rows of next states, from the rows and the four above and below.
 pub(crate) fn next_squares(above: u64, here: u64, below: u64, rule: &LifeRule) -> (u16, u16)
-    ensures west { (cells : ℤ → ℤ → ℕ) (x y : ℤ) → HasBand cells (back x 4) (back y 4) above
-        → HasBand cells (back x 4) y here → HasBand cells (back x 4) (ahead y 4) below
+    ensures west { (cells : ℤ → ℤ → ℕ) (x y : ℤ)
+        → HasBand cells (step_back x 4) (step_back y 4) above
+        → HasBand cells (step_back x 4) y here → HasBand cells (step_back x 4) (step_ahead y 4)
+        below
         → four result.0 ≡ square_from (next_life rule.now cells) 2 x y }
-    ensures east { (cells : ℤ → ℤ → ℕ) (x y : ℤ) → HasBand cells (back x 4) (back y 4) above
-        → HasBand cells (back x 4) y here → HasBand cells (back x 4) (ahead y 4) below
-        → four result.1 ≡ square_from (next_life rule.now cells) 2 (ahead x 4) y }
+    ensures east { (cells : ℤ → ℤ → ℕ) (x y : ℤ)
+        → HasBand cells (step_back x 4) (step_back y 4) above
+        → HasBand cells (step_back x 4) y here → HasBand cells (step_back x 4) (step_ahead y 4)
+        below
+        → four result.1 ≡ square_from (next_life rule.now cells) 2 (step_ahead x 4) y }
 {
     let words = Column {
         north: one_north(above, here),

@@ -3,7 +3,7 @@ use Rattle.std.proofs.Common.{◌≡◌, ◌≢◌, ℕ, ◌+◌, ◌<◌, ◌�
 use Rattle.life_base.specs.Lines.{whole_lines}
 use Rattle.life_base.specs.Tree.{Tree, is_blank_tree}
 use Rattle.life_base.specs.declared.cell.TheConstants.{MAX_LEVEL}
-use Rattle.life_quad.specs.Store.{Nodes, held}
+use Rattle.life_quad.specs.Store.{Nodes, stored_squares}
 use Rattle.life_canon.specs.Needs.{LacksFor, LacksForFront}
 use Rattle.life_canon.specs.Room.{room_for, HoldsOnly, HoldsFront, AddsLines, AddsFile, FrontsHold}
 use Rattle.life_canon.proofs.NeedFacts.{front-more, whole-needs}
@@ -26,8 +26,9 @@ file-holds bytes base old new h adds = λ t there. elim (adds.each t there) [ in
 -- ---- the limit of a full store
 
 -- which lacks a square of the file, and holds only squares of a list and of the file, each once and none blank
-module _ (base : List Tree) (old new : Nodes) (distinct : AllPairs ◌≢◌ (held new)) (live : (t : Tree) → Contains (held new) t → is_blank_tree t ≡ false)
-    (full : length (held new) ≡ new.limit) (same : new.limit ≡ old.limit) where
+module _ (base : List Tree) (old new : Nodes) (distinct : AllPairs ◌≢◌ (stored_squares new))
+    (live : (t : Tree) → Contains (stored_squares new) t → is_blank_tree t ≡ false)
+    (full : length (stored_squares new) ≡ new.limit) (same : new.limit ≡ old.limit) where
   tight : (bytes : List ℕ) → HoldsOnly base bytes new → LacksFor MAX_LEVEL bytes new → old.limit < length base + room_for (length bytes)
   tight bytes only lacks = let less = room_suffices bytes base new distinct live only lacks in omega (arith, less, full, same)
 
@@ -46,7 +47,7 @@ module _ (base : List Tree) (old new : Nodes) (distinct : AllPairs ◌≢◌ (he
 -- ---- one file behind another
 
 -- a file stores no more squares than there is room for
-pub file-few : (bytes : List ℕ) (old new : Nodes) → AllPairs ◌≢◌ (held new) → ((t : Tree) → Contains (held new) t → is_blank_tree t ≡ false)
+pub file-few : (bytes : List ℕ) (old new : Nodes) → AllPairs ◌≢◌ (stored_squares new) → ((t : Tree) → Contains (stored_squares new) t → is_blank_tree t ≡ false)
     → AddsFile bytes old new
-    → length (held new) ≤ length (held old) + room_for (length bytes)
-file-few bytes old new distinct live adds = few-more bytes (held old) new distinct live adds.each
+    → length (stored_squares new) ≤ length (stored_squares old) + room_for (length bytes)
+file-few bytes old new distinct live adds = few-more bytes (stored_squares old) new distinct live adds.each

@@ -5,9 +5,9 @@ use Rattle.life_base.specs.declared.cell.TheConstants.{MAX_LEVEL}
 use Rattle.life_base.specs.declared.cell.Run.{Run}
 use Rattle.life_base.specs.declared.rule.Rule.{Rule}
 use Rattle.life_rle.specs.File.{HasRuns}
-use Rattle.life_rle.specs.RunsLaw.{IsGoodRun, AreGoodRuns, StandsBefore, StandsBeforeAll, AreInOrder}
+use Rattle.life_rle.specs.RunsLaw.{IsGoodRun, AreGoodRuns, StandsBefore, StandsBeforeAll, AreRunsInOrder}
 use Rattle.life_rle.proofs.RunsLaws.{runs_are_cells}
-use Rattle.life_strip.specs.Given.{IsBehind, IsOnPlane}
+use Rattle.life_strip.specs.Given.{IsAfterRun, IsRunOnPlane}
 use Rattle.life_canon.specs.Building.{AreNext}
 
 -- ---- the runs of a file are good and in order
@@ -20,19 +20,19 @@ before-all : (first : Run) (before : List Run) (run : Run) (runs : List Run) →
 before-all first [] run runs h = h.0
 before-all first (one ∷ before) run runs h = before-all first before run runs h.1
 
-behind-at : (before : List Run) (run : Run) (runs : List Run) → AreInOrder (before ++ run ∷ runs) → (index : ℕ) (last : Run)
-    → slice_get before index ≡ Some last → IsBehind last run.x run.y
+behind-at : (before : List Run) (run : Run) (runs : List Run) → AreRunsInOrder (before ++ run ∷ runs) → (index : ℕ) (last : Run)
+    → slice_get before index ≡ Some last → IsAfterRun last run.x run.y
 behind-at [] run runs o index last e = cc
 behind-at (first ∷ before) run runs o zero last e =
     let same : first ≡ last = cc in
-    subst (λ (r : Run). IsBehind r run.x run.y) same (before-all first before run runs o.0)
+    subst (λ (r : Run). IsAfterRun r run.x run.y) same (before-all first before run runs o.0)
 behind-at (first ∷ before) run runs o (suc index) last e = behind-at before run runs o.1 index last e
 
-on-plane : (rule : Rule) (run : Run) → IsGoodRun MAX_LEVEL rule run → IsOnPlane run.x run.y run.len
+on-plane : (rule : Rule) (run : Run) → IsGoodRun MAX_LEVEL rule run → IsRunOnPlane run.x run.y run.len
 on-plane rule run g = record { west = g.left; east = g.right; north = g.top; south = g.bottom }
 
 -- so further ones may be given
-next-runs : (rule : Rule) (before runs : List Run) → AreGoodRuns MAX_LEVEL rule (before ++ runs) → AreInOrder (before ++ runs) → AreNext before runs
+next-runs : (rule : Rule) (before runs : List Run) → AreGoodRuns MAX_LEVEL rule (before ++ runs) → AreRunsInOrder (before ++ runs) → AreNext before runs
 next-runs rule before [] g o = tt
 next-runs rule before (run ∷ runs) g o =
     let one = good-at rule before run runs g in
@@ -40,7 +40,7 @@ next-runs rule before (run ∷ runs) g o =
       one.some,
       on-plane rule run one,
       (λ last e. behind-at before run runs o (length before - 1) last e),
-      next-runs rule (before ++ run ∷ []) runs (subst (AreGoodRuns MAX_LEVEL rule) split g) (subst AreInOrder split o),
+      next-runs rule (before ++ run ∷ []) runs (subst (AreGoodRuns MAX_LEVEL rule) split g) (subst AreRunsInOrder split o),
     )
 
 nothing : (xs ys : List Run) → xs ++ ys ≡ [] → ys ≡ []
@@ -52,7 +52,7 @@ pub lines-next : (lines : List (List ℕ)) (before runs : List Run) → HasRuns 
 lines-next lines before runs (inl h) = subst (AreNext before) (sym (nothing before runs h.2)) tt
 lines-next lines before runs (inr h) =
     let r = runs_are_cells MAX_LEVEL lines h.0 h.1 in
-    next-runs h.0.rule before runs (subst (AreGoodRuns MAX_LEVEL h.0.rule) (sym h.2) r.0) (subst AreInOrder (sym h.2) r.1)
+    next-runs h.0.rule before runs (subst (AreGoodRuns MAX_LEVEL h.0.rule) (sym h.2) r.0) (subst AreRunsInOrder (sym h.2) r.1)
 
 -- ---- one run after another
 

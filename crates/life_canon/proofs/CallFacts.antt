@@ -21,8 +21,8 @@ use Rattle.life_canon.specs.Feeding.{RefusesFront}
 use Rattle.life_canon.specs.Laws.{RleTextsAreFiles, RleTextsKeepPatterns}
 use Rattle.life_canon.specs.Least.{IsLeastText}
 use Rattle.life_canon.specs.Listing.{canonical_file, canon_text}
-use Rattle.life_canon.specs.Store.{content, Keeps, IsRead, IsWant, RefusesIn, universe_in}
-use Rattle.life_canon.specs.Texts.{IsCanonical, AreCellsOf, HasMoreCells, IsRleOf}
+use Rattle.life_canon.specs.Store.{content, Keeps, IsRead, IsShortageOf, RefusesIn, universe_in}
+use Rattle.life_canon.specs.Texts.{IsCanonical, AreCellsOf, FileHasMoreCells, IsRleOf}
 use Rattle.life_canon.specs.declared.pattern.Pattern.{Pattern}
 use Rattle.life_canon.proofs.Canonical.{same-whole, same-canonical}
 use Rattle.life_canon.proofs.CellFacts.{cells-of, sorted-cells, listed-cells}
@@ -41,7 +41,8 @@ read-stays top bytes old new pattern k r =
     record { universe = r.universe; reads = r.reads; is = record { rule = r.is.rule; generation = r.is.generation; known = p.0; root = p.1 ∙ r.is.root } }
 
 -- what refuses a first piece refuses its bytes
-pub feed-fault : (store : Nodes) (before piece : List ℕ) (fault : Fault) → before ≡ [] → IsWant store fault ⊎ RefusesFront MAX_LEVEL (before ++ piece) fault
+pub feed-fault : (store : Nodes) (before piece : List ℕ) (fault : Fault) → before ≡ [] → IsShortageOf store fault
+    ⊎ RefusesFront MAX_LEVEL (before ++ piece) fault
     → RefusesIn MAX_LEVEL piece store fault
 feed-fault store before piece fault e (inl want) = inr want
 feed-fault store before piece fault e (inr front) = inl (subst (λ bytes. Refuses MAX_LEVEL (bytes ++ piece) fault) e front.refuses)
@@ -141,7 +142,7 @@ root-cells bytes store pattern r =
     (list.0, list.1, list_is_population t list.0 full high list.1)
 
 pub more-cells : (bytes : List ℕ) (store : Nodes) (pattern : Pattern) → IsRead MAX_LEVEL bytes store pattern → (most : ℕ)
-    → most < population (content store pattern.root) → HasMoreCells MAX_LEVEL bytes most
+    → most < population (content store pattern.root) → FileHasMoreCells MAX_LEVEL bytes most
 more-cells bytes store pattern r most more =
     let list = root-cells bytes store pattern r in
     (list.0, record { universe = r.universe; reads = r.reads; are = cells-read bytes store pattern r list.0 list.1 }, subst (λ n. most < n) (sym list.2) more)
@@ -149,8 +150,8 @@ more-cells bytes store pattern r most more =
 -- what refuses the text of a pattern in RLE refuses its file
 pub rle-fault : {X : Type 0} (bytes : List ℕ) (store : Nodes) (pattern : Pattern) → IsRead MAX_LEVEL bytes store pattern → (r : Result X Fault)
     → IfErr r (λ fault. (fault ≡ fault_of Memory)
-    ⊎ ((fault ≡ fault_of TooManyCells) × ((b : List ℕ) → IsRead MAX_LEVEL b store pattern → HasMoreCells MAX_LEVEL b (2 ^ 20))))
-    → IfErr r (λ fault. RefusesIn MAX_LEVEL bytes store fault ⊎ ((fault ≡ fault_of TooManyCells) × HasMoreCells MAX_LEVEL bytes (2 ^ 20)))
+    ⊎ ((fault ≡ fault_of TooManyCells) × ((b : List ℕ) → IsRead MAX_LEVEL b store pattern → FileHasMoreCells MAX_LEVEL b (2 ^ 20))))
+    → IfErr r (λ fault. RefusesIn MAX_LEVEL bytes store fault ⊎ ((fault ≡ fault_of TooManyCells) × FileHasMoreCells MAX_LEVEL bytes (2 ^ 20)))
 rle-fault bytes store pattern read (Ok x) h = tt
 rle-fault bytes store pattern read (Err fault) (inl memory) = inl (inr (inl memory))
 rle-fault bytes store pattern read (Err fault) (inr many) = inr (many.0, many.1 bytes read)

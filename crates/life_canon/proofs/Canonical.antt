@@ -7,15 +7,15 @@ use Rattle.life_base.specs.Rules.{IsRule}
 use Rattle.life_base.specs.Tree.{Tree, point, quad, depth, blank, tree_cell, is_blank_tree as is_blank}
 use Rattle.life_base.specs.declared.rule.Rule.{Rule}
 use Rattle.life_base.specs.declared.rule.Rule.TheVariants.{Life, Named}
-use Rattle.life_mc.specs.Macrocell.{Macrocell, IsValid, level_of, largest_state}
-use Rattle.life_mc.specs.Cells.{cell as macrocell_cell, cell_of, root_level}
+use Rattle.life_mc.specs.Macrocell.{Macrocell, IsValidMacrocell, level_of, largest_state}
+use Rattle.life_mc.specs.Cells.{macrocell_cell, cell_of, root_level}
 use Rattle.life_mc.specs.Squares.{tree_of, root_tree}
 use Rattle.life_mc.specs.declared.line.Line.{Line}
 use Rattle.life_mc.specs.declared.line.Line.TheVariants.{Leaf, Quad}
 use Rattle.life_mc.proofs.Squares.{lines_stand_for_squares}
-use Rattle.life_quad.specs.Moves.{trimmed}
-use Rattle.life_canon.specs.Universe.{Universe, IsSame, macrocell_universe, least_level, square, corner, centred, whole, IsWithin, IsBlankOutside, IsOnPlane}
-use Rattle.life_canon.specs.Listing.{is_small, walk, is_in, with_all, listed, place, number_of, line_of, lines_for, square_file, canonical_file}
+use Rattle.life_quad.specs.Moves.{trimmed_square}
+use Rattle.life_canon.specs.Universe.{Universe, IsSame, macrocell_universe, least_level, square, corner, centred_square, whole, IsWithin, IsBlankOutside, IsOnPlane}
+use Rattle.life_canon.specs.Listing.{is_small, walk, is_in, with_all, listed_squares, place, number_of_quarter, line_of, lines_for, square_file, canonical_file}
 use Rattle.life_canon.proofs.TreeWords.{HasDepth, point_depth, quad_depth, StatesBelow, is_within, trimmed_to}
 use Rattle.life_canon.proofs.LineWords.{state_bound, line_at, IsValidLine}
 use Rattle.life_canon.proofs.LineFacts.{squares-valid, valid-squares, root_level-last}
@@ -40,8 +40,8 @@ pub record IsLast (all : List Tree) (t : Tree) : Type 0 where
   pub is : all ≡ front ++ t ∷ []
   pub fresh : is_in front t ≡ false
 
-pub listed-last : (m : ℕ) {k : ℕ} {t : Tree} → 1 ≤ m → HasDepth k t → is_small m t ≡ false → IsLast (listed t m) t
-unfolding listed
+pub listed-last : (m : ℕ) {k : ℕ} {t : Tree} → 1 ≤ m → HasDepth k t → is_small m t ≡ false → IsLast (listed_squares t m) t
+unfolding listed_squares
 listed-last m le (point_depth {state = s}) h = absurd (point-big m s le h)
 listed-last m le (quad_depth {k = k} {nw = a} {ne = b} {sw = c} {se = d} p q r s) h =
     let la : List Tree = with_all [] (walk a m) in
@@ -76,7 +76,7 @@ pub record IsRooted (file : Macrocell) : Type 0 where
   pub is : root_level file.lines ≡ suc level
   pub depth_of : HasDepth (suc level) (root_tree file.lines)
   pub states : StatesBelow (state_bound file.rule) (root_tree file.lines)
-  pub cells : centred (macrocell_cell file) (suc level) ≡ root_tree file.lines
+  pub cells : centred_square (macrocell_cell file) (suc level) ≡ root_tree file.lines
   pub outside : IsBlankOutside (suc level) (macrocell_cell file)
 
 pub level-positive : (top : ℕ) (rule : Rule) (lines : List Line) (i : ℕ) (line : Line) → IsValidLine top rule lines i line → (1 ≤ level_of line)
@@ -87,18 +87,18 @@ pub level-most : (top : ℕ) (rule : Rule) (lines : List Line) (i : ℕ) (line :
 level-most top rule lines i (Leaf rows) h v = h
 level-most top rule lines i (Quad level a b c d) h v = v.1
 
-last-valid : (top : ℕ) (file : Macrocell) → IsValid top file → 0 < length file.lines → IsValidLine top file.rule file.lines (length file.lines - 1)
+last-valid : (top : ℕ) (file : Macrocell) → IsValidMacrocell top file → 0 < length file.lines → IsValidLine top file.rule file.lines (length file.lines - 1)
     (line_at file.lines (length file.lines - 1))
 last-valid top file v h = squares-valid top file.rule file.lines v.squares (length file.lines - 1) (omega arith)
 
-pub root-positive : (top : ℕ) (file : Macrocell) → IsValid top file → 0 < length file.lines → 1 ≤ root_level file.lines
+pub root-positive : (top : ℕ) (file : Macrocell) → IsValidMacrocell top file → 0 < length file.lines → 1 ≤ root_level file.lines
 root-positive top file v h = subst (λ n. 1 ≤ n) (sym (root_level-last file.lines h)) (level-positive top file.rule file.lines _ _ (last-valid top file v h))
 
-pub root-most : (top : ℕ) (file : Macrocell) → 3 ≤ top → IsValid top file → 0 < length file.lines → root_level file.lines ≤ top
+pub root-most : (top : ℕ) (file : Macrocell) → 3 ≤ top → IsValidMacrocell top file → 0 < length file.lines → root_level file.lines ≤ top
 root-most top file high v h = subst (λ n. n ≤ top) (sym (root_level-last file.lines h)) (level-most top file.rule file.lines _ _ high (last-valid top file v h))
 
-pub rooted : (top : ℕ) (file : Macrocell) → IsValid top file → 0 < length file.lines → IsRooted file
-unfolding centred
+pub rooted : (top : ℕ) (file : Macrocell) → IsValidMacrocell top file → 0 < length file.lines → IsRooted file
+unfolding centred_square
 rooted top file v h =
     let s = lines_stand_for_squares top file v in
     let e : root_level file.lines ≡ suc (root_level file.lines - 1) = omega (arith, root-positive top file v h) in
@@ -133,8 +133,8 @@ square-states f bound h (suc k) x y = (
   square-states f bound h k _ _,
 )
 
-pub centred-states : (f : ℤ → ℤ → ℕ) (bound : ℕ) → ((x y : ℤ) → f x y < bound) → (k : ℕ) → StatesBelow bound (centred f k)
-unfolding centred
+pub centred-states : (f : ℤ → ℤ → ℕ) (bound : ℕ) → ((x y : ℤ) → f x y < bound) → (k : ℕ) → StatesBelow bound (centred_square f k)
+unfolding centred_square
 centred-states f bound h k = square-states f bound h k (corner k) (corner k)
 
 -- what is known of the whole of a pattern
@@ -142,19 +142,19 @@ pub record IsWhole (top : ℕ) (u : Universe) (t : Tree) : Type 0 where
   pub level : ℕ
   pub least : least_level u.rule ≤ suc level
   pub most : suc level ≤ top
-  pub is : t ≡ centred u.cell (suc level)
+  pub is : t ≡ centred_square u.cell (suc level)
   pub depth_of : HasDepth (suc level) t
   pub states : StatesBelow (state_bound u.rule) t
   pub outside : IsBlankOutside (suc level) u.cell
 
-pub whole-trimmed : (top : ℕ) (u : Universe) → whole top u ≡ trimmed_to (centred u.cell top) (least_level u.rule)
+pub whole-trimmed : (top : ℕ) (u : Universe) → whole top u ≡ trimmed_to (centred_square u.cell top) (least_level u.rule)
 unfolding whole
 whole-trimmed top u = trimmed-is (least_level u.rule) (centred-depth u.cell top) (least-one u.rule)
 
 pub whole-is : (top : ℕ) (u : Universe) → least_level u.rule ≤ suc top → IsOnPlane (suc top) u → IsWhole (suc top) u (whole (suc top) u)
 whole-is top u le h =
     let t = trimmed-centred u.cell (least_level u.rule) top (least-one u.rule) le h.outside in
-    let e : whole (suc top) u ≡ centred u.cell (suc t.level) = whole-trimmed (suc top) u ∙ t.is in
+    let e : whole (suc top) u ≡ centred_square u.cell (suc t.level) = whole-trimmed (suc top) u ∙ t.is in
     record {
       level = t.level;
       least = t.least;
@@ -168,18 +168,18 @@ whole-is top u le h =
 
 pub square_file-valid : (top : ℕ) (rule : Rule) (generation : ℕ) {k : ℕ} (t : Tree) → IsRule rule → generation < 2 ^ 64 → k ≤ top → HasDepth k t
     → StatesBelow (state_bound rule) t
-    → IsValid top (square_file rule generation t)
+    → IsValidMacrocell top (square_file rule generation t)
 square_file-valid top rule generation t r g le h s =
     record { rule = r; generation = g; squares = valid-squares top rule _ (lines_for-valid top rule t le h s) }
 
-pub canonical-valid : (top : ℕ) (u : Universe) → least_level u.rule ≤ suc top → IsOnPlane (suc top) u → IsValid (suc top) (canonical_file (suc top) u)
+pub canonical-valid : (top : ℕ) (u : Universe) → least_level u.rule ≤ suc top → IsOnPlane (suc top) u → IsValidMacrocell (suc top) (canonical_file (suc top) u)
 unfolding canonical_file
 canonical-valid top u le h =
     let w = whole-is top u le h in
     square_file-valid (suc top) u.rule u.generation (whole (suc top) u) h.rule h.generation w.most w.depth_of w.states
 
 -- two planes with one square in the middle, and blank outside
-pub same-cells : (f g : ℤ → ℤ → ℕ) (k : ℕ) → centred f k ≡ centred g k → IsBlankOutside k f → IsBlankOutside k g → (x y : ℤ) → f x y ≡ g x y
+pub same-cells : (f g : ℤ → ℤ → ℕ) (k : ℕ) → centred_square f k ≡ centred_square g k → IsBlankOutside k f → IsBlankOutside k g → (x y : ℤ) → f x y ≡ g x y
 same-cells f g k e p q x y = elim (bool_cases (is_within k x && is_within k y)) [
   | inl i ↦ centred_same-cells f g k e x y (is_within-true k x (left_of_and (is_within k x) (is_within k y) i))
       (is_within-true k y (right_of_and (is_within k x) (is_within k y) i))
@@ -191,8 +191,8 @@ same-cells f g k e p q x y = elim (bool_cases (is_within k x && is_within k y)) 
 pub nowhere : ℤ → ℤ → ℕ
 nowhere x y = 0
 
-pub centred-nowhere : (k : ℕ) → centred nowhere k ≡ blank k
-unfolding centred nowhere
+pub centred-nowhere : (k : ℕ) → centred_square nowhere k ≡ blank k
+unfolding centred_square nowhere
 centred-nowhere k = square-blank nowhere k (corner k) (corner k) (λ i j p q. refl)
 
 nowhere-outside : (k : ℕ) → IsBlankOutside k nowhere
@@ -203,12 +203,12 @@ pub nowhere-zero : (x y : ℤ) → nowhere x y ≡ 0
 unfolding nowhere
 nowhere-zero x y = refl
 
-pub listed-blank : (t : Tree) (m : ℕ) → is_blank t ≡ true → listed t m ≡ []
-unfolding listed
+pub listed-blank : (t : Tree) (m : ℕ) → is_blank t ≡ true → listed_squares t m ≡ []
+unfolding listed_squares
 listed-blank t m h = ap (with_all []) (walk-small t m (or_left _ _ h))
 
 -- the last line of a list of squares, and what its number stands for
-number-last : (all : List Tree) {k : ℕ} {t : Tree} → HasDepth (suc k) t → is_blank t ≡ false → IsLast all t → number_of all t ≡ length all
+number-last : (all : List Tree) {k : ℕ} {t : Tree} → HasDepth (suc k) t → is_blank t ≡ false → IsLast all t → number_of_quarter all t ≡ length all
 number-last all (quad_depth {nw = a} {ne = b} {sw = c} {se = d} p q r s) h l =
     number-place all a b c d h ∙ ap suc (ap (λ v. place v (quad a b c d)) l.is ∙ place-last l.front (quad a b c d) l.fresh)
     ∙ sym (ap length l.is ∙ length-append l.front (quad a b c d ∷ []) ∙ add-one (length l.front))
@@ -227,19 +227,19 @@ root_level-of rule all t l =
 
 -- the root of the lines of a nonblank square is that square
 pub record IsRootOf (rule : Rule) (generation : ℕ) (k : ℕ) (t : Tree) : Type 0 where
-  pub some : 0 < length (lines_for rule (listed t (least_level rule)))
-  pub level : root_level (lines_for rule (listed t (least_level rule))) ≡ suc k
-  pub root : root_tree (lines_for rule (listed t (least_level rule))) ≡ t
+  pub some : 0 < length (lines_for rule (listed_squares t (least_level rule)))
+  pub level : root_level (lines_for rule (listed_squares t (least_level rule))) ≡ suc k
+  pub root : root_tree (lines_for rule (listed_squares t (least_level rule))) ≡ t
 
 pub square_file-root : (rule : Rule) (generation : ℕ) {k : ℕ} {t : Tree} → least_level rule ≤ suc k → HasDepth (suc k) t → StatesBelow (state_bound rule) t
     → is_blank t ≡ false
     → IsRootOf rule generation k t
 square_file-root rule generation {k = k} {t = t} le h g b =
-    let all : List Tree = listed t (least_level rule) in
+    let all : List Tree = listed_squares t (least_level rule) in
     let lines : List Line = lines_for rule all in
     let small : is_small (least_level rule) t ≡ false = not_small (least_level rule) t (suc k) (depth_is h) le b in
     let last : IsLast all t = listed-last (least_level rule) (least-one rule) h small in
-    let n : number_of all t ≡ length lines = number-last all h b last ∙ sym (length-lines_for rule all) in
+    let n : number_of_quarter all t ≡ length lines = number-last all h b last ∙ sym (length-lines_for rule all) in
     let r : root_level lines ≡ suc k = root_level-of rule all t last ∙ depth_is h in
     let e : tree_of lines (suc k) (length lines) ≡ t = ap (tree_of lines (suc k)) (sym n)
     ∙ tree_of-number rule all (λ s i. listed-quarters t (least_level rule) s (least-one rule) i) h g (λ z. le)
@@ -260,15 +260,17 @@ canonical-cells top u le h x y =
     let file : Macrocell = square_file u.rule u.generation t in
     elim (bool_cases (is_blank t)) [
       | inl b ↦
-          let e : centred u.cell (suc w.level) ≡ centred nowhere (suc w.level) = sym w.is ∙ is_blank-blank w.depth_of b ∙ sym (centred-nowhere (suc w.level)) in
-          let n : length file.lines ≡ 0 = length-lines_for u.rule (listed t (least_level u.rule)) ∙ ap length (listed-blank t (least_level u.rule) b) in
+          let e : centred_square u.cell (suc w.level) ≡ centred_square nowhere (suc w.level) = sym w.is ∙ is_blank-blank w.depth_of b
+          ∙ sym (centred-nowhere (suc w.level)) in
+          let n : length file.lines ≡ 0 = length-lines_for u.rule (listed_squares t (least_level u.rule)) ∙ ap length (listed-blank t (least_level u.rule) b) in
           same-cells u.cell nowhere (suc w.level) e w.outside (nowhere-outside (suc w.level)) x y ∙ nowhere-zero x y ∙ sym (no-lines file n x y)
       | inr b ↦
           let r = square_file-root u.rule u.generation w.least w.depth_of w.states b in
-          let v : IsValid (suc top) file = square_file-valid (suc top) u.rule u.generation t h.rule h.generation w.most w.depth_of w.states in
+          let v : IsValidMacrocell (suc top) file = square_file-valid (suc top) u.rule u.generation t h.rule h.generation w.most w.depth_of w.states in
           let s = rooted (suc top) file v r.some in
           let l : s.level ≡ w.level = let e : suc s.level ≡ suc w.level = sym s.is ∙ r.level in omega arith in
-          let c : centred (macrocell_cell file) (suc w.level) ≡ t = subst (λ z. centred (macrocell_cell file) (suc z) ≡ root_tree file.lines) l s.cells
+          let c : centred_square (macrocell_cell file) (suc w.level)
+          ≡ t = subst (λ z. centred_square (macrocell_cell file) (suc z) ≡ root_tree file.lines) l s.cells
           ∙ r.root in
           let o : IsBlankOutside (suc w.level) (macrocell_cell file) = subst (λ z. IsBlankOutside (suc z) (macrocell_cell file)) l s.outside in
           same-cells u.cell (macrocell_cell file) (suc w.level) (sym w.is ∙ sym c) w.outside o x y
@@ -283,10 +285,10 @@ canonical-same top u le h = record { rule = refl; generation = refl; cells = can
 -- ---- the canonical file depends on the pattern alone
 
 pub same-whole : (top : ℕ) (u v : Universe) → IsSame u v → whole top u ≡ whole top v
-unfolding whole centred
+unfolding whole centred_square
 same-whole top u v s =
-    ap (λ r. trimmed (square u.cell top (corner top) (corner top)) (least_level r)) s.rule
-    ∙ ap (λ t. trimmed t (least_level v.rule)) (square-same u.cell v.cell s.cells top (corner top) (corner top))
+    ap (λ r. trimmed_square (square u.cell top (corner top) (corner top)) (least_level r)) s.rule
+    ∙ ap (λ t. trimmed_square t (least_level v.rule)) (square-same u.cell v.cell s.cells top (corner top) (corner top))
 
 pub same-canonical : (top : ℕ) (u v : Universe) → IsSame u v → canonical_file top u ≡ canonical_file top v
 unfolding canonical_file

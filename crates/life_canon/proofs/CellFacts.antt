@@ -11,7 +11,7 @@ use Rattle.life_base.specs.Tree.{Tree, tree_cell}
 use Rattle.life_mc.specs.Macrocell.{largest_state}
 use Rattle.life_quad.specs.Cells.{IsBefore, IsCellList}
 use Rattle.life_rle.specs.Plane.{is_coordinate}
-use Rattle.life_rle.specs.Sorted.{is_live_cell, rises, are_sorted_cells, state_in}
+use Rattle.life_rle.specs.Sorted.{is_live_cell, rises, are_sorted_cells, state_in_cells}
 use Rattle.life_rle.specs.States.{is_state_of}
 use Rattle.life_canon.specs.Texts.{AreCellsOf}
 use Rattle.life_canon.specs.Universe.{Universe, corner, IsWithin, IsBlankOutside, IsOnPlane}
@@ -81,7 +81,7 @@ sorted-cells top u cells h are = sorted (suc top) u.rule cells are.in_order live
 
 -- what the list gives a pair: its cell there, or 0 where it has none
 pair-cases : (f : ℤ → ℤ → ℕ) (cells : List Cell) → ((c : Cell) → Contains cells c → f c.x c.y ≡ c.state) → (x y : ℤ)
-    → (state_in cells x y ≡ f x y) ⊎ ((state_in cells x y ≡ 0) × ((c : Cell) → Contains cells c → c.x ≡ x → c.y ≡ y → ⊥))
+    → (state_in_cells cells x y ≡ f x y) ⊎ ((state_in_cells cells x y ≡ 0) × ((c : Cell) → Contains cells c → c.x ≡ x → c.y ≡ y → ⊥))
 pair-cases f [] true_cells x y = inr (refl, λ c (k, lt, e) p q. absurd (omega arith))
 pair-cases f (c ∷ cells) true_cells x y = by (bool_cases (int_eq y c.y && int_eq x c.x)) (pair-cases f cells (λ d h. true_cells d (behind d h)) x y)
   where
@@ -104,8 +104,8 @@ pair-cases f (c ∷ cells) true_cells x y = by (bool_cases (int_eq y c.y && int_
         equal m n e = grind (arith, ints)
 
     by : ((int_eq y c.y && int_eq x c.x) ≡ true) ⊎ ((int_eq y c.y && int_eq x c.x) ≡ false)
-        → (state_in cells x y ≡ f x y) ⊎ ((state_in cells x y ≡ 0) × ((d : Cell) → Contains cells d → d.x ≡ x → d.y ≡ y → ⊥))
-        → (state_in (c ∷ cells) x y ≡ f x y) ⊎ ((state_in (c ∷ cells) x y ≡ 0) × ((d : Cell) → Contains (c ∷ cells) d → d.x ≡ x → d.y ≡ y → ⊥))
+        → (state_in_cells cells x y ≡ f x y) ⊎ ((state_in_cells cells x y ≡ 0) × ((d : Cell) → Contains cells d → d.x ≡ x → d.y ≡ y → ⊥))
+        → (state_in_cells (c ∷ cells) x y ≡ f x y) ⊎ ((state_in_cells (c ∷ cells) x y ≡ 0) × ((d : Cell) → Contains (c ∷ cells) d → d.x ≡ x → d.y ≡ y → ⊥))
     by (inl h) r = let e = at h in inl (rw h (sym (true_cells c (0, omega arith, refl)) ∙ ap (λ z. f z c.y) (sym e.1) ∙ ap (f x) (sym e.0)))
     by (inr h) (inl r) = inl (rw h r)
     by (inr h) (inr r) = inr (rw h r.0, λ d k p q. none d k p q)
@@ -114,14 +114,15 @@ pair-cases f (c ∷ cells) true_cells x y = by (bool_cases (int_eq y c.y && int_
         none d (zero, lt, e) p q = off d h e p q
         none d (suc k, lt, e) p q = r.1 d (k, omega arith, e) p q
 
-pub listed-cells : (f : ℤ → ℤ → ℕ) (cells : List Cell) → AreCellsOf f cells → (x y : ℤ) → f x y ≡ state_in cells x y
+pub listed-cells : (f : ℤ → ℤ → ℕ) (cells : List Cell) → AreCellsOf f cells → (x y : ℤ) → f x y ≡ state_in_cells cells x y
 listed-cells f cells are x y = by (pair-cases f cells (λ c h. (are.true_cells c h).0) x y)
   where
     zero_or : (n : ℕ) → (n ≡ 0) ⊎ (n ≢ 0)
     zero_or zero = inl refl
     zero_or (suc n) = inr (λ e. omega arith)
 
-    by : (state_in cells x y ≡ f x y) ⊎ ((state_in cells x y ≡ 0) × ((c : Cell) → Contains cells c → c.x ≡ x → c.y ≡ y → ⊥)) → f x y ≡ state_in cells x y
+    by : (state_in_cells cells x y ≡ f x y) ⊎ ((state_in_cells cells x y ≡ 0) × ((c : Cell) → Contains cells c → c.x ≡ x → c.y ≡ y → ⊥)) → f x y
+        ≡ state_in_cells cells x y
     by (inl e) = sym e
     by (inr r) = elim (zero_or (f x y)) [
       | inl z ↦ z ∙ sym r.0

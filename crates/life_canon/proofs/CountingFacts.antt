@@ -17,9 +17,9 @@ use Rattle.life_mc.specs.Squares.{HasStatesUpTo, leaf_tree, tree_at}
 use Rattle.life_mc.specs.declared.line.Line.{Line}
 use Rattle.life_quad.specs.Cells.{population}
 use Rattle.life_quad.proofs.CountLemmas.{population-blank, population-small}
-use Rattle.life_canon.specs.Closed.{Quarters, IsBefore}
+use Rattle.life_canon.specs.Closed.{Quarters, IsListedBefore}
 use Rattle.life_canon.specs.Counting.{number_count, line_count, line_counts, CountsLines}
-use Rattle.life_canon.specs.Listing.{is_small, listed, line_of, lines_for, number_of, place, rows_of, walk, with_all}
+use Rattle.life_canon.specs.Listing.{is_small, listed_squares, line_of, lines_for, number_of_quarter, place, rows_of, walk, with_all}
 use Rattle.life_canon.specs.Universe.{least_level}
 use Rattle.life_canon.proofs.Content.{leaf_case, quad_case, line_cases, line_of-leaf, line_of-quad, not_small, number-blank, number-place, point-big, is_in-at, big-level, least-one}
 use Rattle.life_canon.proofs.Leaves.{leaf_tree-is}
@@ -169,8 +169,8 @@ four p q r s = omega (arith, p, q, r, s)
 
 -- where the squares before have their counts
 module _ (rule : Rule) (all before rest : List Tree) (is : all ≡ before ++ rest) where
-  quarter-count : {k : ℕ} {q : Tree} → HasDepth k q → (0 < k → least_level rule ≤ k) → IsBefore (least_level rule) all (length before) q
-      → number_count (map population before) (suc k) (number_of all q) ≡ population q
+  quarter-count : {k : ℕ} {q : Tree} → HasDepth k q → (0 < k → least_level rule ≤ k) → IsListedBefore (least_level rule) all (length before) q
+      → number_count (map population before) (suc k) (number_of_quarter all q) ≡ population q
   quarter-count point_depth h b = refl
   quarter-count (quad_depth {k = k} {nw = a} {ne = c} {sw = d} {se = e} p q r s) h b =
       let t = quad a c d e in
@@ -186,7 +186,7 @@ module _ (rule : Rule) (all before rest : List Tree) (is : all ≡ before ++ res
       ]
 
   line-count : {k : ℕ} {t : Tree} → HasDepth k t → StatesBelow (state_bound rule) t → is_small (least_level rule) t ≡ false
-      → Quarters (IsBefore (least_level rule) all (length before)) t → line_count (map population before) (line_of rule all t) ≡ population t
+      → Quarters (IsListedBefore (least_level rule) all (length before)) t → line_count (map population before) (line_of rule all t) ≡ population t
   line-count (point_depth {state = state}) g big q = absurd (point-big (least_level rule) state (least-one rule) big)
   line-count (quad_depth {k = k} {nw = a} {ne = b} {sw = c} {se = d} ha hb hc hd) g big q =
       let t = quad a b c d in
@@ -198,8 +198,8 @@ module _ (rule : Rule) (all before rest : List Tree) (is : all ≡ before ++ res
             ap (line_count counts) (line_of-leaf rule all t l (h ∙ ap suc x))
             ∙ ap population (leaf_tree-is (subst (λ n. HasDepth (suc n) t) x (quad_depth ha hb hc hd)) (subst (λ n. StatesBelow n t) w g))
         | quad_case l w ↦
-            let at = λ (s : Tree) (v : number_count counts (suc k) (number_of all s) ≡ population s).
-            subst (λ n. number_count counts n (number_of all s) ≡ population s) (sym h) v in
+            let at = λ (s : Tree) (v : number_count counts (suc k) (number_of_quarter all s) ≡ population s).
+            subst (λ n. number_count counts n (number_of_quarter all s) ≡ population s) (sym h) v in
             ap (line_count counts) (line_of-quad rule all t l)
             ∙ four (at a (quarter-count ha w q.nw)) (at b (quarter-count hb w q.ne)) (at c (quarter-count hc w q.sw)) (at d (quarter-count hd w q.se))
       ]
@@ -210,7 +210,7 @@ record IsCounted (rule : Rule) (all : List Tree) (i : ℕ) (t : Tree) : Type 0 w
   depth_of : HasDepth level t
   states : StatesBelow (state_bound rule) t
   big : is_small (least_level rule) t ≡ false
-  before : Quarters (IsBefore (least_level rule) all i) t
+  before : Quarters (IsListedBefore (least_level rule) all i) t
 
 counted : (rule : Rule) (all : List Tree) → ((i : ℕ) → i < length all → IsCounted rule all i (get_or all i (point 0))) → (before rest : List Tree)
     → all ≡ before ++ rest → line_counts (map population before) (map (line_of rule all) rest) ≡ map population all
@@ -231,24 +231,24 @@ bound-small (Life sets) = omega arith
 bound-small (Named name) = omega arith
 
 module _ (rule : Rule) (root : Tree) (full : IsFull root) (states : HasStatesUpTo (largest_state rule) root) where
-  part : (i : ℕ) → i < length (listed root (least_level rule))
-      → IsCounted rule (listed root (least_level rule)) i (get_or (listed root (least_level rule)) i (point 0))
+  part : (i : ℕ) → i < length (listed_squares root (least_level rule))
+      → IsCounted rule (listed_squares root (least_level rule)) i (get_or (listed_squares root (least_level rule)) i (point 0))
   part i l =
       let m = least_level rule in
-      let t = get_or (listed root m) i (point 0) in
+      let t = get_or (listed_squares root m) i (point 0) in
       let p = walk-part m (state_bound rule) t (full-depth root full) (states-below (largest_state rule) root states)
-      (listed-walk root m t (is_in-at (listed root m) i (point 0) l)) in
+      (listed-walk root m t (is_in-at (listed_squares root m) i (point 0) l)) in
       record { level = p.level; depth_of = p.depth_of; states = p.states; big = p.big; before = (listed-closed root m (least-one rule)).each i l }
 
   -- the counts of the lines are those of the squares
-  pub listed-counts : line_counts [] (lines_for rule (listed root (least_level rule))) ≡ map population (listed root (least_level rule))
-  listed-counts = counted rule (listed root (least_level rule)) part [] (listed root (least_level rule)) refl
+  pub listed-counts : line_counts [] (lines_for rule (listed_squares root (least_level rule))) ≡ map population (listed_squares root (least_level rule))
+  listed-counts = counted rule (listed_squares root (least_level rule)) part [] (listed_squares root (least_level rule)) refl
 
   -- none of them is too large
-  pub listed-few : depth root ≤ MAX_LEVEL → All (λ n. n < 2 ^ 128) (map population (listed root (least_level rule)))
+  pub listed-few : depth root ≤ MAX_LEVEL → All (λ n. n < 2 ^ 128) (map population (listed_squares root (least_level rule)))
   listed-few low = λ k d l.
       let m = least_level rule in
-      let all = listed root m in
+      let all = listed_squares root m in
       let n : k < length all = subst (λ v. k < v) (length-map all population) l in
       let p = part k n in
       let t = get_or all k (point 0) in
@@ -261,21 +261,22 @@ module _ (rule : Rule) (root : Tree) (full : IsFull root) (states : HasStatesUpT
       subst (λ v. v < 2 ^ 128) (sym (get_or-map population all k (point 0) d n)) (omega (arith, few, most, bound))
 
   -- so a sink that counted the lines has the counts of the squares
-  all-counted : depth root ≤ MAX_LEVEL → (start counts : List ℕ) → start ≡ [] → CountsLines start counts (lines_for rule (listed root (least_level rule)))
-      → counts ≡ map population (listed root (least_level rule))
+  all-counted : depth root ≤ MAX_LEVEL → (start counts : List ℕ) → start ≡ []
+      → CountsLines start counts (lines_for rule (listed_squares root (least_level rule)))
+      → counts ≡ map population (listed_squares root (least_level rule))
   all-counted low start counts none took =
-      let lines = lines_for rule (listed root (least_level rule)) in
+      let lines = lines_for rule (listed_squares root (least_level rule)) in
       let few = subst (All (λ n. n < 2 ^ 128)) (sym listed-counts) (listed-few low) in
       took (subst (λ s. All (λ n. n < 2 ^ 128) (line_counts s lines)) (sym none) few) ∙ ap (λ s. line_counts s lines) none ∙ listed-counts
 
   -- one for each square
   pub lines-counted : depth root ≤ MAX_LEVEL → (start counts : List ℕ) → start ≡ []
-      → CountsLines start counts (lines_for rule (listed root (least_level rule))) → length counts ≡ length (listed root (least_level rule))
-  lines-counted low start counts none took = ap length (all-counted low start counts none took) ∙ length-map (listed root (least_level rule)) population
+      → CountsLines start counts (lines_for rule (listed_squares root (least_level rule))) → length counts ≡ length (listed_squares root (least_level rule))
+  lines-counted low start counts none took = ap length (all-counted low start counts none took) ∙ length-map (listed_squares root (least_level rule)) population
 
   -- the last square is the root
-  listed-last : is_small (least_level rule) root ≡ false → (before : List Tree) × (listed root (least_level rule) ≡ before ++ root ∷ [])
-  unfolding listed
+  listed-last : is_small (least_level rule) root ≡ false → (before : List Tree) × (listed_squares root (least_level rule) ≡ before ++ root ∷ [])
+  unfolding listed_squares
   listed-last big = ends root full big
     where
       ends : (t : Tree) → IsFull t → is_small (least_level rule) t ≡ false → (before : List Tree) × (with_all [] (walk t (least_level rule)) ≡ before ++ t ∷ [])
@@ -292,12 +293,12 @@ module _ (rule : Rule) (root : Tree) (full : IsFull root) (states : HasStatesUpT
                 (absent-still m t a c d e [] one two three four f refl refl refl refl refl refl) refl),
           )
 
-  blank-listed : is_blank root ≡ true → listed root (least_level rule) ≡ []
-  unfolding listed
+  blank-listed : is_blank root ≡ true → listed_squares root (least_level rule) ≡ []
+  unfolding listed_squares
   blank-listed e = ap (with_all []) (walk-small root (least_level rule) (small-blank (least_level rule) root e))
 
   -- the last count is that of the root
-  root-count : least_level rule ≤ depth root → (counts : List ℕ) → counts ≡ map population (listed root (least_level rule))
+  root-count : least_level rule ≤ depth root → (counts : List ℕ) → counts ≡ map population (listed_squares root (least_level rule))
       → slice_index_or counts (length counts - 1) 0 ≡ population root
   root-count low counts is = ap (λ l. slice_index_or l (length l - 1) 0) is ∙ elim (bool_cases (is_blank root)) [
     | inl e ↦ ap (λ l. slice_index_or (map population l) (length (map population l) - 1) 0) (blank-listed e) ∙ sym (population-blank root e)
@@ -308,5 +309,5 @@ module _ (rule : Rule) (root : Tree) (full : IsFull root) (states : HasStatesUpT
   ]
 
   pub cells-counted : depth root ≤ MAX_LEVEL → least_level rule ≤ depth root → {start counts all : List ℕ} → all ≡ counts → start ≡ []
-      → CountsLines start counts (lines_for rule (listed root (least_level rule))) → slice_index_or all (length all - 1) 0 ≡ population root
+      → CountsLines start counts (lines_for rule (listed_squares root (least_level rule))) → slice_index_or all (length all - 1) 0 ≡ population root
   cells-counted low high {start} {counts} {all} same none took = root-count high all (same ∙ all-counted low start counts none took)

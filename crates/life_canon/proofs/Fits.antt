@@ -5,9 +5,9 @@ use Rattle.life_base.specs.declared.rule.Rule.{Rule}
 use Rattle.life_base.specs.Tree.{Tree, depth, tree_cell}
 use Rattle.life_mc.specs.Macrocell.{largest_state}
 use Rattle.life_mc.specs.Squares.{HasStatesUpTo}
-use Rattle.life_quad.specs.Moves.{trimmed}
+use Rattle.life_quad.specs.Moves.{trimmed_square}
 use Rattle.life_quad.specs.Store.{Nodes}
-use Rattle.life_canon.specs.Universe.{Universe, IsSame, IsOnPlane, least_level, centred, whole}
+use Rattle.life_canon.specs.Universe.{Universe, IsSame, IsOnPlane, least_level, centred_square, whole}
 use Rattle.life_canon.specs.Store.{IsRead, IsTrimmed, content, universe_in}
 use Rattle.life_canon.specs.declared.pattern.Pattern.{Pattern}
 use Rattle.life_canon.proofs.TreeWords.{below_top, trimmed_to}
@@ -21,7 +21,7 @@ use Rattle.life_canon.proofs.Formats.{reads-plane}
 pub root-high : (rule : Rule) (d : ℕ) → least_level rule ≤ d → 1 ≤ d
 root-high rule d h = let o = least-one rule in omega (arith, o, h)
 
-pub whole-fixed : (top : ℕ) (u : Universe) → 3 ≤ suc top → IsOnPlane (suc top) u → trimmed (whole (suc top) u) (least_level u.rule) ≡ whole (suc top) u
+pub whole-fixed : (top : ℕ) (u : Universe) → 3 ≤ suc top → IsOnPlane (suc top) u → trimmed_square (whole (suc top) u) (least_level u.rule) ≡ whole (suc top) u
 whole-fixed top u high h =
     let m = least_level u.rule in
     let w = whole-is top u (least-high u.rule (suc top) high) h in
@@ -29,7 +29,7 @@ whole-fixed top u high h =
     trimmed-is m w.depth_of (least-one u.rule)
     ∙ ap (λ t. trimmed_to t m) w.is
     ∙ sym (centred-trimmed u.cell m (top - w.level) w.level (least-one u.rule) w.least w.outside)
-    ∙ sym (ap (λ j. trimmed_to (centred u.cell j) m) n)
+    ∙ sym (ap (λ j. trimmed_to (centred_square u.cell j) m) n)
     ∙ sym (whole-trimmed (suc top) u)
 
 pub whole-cells : (top : ℕ) (u : Universe) → 3 ≤ suc top → IsOnPlane (suc top) u → (x y : ℤ) → tree_cell (whole (suc top) u) x y ≡ u.cell x y
@@ -52,7 +52,7 @@ read-fits bytes store pattern r =
     let u = r.universe in
     let plane = reads-plane below_top bytes u (omega arith) r.reads in
     let w = whole-is below_top u (least-high u.rule MAX_LEVEL (omega arith)) plane in
-    let P : Tree → Rule → Type 0 = λ t q. (least_level q ≤ depth t) × (trimmed t (least_level q) ≡ t) × HasStatesUpTo (largest_state q) t in
+    let P : Tree → Rule → Type 0 = λ t q. (least_level q ≤ depth t) × (trimmed_square t (least_level q) ≡ t) × HasStatesUpTo (largest_state q) t in
     let deep : least_level u.rule ≤ depth (whole MAX_LEVEL u) = subst (λ n. least_level u.rule ≤ n) (sym (depth_is w.depth_of)) w.least in
     let all : P (whole MAX_LEVEL u) u.rule
     = (deep, whole-fixed below_top u (omega arith) plane, states-upto (largest_state u.rule) (whole MAX_LEVEL u) w.states) in

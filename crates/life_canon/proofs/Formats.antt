@@ -7,19 +7,19 @@ use Rattle.life_base.specs.declared.kind.Kind.{Kind}
 use Rattle.life_base.specs.declared.kind.Kind.TheVariants.{LineTooLong, NoHeader}
 use Rattle.life_base.specs.declared.rule.Rule.{Rule}
 use Rattle.life_base.specs.declared.rule.Rule.TheVariants.{Life, Named}
-use Rattle.life_mc.specs.Macrocell.{Macrocell, IsValid, largest_state}
-use Rattle.life_mc.specs.Cells.{cell as macrocell_cell}
-use Rattle.life_mc.specs.Reading.{AreMacrocell, broken}
+use Rattle.life_mc.specs.Macrocell.{Macrocell, IsValidMacrocell, largest_state}
+use Rattle.life_mc.specs.Cells.{macrocell_cell}
+use Rattle.life_mc.specs.Reading.{AreMacrocell, broken_rule}
 use Rattle.life_mc.proofs.Accepted.{files_are_valid}
 use Rattle.life_mc.proofs.FormatLaws.{files_are_unique}
 use Rattle.life_rle.specs.declared.line.Opening.{Opening}
 use Rattle.life_rle.specs.declared.line.Opening.TheVariants.{Comment, PositionLine, Header}
 use Rattle.life_rle.specs.declared.position.Position.{Position}
 use Rattle.life_rle.specs.Grammar.{IsRle, IsUnmarked, IsPreamble, opening_of}
-use Rattle.life_rle.specs.Pattern.{Rle, placed, cell as rle_cell}
+use Rattle.life_rle.specs.Pattern.{Rle, placed_items, rle_cell}
 use Rattle.life_rle.specs.Position.{default_position}
 use Rattle.life_rle.specs.Runs.{runs_of}
-use Rattle.life_rle.specs.RunsLaw.{AreGoodRuns, state_by, has_cell}
+use Rattle.life_rle.specs.RunsLaw.{AreGoodRuns, rle_state_by, has_cell}
 use Rattle.life_rle.specs.States.{is_state_of}
 use Rattle.life_base.specs.declared.cell.Run.{Run}
 use Rattle.life_rle.proofs.RunsLaws.{runs_are_cells, blank_outside}
@@ -48,7 +48,7 @@ none_if true kind h = refl
 none_if false kind h = cc
 
 pub macrocell-first : (top : ℕ) (lines : List (List ℕ)) (file : Macrocell) → AreMacrocell top lines file → is_macrocell lines ≡ true
-unfolding broken
+unfolding broken_rule
 macrocell-first top [] file a = absurd (omega (arith, a.header))
 macrocell-first top (line ∷ lines) file a =
     none_if (begins_with line (codes "[M2]")) NoHeader (passes (is_too_long line) LineTooLong _ (a.unbroken 0 (omega arith))).1
@@ -119,11 +119,11 @@ state-below : (rule : Rule) (state : ℕ) → is_state_of rule state ≡ true �
 state-below (Life sets) state h = grind (arith, nat_tests)
 state-below (Named name) state h = grind (arith, nat_tests)
 
-runs-below : (level : ℕ) (rule : Rule) (runs : List Run) → AreGoodRuns level rule runs → (x y : ℤ) → state_by runs x y < state_bound rule
+runs-below : (level : ℕ) (rule : Rule) (runs : List Run) → AreGoodRuns level rule runs → (x y : ℤ) → rle_state_by runs x y < state_bound rule
 runs-below level rule [] g x y = omega (arith, two_states rule)
 runs-below level rule (run ∷ runs) g x y = by (has_cell run x y) (runs-below level rule runs g.1 x y)
   where
-    by : (b : Bool) → state_by runs x y < state_bound rule → cond b run.state (state_by runs x y) < state_bound rule
+    by : (b : Bool) → rle_state_by runs x y < state_bound rule → cond b run.state (rle_state_by runs x y) < state_bound rule
     by true h = state-below rule run.state g.0.state
     by false h = h
 
@@ -152,12 +152,12 @@ rle-on_plane top lines file r =
       rule = s.rule;
       generation = s.generation;
       states = λ x y. upto-below _ (largest_state file.rule)
-          (subst (λ n. n < state_bound file.rule) (sym (c.2 x y)) (runs-below (suc top) file.rule (runs_of (placed file)) c.0 x y));
+          (subst (λ n. n < state_bound file.rule) (sym (c.2 x y)) (runs-below (suc top) file.rule (runs_of (placed_items file)) c.0 x y));
       outside = rle-outside top lines file r;
     }
 
 -- every state of a file's root is below the bound, and so is every cell
-macrocell-on_plane : (top : ℕ) (file : Macrocell) → 3 ≤ suc top → IsValid (suc top) file → IsOnPlane (suc top) (macrocell_universe file)
+macrocell-on_plane : (top : ℕ) (file : Macrocell) → 3 ≤ suc top → IsValidMacrocell (suc top) file → IsOnPlane (suc top) (macrocell_universe file)
 macrocell-on_plane top file high v = elim (le_or_lt 1 (length file.lines)) [
   | inl l ↦
       let r = rooted (suc top) file v l in
@@ -179,7 +179,7 @@ macrocell-on_plane top file high v = elim (le_or_lt 1 (length file.lines)) [
       }
 ]
   where
-    cells-below : (top : ℕ) (file : Macrocell) → IsValid top file → (x y : ℤ) → macrocell_cell file x y < state_bound file.rule
+    cells-below : (top : ℕ) (file : Macrocell) → IsValidMacrocell top file → (x y : ℤ) → macrocell_cell file x y < state_bound file.rule
     cells-below top file v x y =
         let s = lines_stand_for_squares top file v in
         subst (λ n. n < state_bound file.rule) (sym (s.plane x y))

@@ -16,21 +16,21 @@ use Rattle.life_base.specs.declared.fault.Fault.{Fault}
 use Rattle.life_base.specs.declared.kind.Kind.{Kind}
 use Rattle.life_base.specs.declared.kind.Kind.TheVariants.{LineTooLong, NoHeader, Memory}
 use Rattle.life_mc.specs.Cells.{root_level}
-use Rattle.life_mc.specs.Reading.{broken, squares_of}
+use Rattle.life_mc.specs.Reading.{broken_rule, squares_of}
 use Rattle.life_mc.proofs.LineKinds.{long_lines_break as long_lines_break_macrocell, broken_kind, names_line}
-use Rattle.life_quad.specs.Store.{Nodes, held}
+use Rattle.life_quad.specs.Store.{Nodes, stored_squares}
 use Rattle.life_rle.specs.Decided.{LacksHeader}
-use Rattle.life_rle.specs.Grammar.{IsRle, IsSomeRle, IsMarked, IsUnmarked, Breaks as BreaksRle}
+use Rattle.life_rle.specs.Grammar.{IsRle, IsSomeRle, IsMarked, IsUnmarked, BreaksRle}
 use Rattle.life_rle.specs.Pattern.{Rle}
 use Rattle.life_rle.proofs.DecidedLaw.{decided}
 use Rattle.life_rle.proofs.FrontLaws.{lines_behind_mark_are_free, mark_is_decided, long_lines_break, fronts_are_files}
 use Rattle.life_rle.proofs.LineKinds.{Breaks-kind, names_line as names_line_rle}
 use Rattle.life_canon.specs.Feeding.{RefusesFront, IsOverAt}
-use Rattle.life_canon.specs.Files.{Says, as_macrocell, as_rle, Reads, Accepts, Breaks, Refuses, missing, is_macrocell}
+use Rattle.life_canon.specs.Files.{Says, as_macrocell, as_rle, Reads, Accepts, Breaks, Refuses, missing_file_part, is_macrocell}
 use Rattle.life_canon.specs.Needs.{level_of_root}
-use Rattle.life_canon.specs.Store.{IsWant}
-use Rattle.life_quad.specs.Keeping.{IsWantKind}
-use Rattle.life_canon.specs.Taking.{IsEnd, bytes_of, taken, IsOpen, IsOver, IsLineFault, IsGoing, IsFront}
+use Rattle.life_canon.specs.Store.{IsShortageOf}
+use Rattle.life_quad.specs.Keeping.{IsShortageKind}
+use Rattle.life_canon.specs.Taking.{IsEnd, bytes_of, taken_lines, IsOpen, IsOver, IsLineFault, IsGoing, IsFront}
 use Rattle.life_canon.specs.Universe.{Universe, rle_universe}
 use Rattle.life_canon.specs.declared.progress.Progress.{Progress}
 use Rattle.life_canon.specs.declared.progress.Progress.TheVariants as progress
@@ -41,7 +41,7 @@ use Rattle.life_canon.proofs.Unions.{macrocell-front, rle-front, no_lines, taken
 -- ---- the lines that were taken
 
 -- they can be continued to a file
-pub open-front : (p : Progress) → IsOpen p → Prefix (Accepts MAX_LEVEL) (taken p)
+pub open-front : (p : Progress) → IsOpen p → Prefix (Accepts MAX_LEVEL) (taken_lines p)
 open-front progress.Undecided o = no_lines MAX_LEVEL
 open-front (progress.Rle reader builder runs) o = rle-front MAX_LEVEL reader.lines o.front
 open-front (progress.Macrocell reader ids waiting) o = macrocell-front MAX_LEVEL reader.lines o.front
@@ -52,11 +52,12 @@ goes-on [] more h = absurd (omega arith)
 goes-on (first ∷ lines) more h = refl
 
 by-format : (lines : List (List ℕ)) (line : List ℕ) (kind : Kind) (m : Bool) → is_macrocell (lines ++ line ∷ []) ≡ m
-    → MatchBool m (broken MAX_LEVEL lines line ≡ Some kind) (BreaksRle MAX_LEVEL lines line kind) → Breaks MAX_LEVEL lines line kind
-by-format lines line kind m e h = subst (λ (v : Bool). MatchBool v (broken MAX_LEVEL lines line ≡ Some kind) (BreaksRle MAX_LEVEL lines line kind)) (sym e) h
+    → MatchBool m (broken_rule MAX_LEVEL lines line ≡ Some kind) (BreaksRle MAX_LEVEL lines line kind) → Breaks MAX_LEVEL lines line kind
+by-format lines line kind m e h = subst (λ (v : Bool). MatchBool v (broken_rule MAX_LEVEL lines line ≡ Some kind) (BreaksRle MAX_LEVEL lines line kind)) (sym e)
+    h
 
-pub long-macrocell : (lines : List (List ℕ)) (line : List ℕ) → is_too_long line ≡ true → broken MAX_LEVEL lines line ≡ Some LineTooLong
-unfolding broken
+pub long-macrocell : (lines : List (List ℕ)) (line : List ℕ) → is_too_long line ≡ true → broken_rule MAX_LEVEL lines line ≡ Some LineTooLong
+unfolding broken_rule
 long-macrocell lines line h = rw h refl
 
 long-rle : (lines : List (List ℕ)) (line : List ℕ) → is_too_long line ≡ true → Prefix (IsSomeRle MAX_LEVEL) lines
@@ -72,12 +73,12 @@ no-mark file h = by h.front h.whole
     by (line ∷ front) e = cc
 
 long-first : (line : List ℕ) (m : Bool) → is_too_long line ≡ true
-    → MatchBool m (broken MAX_LEVEL [] line ≡ Some LineTooLong) (BreaksRle MAX_LEVEL [] line LineTooLong)
+    → MatchBool m (broken_rule MAX_LEVEL [] line ≡ Some LineTooLong) (BreaksRle MAX_LEVEL [] line LineTooLong)
 long-first line true h = long-macrocell [] line h
 long-first line false h = long-rle [] line h ((fronts_are_files MAX_LEVEL []).1 (inr (_, refl))) no-mark
 
 -- a line that is too long breaks a rule behind them
-pub long-breaks : (p : Progress) (line : List ℕ) → IsOpen p → (IsOver p → ⊥) → is_too_long line ≡ true → Breaks MAX_LEVEL (taken p) line LineTooLong
+pub long-breaks : (p : Progress) (line : List ℕ) → IsOpen p → (IsOver p → ⊥) → is_too_long line ≡ true → Breaks MAX_LEVEL (taken_lines p) line LineTooLong
 long-breaks progress.Undecided line o n h = by-format [] line LineTooLong (is_macrocell (line ∷ [])) refl (long-first line (is_macrocell (line ∷ [])) h)
 long-breaks (progress.Rle reader builder runs) line o n h =
     by-format reader.lines line LineTooLong false (goes-on reader.lines (line ∷ []) o.some ∙ o.format)
@@ -109,18 +110,18 @@ pub whole-at : (bytes kept end rest : List ℕ) (ended : ℕ) (lines : List (Lis
 whole-at = lines-behind whole_lines (λ front more. (lines_continue front more).whole)
 
 -- a line's end ends one line more
-pub front-ended : (bytes kept end : List ℕ) (ended next : ℕ) (p q : Progress) → IsGoing bytes kept ended (taken p) → has_no_feed end ≡ true → IsOpen q
-    → taken q ≡ taken p ++ (kept ++ end) ∷ [] → next ≡ min (ended + 1) (2 ^ 64 - 1) → IsFront (bytes ++ end ++ 10 ∷ []) [] next q
+pub front-ended : (bytes kept end : List ℕ) (ended next : ℕ) (p q : Progress) → IsGoing bytes kept ended (taken_lines p) → has_no_feed end ≡ true → IsOpen q
+    → taken_lines q ≡ taken_lines p ++ (kept ++ end) ∷ [] → next ≡ min (ended + 1) (2 ^ 64 - 1) → IsFront (bytes ++ end ++ 10 ∷ []) [] next q
 front-ended bytes kept end ended next p q g h o e n =
     let l = lines_ended bytes end h in
-    let whole : taken q ≡ whole_lines (bytes ++ end ++ 10 ∷ []) =
+    let whole : taken_lines q ≡ whole_lines (bytes ++ end ++ 10 ∷ []) =
     e ∙ ap (λ (ls : List (List ℕ)). ls ++ (kept ++ end) ∷ []) g.whole ∙ ap (λ (r : List ℕ). whole_lines bytes ++ (r ++ end) ∷ []) g.rest ∙ sym l.whole in
-    let count : length (taken q) ≡ length (taken p) + 1 = ap length e ∙ length-append (taken p) ((kept ++ end) ∷ []) in
+    let count : length (taken_lines q) ≡ length (taken_lines p) + 1 = ap length e ∙ length-append (taken_lines p) ((kept ++ end) ∷ []) in
     record {
       short = omega arith;
       begun = o;
       going = λ _. record { whole = whole; rest = sym l.rest; count = omega (arith, g.count, n, count) };
-      over = λ _. record { free = []; whole = sym whole ∙ sym (append-nil (taken q)); none = refl };
+      over = λ _. record { free = []; whole = sym whole ∙ sym (append-nil (taken_lines q)); none = refl };
     }
 
 -- bytes without a line feed are kept
@@ -148,7 +149,7 @@ front-over bytes kept more ended p f o =
       over = λ _. record {
         free = r.free ++ whole_lines (rest_line bytes ++ more);
         whole = e.whole ∙ ap (λ (ls : List (List ℕ)). ls ++ whole_lines (rest_line bytes ++ more)) r.whole
-            ∙ append_assoc (taken p) r.free (whole_lines (rest_line bytes ++ more));
+            ∙ append_assoc (taken_lines p) r.free (whole_lines (rest_line bytes ++ more));
         none = r.none;
       };
     }
@@ -156,35 +157,42 @@ front-over bytes kept more ended p f o =
 -- ---- refusals
 
 -- a line's fault is told in the piece in which it ends
-pub line-refuses : (bytes kept end : List ℕ) (ended : ℕ) (p : Progress) (fault : Fault) → IsOpen p → IsGoing bytes kept ended (taken p) → has_no_feed end ≡ true
-    → IsLineFault MAX_LEVEL (taken p) (kept ++ end) ended fault → (rest : List ℕ) → RefusesFront MAX_LEVEL (bytes ++ end ++ 10 ∷ [] ++ rest) fault
+pub line-refuses : (bytes kept end : List ℕ) (ended : ℕ) (p : Progress) (fault : Fault) → IsOpen p → IsGoing bytes kept ended (taken_lines p) → has_no_feed end
+    ≡ true
+    → IsLineFault MAX_LEVEL (taken_lines p) (kept ++ end) ended fault → (rest : List ℕ) → RefusesFront MAX_LEVEL (bytes ++ end ++ 10 ∷ [] ++ rest) fault
 line-refuses bytes kept end ended p fault o g h b rest =
-    let at : fault.place.line ≡ min (length (taken p) + 1) (2 ^ 64 - 1) = omega (arith, b.place, g.count) in
-    let lines = lines-at bytes kept end rest ended (taken p) g h in
+    let at : fault.place.line ≡ min (length (taken_lines p) + 1) (2 ^ 64 - 1) = omega (arith, b.place, g.count) in
+    let lines = lines-at bytes kept end rest ended (taken_lines p) g h in
     let all : List (List ℕ) = lines_of (bytes ++ end ++ 10 ∷ [] ++ rest) in
-    let n = line-refused-n MAX_LEVEL all (taken p) (kept ++ end) (lines_of rest) fault lines (open-front p o) b.breaks at in
+    let n = line-refused-n MAX_LEVEL all (taken_lines p) (kept ++ end) (lines_of rest) fault lines (open-front p o) b.breaks at in
     record {
-      refuses = line-refused MAX_LEVEL all (taken p) (kept ++ end) (lines_of rest) fault lines (open-front p o) b.breaks at;
-      told = inl (omega (arith, n, ap length (whole-at bytes kept end rest ended (taken p) g h), length-append (taken p) ((kept ++ end) ∷ whole_lines rest)));
+      refuses = line-refused MAX_LEVEL all (taken_lines p) (kept ++ end) (lines_of rest) fault lines (open-front p o) b.breaks at;
+      told = inl (omega (
+        arith,
+        n,
+        ap length (whole-at bytes kept end rest ended (taken_lines p) g h),
+        length-append (taken_lines p)
+            ((kept ++ end) ∷ whole_lines rest),
+      ));
     }
 
 -- a rest is refused that is too long
-pub rest-refuses : (bytes kept more : List ℕ) (ended : ℕ) (p : Progress) (fault : Fault) → IsOpen p → (IsOver p → ⊥) → IsGoing bytes kept ended (taken p)
+pub rest-refuses : (bytes kept more : List ℕ) (ended : ℕ) (p : Progress) (fault : Fault) → IsOpen p → (IsOver p → ⊥) → IsGoing bytes kept ended (taken_lines p)
     → has_no_feed more ≡ true
     → 2 ^ 20 < length kept + length more → fault ≡ fault_at (min (ended + 1) (2 ^ 64 - 1)) LineTooLong → RefusesFront MAX_LEVEL (bytes ++ more) fault
 rest-refuses bytes kept more ended p fault o n g h l f =
     let e = lines_longer bytes more h in
     let long : 2 ^ 20 < length (kept ++ more) = omega (arith, length-append kept more) in
-    let whole : lines_of (bytes ++ more) ≡ taken p ++ (kept ++ more) ∷ [] =
+    let whole : lines_of (bytes ++ more) ≡ taken_lines p ++ (kept ++ more) ∷ [] =
     lines_are_whole (bytes ++ more)
     ∙ ap (λ (ls : List (List ℕ)). ls ++ one_line (rest_line (bytes ++ more))) (e.whole ∙ sym g.whole)
-    ∙ ap (λ (r : List ℕ). taken p ++ one_line r) (e.rest ∙ ap (λ (r : List ℕ). r ++ more) (sym g.rest))
-    ∙ ap (λ (ls : List (List ℕ)). taken p ++ ls) (alone_of_some (kept ++ more) (omega arith)) in
+    ∙ ap (λ (r : List ℕ). taken_lines p ++ one_line r) (e.rest ∙ ap (λ (r : List ℕ). r ++ more) (sym g.rest))
+    ∙ ap (λ (ls : List (List ℕ)). taken_lines p ++ ls) (alone_of_some (kept ++ more) (omega arith)) in
     let kind : fault.kind ≡ LineTooLong = ap (λ (f : Fault). f.kind) f in
     let place : fault.place.line ≡ min (ended + 1) (2 ^ 64 - 1) = ap (λ (f : Fault). f.place.line) f in
     record {
-      refuses = line-refused MAX_LEVEL (lines_of (bytes ++ more)) (taken p) (kept ++ more) [] fault whole (open-front p o)
-          (subst (Breaks MAX_LEVEL (taken p) (kept ++ more)) (sym kind) (long-breaks p (kept ++ more) o n (too_long (kept ++ more) long)))
+      refuses = line-refused MAX_LEVEL (lines_of (bytes ++ more)) (taken_lines p) (kept ++ more) [] fault whole (open-front p o)
+          (subst (Breaks MAX_LEVEL (taken_lines p) (kept ++ more)) (sym kind) (long-breaks p (kept ++ more) o n (too_long (kept ++ more) long)))
           (omega (arith, place, g.count));
       told = inr kind;
     }
@@ -194,11 +202,11 @@ rest-refuses bytes kept more ended p fault o n g h l f =
 pub breaks-long : (lines : List (List ℕ)) (line : List ℕ) → Breaks MAX_LEVEL lines line LineTooLong → is_too_long line ≡ true
 breaks-long lines line = by (is_macrocell (lines ++ line ∷ []))
   where
-    by : (m : Bool) → MatchBool m (broken MAX_LEVEL lines line ≡ Some LineTooLong) (BreaksRle MAX_LEVEL lines line LineTooLong) → is_too_long line ≡ true
+    by : (m : Bool) → MatchBool m (broken_rule MAX_LEVEL lines line ≡ Some LineTooLong) (BreaksRle MAX_LEVEL lines line LineTooLong) → is_too_long line ≡ true
     by true h = too_long line ((long_lines_break_macrocell MAX_LEVEL lines line).0 h)
     by false h = (long_lines_break MAX_LEVEL lines line).0 h
 
-not-missing : (lines : List (List ℕ)) → missing lines ≡ Some LineTooLong → ⊥
+not-missing : (lines : List (List ℕ)) → missing_file_part lines ≡ Some LineTooLong → ⊥
 not-missing lines = by (is_macrocell lines)
   where
     by : (m : Bool) → cond m None (Some NoHeader) ≡ Some LineTooLong → ⊥
@@ -214,7 +222,7 @@ long-place bytes fault r k = elim (le_or_lt r.n (length (lines_of bytes))) [
     | inl early ↦ inl early
     | inr last ↦ inr (by (rest_line bytes) refl within last)
   ]
-  | inr behind ↦ absurd (not-missing (lines_of bytes) (subst (λ (kind : Kind). missing (lines_of bytes) ≡ Some kind) k (r.at_end behind)))
+  | inr behind ↦ absurd (not-missing (lines_of bytes) (subst (λ (kind : Kind). missing_file_part (lines_of bytes) ≡ Some kind) k (r.at_end behind)))
 ]
   where
     by : (text : List ℕ) → rest_line bytes ≡ text → r.n ≤ length (lines_of bytes) → length (whole_lines bytes) < r.n
@@ -266,20 +274,22 @@ not-long : (line : List ℕ) → length line ≤ 2 ^ 20 → is_too_long line ≡
 not-long line h e = grind (arith, nat_tests, e)
 
 -- behind `!` the lines are a file of RLE, and none breaks a rule
-over-marked : (p : Progress) → IsOpen p → IsOver p → (more : List (List ℕ)) → (is_macrocell (taken p ++ more) ≡ false)
-    × ((file : Rle) × IsMarked MAX_LEVEL (taken p ++ more) file)
+over-marked : (p : Progress) → IsOpen p → IsOver p → (more : List (List ℕ)) → (is_macrocell (taken_lines p ++ more) ≡ false)
+    × ((file : Rle) × IsMarked MAX_LEVEL (taken_lines p ++ more) file)
 over-marked progress.Undecided o v more = absurd v
 over-marked (progress.Rle reader builder runs) o v more =
     (goes-on reader.lines more o.some ∙ o.format, (v.0, (lines_behind_mark_are_free MAX_LEVEL reader.lines more v.0 v.1).0))
 over-marked (progress.Macrocell reader ids waiting) o v more = absurd v
 
-over-unbroken : (p : Progress) → IsOpen p → IsOver p → (more : List (List ℕ)) (line : List ℕ) (kind : Kind) → Breaks MAX_LEVEL (taken p ++ more) line kind → ⊥
+over-unbroken : (p : Progress) → IsOpen p → IsOver p → (more : List (List ℕ)) (line : List ℕ) (kind : Kind) → Breaks MAX_LEVEL (taken_lines p ++ more) line kind
+    → ⊥
 over-unbroken progress.Undecided o v more line kind b = absurd v
 over-unbroken (progress.Rle reader builder runs) o v more line kind b =
     let m : is_macrocell (reader.lines ++ more ++ line ∷ []) ≡ false = ap is_macrocell (append_assoc reader.lines more (line ∷ []))
     ∙ goes-on reader.lines (more ++ line ∷ []) o.some ∙ o.format in
     (lines_behind_mark_are_free MAX_LEVEL reader.lines more v.0 v.1).1 line kind
-    (subst (λ (b : Bool). MatchBool b (broken MAX_LEVEL (reader.lines ++ more) line ≡ Some kind) (BreaksRle MAX_LEVEL (reader.lines ++ more) line kind)) m b)
+    (subst (λ (b : Bool). MatchBool b (broken_rule MAX_LEVEL (reader.lines ++ more) line ≡ Some kind) (BreaksRle MAX_LEVEL (reader.lines ++ more) line kind)) m
+    b)
 over-unbroken (progress.Macrocell reader ids waiting) o v more line kind b = absurd v
 
 marked-front : (lines : List (List ℕ)) (file : Rle) → IsMarked MAX_LEVEL lines file → Prefix (Accepts MAX_LEVEL) lines
@@ -297,13 +307,13 @@ front-unrefused bytes kept ended p f fault r =
     in-over o =
         let v = f.over o in
         let m = over-marked p f.begun o v.free in
-        unrefused bytes (subst (Prefix (Accepts MAX_LEVEL)) (sym v.whole) (marked-front (taken p ++ v.free) m.1.0 m.1.1))
+        unrefused bytes (subst (Prefix (Accepts MAX_LEVEL)) (sym v.whole) (marked-front (taken_lines p ++ v.free) m.1.0 m.1.1))
         (λ b. over-unbroken p f.begun o v.free (rest_line bytes) LineTooLong
         (subst (λ (ls : List (List ℕ)). Breaks MAX_LEVEL ls (rest_line bytes) LineTooLong) v.whole b)) fault r
 
 -- ---- nothing is kept behind `!`
 
-not-over-at : (p : Progress) → IsOpen p → (IsOver p → ⊥) → is_macrocell (taken p) ≡ false → (file : Rle) → IsMarked MAX_LEVEL (taken p) file → ⊥
+not-over-at : (p : Progress) → IsOpen p → (IsOver p → ⊥) → is_macrocell (taken_lines p) ≡ false → (file : Rle) → IsMarked MAX_LEVEL (taken_lines p) file → ⊥
 not-over-at progress.Undecided o n m file h = no-mark file h
 not-over-at (progress.Rle reader builder runs) o n m file h = n (file, h)
 not-over-at (progress.Macrocell reader ids waiting) o n m file h = true_false (is_macrocell reader.lines) o.format m
@@ -331,22 +341,22 @@ rest-lines bytes kept ended lines g h =
     ∙ ap (λ (r : List ℕ). lines ++ one_line r) (sym g.rest) ∙ ap (λ (ls : List (List ℕ)). lines ++ ls) (alone_of_some kept h)
 
 pub kept-refuses : (bytes kept : List ℕ) (ended : ℕ) (p : Progress) (fault : Fault) → IsFront bytes kept ended p → 0 < length kept
-    → IsLineFault MAX_LEVEL (taken p) kept ended fault → Refuses MAX_LEVEL bytes fault
+    → IsLineFault MAX_LEVEL (taken_lines p) kept ended fault → Refuses MAX_LEVEL bytes fault
 kept-refuses bytes kept ended p fault f h b =
     let g = f.going (kept-going bytes kept ended p f h) in
-    line-refused MAX_LEVEL (lines_of bytes) (taken p) kept [] fault (rest-lines bytes kept ended (taken p) g h) (open-front p f.begun) b.breaks
+    line-refused MAX_LEVEL (lines_of bytes) (taken_lines p) kept [] fault (rest-lines bytes kept ended (taken_lines p) g h) (open-front p f.begun) b.breaks
     (omega (arith, b.place, g.count))
 
 pub kept-end : (bytes kept : List ℕ) (ended next : ℕ) (p q : Progress) → IsFront bytes kept ended p → 0 < length kept → IsOpen q
-    → taken q ≡ taken p ++ kept ∷ [] → next ≡ min (ended + 1) (2 ^ 64 - 1) → IsEnd bytes next q
+    → taken_lines q ≡ taken_lines p ++ kept ∷ [] → next ≡ min (ended + 1) (2 ^ 64 - 1) → IsEnd bytes next q
 kept-end bytes kept ended next p q f h o e n =
     let g = f.going (kept-going bytes kept ended p f h) in
-    let lines : lines_of bytes ≡ taken q = rest-lines bytes kept ended (taken p) g h ∙ sym e in
-    let count : length (taken q) ≡ length (taken p) + 1 = ap length e ∙ length-append (taken p) (kept ∷ []) in
+    let lines : lines_of bytes ≡ taken_lines q = rest-lines bytes kept ended (taken_lines p) g h ∙ sym e in
+    let count : length (taken_lines q) ≡ length (taken_lines p) + 1 = ap length e ∙ length-append (taken_lines p) (kept ∷ []) in
     record {
       begun = o;
       going = λ _. (lines, omega (arith, g.count, n, count));
-      over = λ _. ([], lines ∙ sym (append-nil (taken q)));
+      over = λ _. ([], lines ∙ sym (append-nil (taken_lines q)));
     }
 
 pub whole-end : (bytes kept : List ℕ) (ended : ℕ) (p : Progress) → IsFront bytes kept ended p → kept ≡ [] → IsEnd bytes ended p
@@ -355,14 +365,14 @@ whole-end bytes kept ended p f h = record {
   going = λ n.
       let g = f.going n in (
         lines_are_whole bytes ∙ ap (λ (ls : List (List ℕ)). ls ++ one_line (rest_line bytes)) (sym g.whole)
-            ∙ ap (λ (r : List ℕ). taken p ++ one_line r) (sym g.rest ∙ h) ∙ append-nil (taken p),
+            ∙ ap (λ (r : List ℕ). taken_lines p ++ one_line r) (sym g.rest ∙ h) ∙ append-nil (taken_lines p),
         g.count,
       );
   over = λ o.
       let v = f.over o in (
         v.free ++ one_line (rest_line bytes),
         lines_are_whole bytes ∙ ap (λ (ls : List (List ℕ)). ls ++ one_line (rest_line bytes)) v.whole
-            ∙ append_assoc (taken p) v.free (one_line (rest_line bytes)),
+            ∙ append_assoc (taken_lines p) v.free (one_line (rest_line bytes)),
       );
 }
 
@@ -375,7 +385,7 @@ pub macrocell-level : (lines : List (List ℕ)) → is_macrocell lines ≡ true 
 macrocell-level lines e = rw e refl
 
 -- what the lines say, the bytes say
-pub end-says : (bytes : List ℕ) (ended : ℕ) (p : Progress) (u : Universe) → IsEnd bytes ended p → Says MAX_LEVEL (taken p) u → Reads MAX_LEVEL bytes u
+pub end-says : (bytes : List ℕ) (ended : ℕ) (p : Progress) (u : Universe) → IsEnd bytes ended p → Says MAX_LEVEL (taken_lines p) u → Reads MAX_LEVEL bytes u
 end-says bytes ended progress.Undecided u e s = subst (λ (ls : List (List ℕ)). Says MAX_LEVEL ls u) (sym (e.going (λ v. v)).0) s
 end-says bytes ended (progress.Macrocell reader ids waiting) u e s = subst (λ (ls : List (List ℕ)). Says MAX_LEVEL ls u) (sym (e.going (λ v. v)).0) s
 end-says bytes ended (progress.Rle reader builder runs) u e s = by u s
@@ -395,9 +405,9 @@ end-says bytes ended (progress.Rle reader builder runs) u e s = by u s
         (as_rle file (inr (lines_behind_mark_are_free MAX_LEVEL reader.lines v.0 file m).0))
 
 -- the lines of the file are those that were taken, with free ones behind them: of the same format, and with the same root
-pub end-lines : (bytes : List ℕ) (ended : ℕ) (p : Progress) (u : Universe) → IsEnd bytes ended p → Says MAX_LEVEL (taken p) u
-    → (free : List (List ℕ)) × (lines_of bytes ≡ taken p ++ free) × (is_macrocell (taken p ++ free) ≡ is_macrocell (taken p))
-    × (level_of_root MAX_LEVEL (lines_of bytes) ≡ level_of_root MAX_LEVEL (taken p))
+pub end-lines : (bytes : List ℕ) (ended : ℕ) (p : Progress) (u : Universe) → IsEnd bytes ended p → Says MAX_LEVEL (taken_lines p) u
+    → (free : List (List ℕ)) × (lines_of bytes ≡ taken_lines p ++ free) × (is_macrocell (taken_lines p ++ free) ≡ is_macrocell (taken_lines p))
+    × (level_of_root MAX_LEVEL (lines_of bytes) ≡ level_of_root MAX_LEVEL (taken_lines p))
 end-lines bytes ended progress.Undecided u e s = ([], (e.going (λ v. v)).0, refl, ap (level_of_root MAX_LEVEL) (e.going (λ v. v)).0)
 end-lines bytes ended (progress.Macrocell reader ids waiting) u e s =
     let same = (e.going (λ v. v)).0 in
@@ -421,17 +431,17 @@ end-lines bytes ended (progress.Rle reader builder runs) u e s = by u s
 lacks-mark : (lines : List (List ℕ)) → LacksHeader MAX_LEVEL lines → (file : Rle) → IsMarked MAX_LEVEL lines file → ⊥
 lacks-mark lines h file m = (decided MAX_LEVEL lines).1 (file, inr m) h
 
-lacks-going : (p : Progress) → LacksHeader MAX_LEVEL (taken p) → IsOver p → ⊥
+lacks-going : (p : Progress) → LacksHeader MAX_LEVEL (taken_lines p) → IsOver p → ⊥
 lacks-going progress.Undecided h o = o
 lacks-going (progress.Rle reader builder runs) h o = lacks-mark reader.lines h o.0 o.1
 lacks-going (progress.Macrocell reader ids waiting) h o = o
 
 -- lines without a header are refused behind their end
-pub end-lacks : (bytes : List ℕ) (ended : ℕ) (p : Progress) → IsEnd bytes ended p → LacksHeader MAX_LEVEL (taken p) → is_macrocell (taken p) ≡ false
+pub end-lacks : (bytes : List ℕ) (ended : ℕ) (p : Progress) → IsEnd bytes ended p → LacksHeader MAX_LEVEL (taken_lines p) → is_macrocell (taken_lines p) ≡ false
     → Refuses MAX_LEVEL bytes (fault_at (min (ended + 1) (2 ^ 64 - 1)) NoHeader)
 end-lacks bytes ended p e h m =
     let g = e.going (lacks-going p h) in
-    let count : length (lines_of bytes) ≡ length (taken p) = ap length g.0 in
+    let count : length (lines_of bytes) ≡ length (taken_lines p) = ap length g.0 in
     end-refused MAX_LEVEL (lines_of bytes) (fault_at (min (ended + 1) (2 ^ 64 - 1)) NoHeader)
     (subst (LacksHeader MAX_LEVEL) (sym g.0) h) (ap is_macrocell g.0 ∙ m) refl (omega (arith, g.1, count))
 
@@ -440,14 +450,14 @@ end-lacks bytes ended p e h m =
 breaks-placed : (lines : List (List ℕ)) (line : List ℕ) (kind : Kind) → Breaks MAX_LEVEL lines line kind → is_placeless kind ≡ false
 breaks-placed lines line kind = by (is_macrocell (lines ++ line ∷ []))
   where
-    by : (m : Bool) → MatchBool m (broken MAX_LEVEL lines line ≡ Some kind) (BreaksRle MAX_LEVEL lines line kind) → is_placeless kind ≡ false
+    by : (m : Bool) → MatchBool m (broken_rule MAX_LEVEL lines line ≡ Some kind) (BreaksRle MAX_LEVEL lines line kind) → is_placeless kind ≡ false
     by true h = names_line kind (broken_kind MAX_LEVEL lines line kind h)
     by false h = names_line_rle kind (Breaks-kind MAX_LEVEL lines line kind h)
 
 -- the kind of a refused line, at the number of that line
 pub fault-of-kind : (store : Nodes) (lines : List (List ℕ)) (line : List ℕ) (ended : ℕ) (kind : Kind)
-    → IsWantKind (held store) store.limit kind ⊎ Breaks MAX_LEVEL lines line kind
-    → IsWant store (fault_at (min (ended + 1) (2 ^ 64 - 1)) kind) ⊎ IsLineFault MAX_LEVEL lines line ended (fault_at (min (ended + 1) (2 ^ 64 - 1)) kind)
+    → IsShortageKind (stored_squares store) store.limit kind ⊎ Breaks MAX_LEVEL lines line kind
+    → IsShortageOf store (fault_at (min (ended + 1) (2 ^ 64 - 1)) kind) ⊎ IsLineFault MAX_LEVEL lines line ended (fault_at (min (ended + 1) (2 ^ 64 - 1)) kind)
 fault-of-kind store lines line ended kind (inl (inl m)) = inl (inl (ap (λ (k : Kind). fault_at (min (ended + 1) (2 ^ 64 - 1)) k) m))
 fault-of-kind store lines line ended kind (inl (inr f)) = inl (inr (ap (λ (k : Kind). fault_at (min (ended + 1) (2 ^ 64 - 1)) k) f.0, f.1))
 fault-of-kind store lines line ended kind (inr b) = inr (record {
@@ -458,12 +468,12 @@ fault-of-kind store lines line ended kind (inr b) = inr (record {
 -- the fault of a line that can't be kept
 pub keep-fault : (store : Nodes) (p : Progress) (kept more : List ℕ) (ended : ℕ) (fault : Fault) → IsOpen p → (IsOver p → ⊥)
     → (fault ≡ fault_of Memory) ⊎ ((fault ≡ fault_at (min (ended + 1) (2 ^ 64 - 1)) LineTooLong) × (2 ^ 20 < length kept + length more))
-    → IsWant store fault ⊎ IsLineFault MAX_LEVEL (taken p) (kept ++ more) ended fault
+    → IsShortageOf store fault ⊎ IsLineFault MAX_LEVEL (taken_lines p) (kept ++ more) ended fault
 keep-fault store p kept more ended fault o n (inl m) = inl (inl m)
 keep-fault store p kept more ended fault o n (inr (e, long)) =
     let b = long-breaks p (kept ++ more) o n (too_long (kept ++ more) (omega (arith, long, length-append kept more))) in
     inr (record {
-      breaks = subst (Breaks MAX_LEVEL (taken p) (kept ++ more)) (sym (ap (λ (f : Fault). f.kind) e)) b;
+      breaks = subst (Breaks MAX_LEVEL (taken_lines p) (kept ++ more)) (sym (ap (λ (f : Fault). f.kind) e)) b;
       place = ap (λ (f : Fault). f.place.line) e;
     })
 
@@ -488,8 +498,8 @@ bytes-more (first ∷ pieces) piece = ap (λ (b : List ℕ). first ++ b) (bytes-
 -- the fault of a line that ends
 pub line-told : (store : Nodes) (bytes kept end : List ℕ) (ended : ℕ) (p : Progress) (fault : Fault) → IsFront bytes kept ended p → (IsOver p → ⊥)
     → has_no_feed end ≡ true
-    → IsWant store fault ⊎ IsLineFault MAX_LEVEL (taken p) (kept ++ end) ended fault
-    → IsWant store fault ⊎ ((rest : List ℕ) → RefusesFront MAX_LEVEL (bytes ++ end ++ 10 ∷ [] ++ rest) fault)
+    → IsShortageOf store fault ⊎ IsLineFault MAX_LEVEL (taken_lines p) (kept ++ end) ended fault
+    → IsShortageOf store fault ⊎ ((rest : List ℕ) → RefusesFront MAX_LEVEL (bytes ++ end ++ 10 ∷ [] ++ rest) fault)
 line-told store bytes kept end ended p fault f n h (inl w) = inl w
 line-told store bytes kept end ended p fault f n h (inr b) = inr (line-refuses bytes kept end ended p fault f.begun (f.going n) h b)
 
@@ -508,7 +518,7 @@ not-true false e t = cc
 -- ---- a piece
 
 pub told-along : (store : Nodes) (front rest all : List ℕ) (fault : Fault) → front ++ rest ≡ all
-    → IsWant store fault ⊎ ((rest : List ℕ) → RefusesFront MAX_LEVEL (front ++ rest) fault) → IsWant store fault ⊎ RefusesFront MAX_LEVEL all fault
+    → IsShortageOf store fault ⊎ ((rest : List ℕ) → RefusesFront MAX_LEVEL (front ++ rest) fault) → IsShortageOf store fault ⊎ RefusesFront MAX_LEVEL all fault
 told-along store front rest all fault e (inl w) = inl w
 told-along store front rest all fault e (inr r) = inr (subst (λ (b : List ℕ). RefusesFront MAX_LEVEL b fault) e (r rest))
 
@@ -523,15 +533,16 @@ no-length [] h = refl
 no-length (b ∷ bytes) h = absurd (omega arith)
 
 pub rest-fault : (r : Result (Unit {0}) Fault) (store : Nodes) (bytes kept : List ℕ) (ended : ℕ) (p : Progress) → IsFront bytes kept ended p → 0 < length kept
-    → IfErr r (λ fault. IsWant store fault ⊎ IsLineFault MAX_LEVEL (taken p) kept ended fault)
-    → IfErr r (λ fault. Refuses MAX_LEVEL bytes fault ⊎ IsWant store fault)
+    → IfErr r (λ fault. IsShortageOf store fault ⊎ IsLineFault MAX_LEVEL (taken_lines p) kept ended fault)
+    → IfErr r (λ fault. Refuses MAX_LEVEL bytes fault ⊎ IsShortageOf store fault)
 rest-fault (Ok x) store bytes kept ended p f h e = tt
 rest-fault (Err fault) store bytes kept ended p f h (inl w) = inr w
 rest-fault (Err fault) store bytes kept ended p f h (inr b) = inl (kept-refuses bytes kept ended p fault f h b)
 
 pub end-fault : (store : Nodes) (bytes : List ℕ) (ended : ℕ) (p : Progress) (kind : Kind) → IsEnd bytes ended p
-    → IsWantKind (held store) store.limit kind ⊎ ((kind ≡ NoHeader) × LacksHeader MAX_LEVEL (taken p) × (is_macrocell (taken p) ≡ false))
-    → Refuses MAX_LEVEL bytes (fault_at (min (ended + 1) (2 ^ 64 - 1)) kind) ⊎ IsWant store (fault_at (min (ended + 1) (2 ^ 64 - 1)) kind)
+    → IsShortageKind (stored_squares store) store.limit kind
+    ⊎ ((kind ≡ NoHeader) × LacksHeader MAX_LEVEL (taken_lines p) × (is_macrocell (taken_lines p) ≡ false))
+    → Refuses MAX_LEVEL bytes (fault_at (min (ended + 1) (2 ^ 64 - 1)) kind) ⊎ IsShortageOf store (fault_at (min (ended + 1) (2 ^ 64 - 1)) kind)
 end-fault store bytes ended p kind e (inl (inl m)) = inr (inl (ap (λ (k : Kind). fault_at (min (ended + 1) (2 ^ 64 - 1)) k) m))
 end-fault store bytes ended p kind e (inl (inr f)) = inr (inr (ap (λ (k : Kind). fault_at (min (ended + 1) (2 ^ 64 - 1)) k) f.0, f.1))
 end-fault store bytes ended p kind e (inr l) =

@@ -5,8 +5,8 @@ use Rattle.std.proofs.Math.Seq.{take-append_seam, take-length}
 use Rattle.life_base.specs.Tree.{Tree, depth, tree_cell}
 use Rattle.life_base.specs.declared.cell.TheConstants.{MAX_LEVEL}
 use Rattle.life_base.specs.declared.rule.Rule.{Rule}
-use Rattle.life_mc.specs.Cells.{cell, root_level}
-use Rattle.life_mc.specs.Macrocell.{Macrocell, IsSquare, IsValid, level_of}
+use Rattle.life_mc.specs.Cells.{macrocell_cell, root_level}
+use Rattle.life_mc.specs.Macrocell.{Macrocell, IsSquare, IsValidMacrocell, level_of}
 use Rattle.life_mc.specs.Squares.{StandsForSquare, tree_of, line_tree, root_tree}
 use Rattle.life_mc.specs.declared.line.Line.{Line}
 use Rattle.life_mc.specs.declared.line.Line.TheVariants.{Leaf, Quad}
@@ -31,8 +31,8 @@ get-first (one ∷ lines) more (suc i) line e = get-first lines more i line e
 
 -- more lines, behind which the lines are valid
 module _ (rule : Rule) (generation : ℕ) (lines more : List Line)
-    (good : IsValid MAX_LEVEL (record { rule = rule; generation = generation; lines = lines ++ more })) where
-  pub first-valid : IsValid MAX_LEVEL (record { rule = rule; generation = generation; lines = lines })
+    (good : IsValidMacrocell MAX_LEVEL (record { rule = rule; generation = generation; lines = lines ++ more })) where
+  pub first-valid : IsValidMacrocell MAX_LEVEL (record { rule = rule; generation = generation; lines = lines })
   first-valid = record {
     rule = good.rule;
     generation = good.generation;
@@ -78,7 +78,7 @@ module _ (rule : Rule) (generation : ℕ) (lines more : List Line)
 
 -- one line more
 module _ (rule : Rule) (generation : ℕ) (lines : List Line) (square : Line)
-    (good : IsValid MAX_LEVEL (record { rule = rule; generation = generation; lines = lines ++ square ∷ [] })) where
+    (good : IsValidMacrocell MAX_LEVEL (record { rule = rule; generation = generation; lines = lines ++ square ∷ [] })) where
   last-here : slice_get (lines ++ square ∷ []) (length lines) ≡ Some square
   last-here = at lines
     where
@@ -129,7 +129,7 @@ get-last (z ∷ xs) x (suc i) y e = elim (get-last xs x i y e) [ inl h ↦ inl h
 
 -- one square more
 pub trees-grow : (rule : Rule) (generation : ℕ) (lines : List Line) (square : Line) (trees : List Tree) (t : Tree)
-    → IsValid MAX_LEVEL (record { rule = rule; generation = generation; lines = lines ++ square ∷ [] }) → AreTreesOf lines trees
+    → IsValidMacrocell MAX_LEVEL (record { rule = rule; generation = generation; lines = lines ++ square ∷ [] }) → AreTreesOf lines trees
     → t ≡ line_tree (tree_of lines (level_of square - 1)) square → AreTreesOf (lines ++ square ∷ []) (trees ++ t ∷ [])
 trees-grow rule generation lines square trees t good h is = record {
   count = omega (arith, length-append trees (t ∷ []), length-append lines (square ∷ []), h.count);
@@ -156,9 +156,9 @@ trees-grow rule generation lines square trees t good h is = record {
 -- ---- the root
 
 -- the square of the last line has the cells of the file
-pub root-cells : (knows : Id → Type 0) (content : Id → Tree) (file : Macrocell) (ids : List Id) (id : Id) → IsValid MAX_LEVEL file
+pub root-cells : (knows : Id → Type 0) (content : Id → Tree) (file : Macrocell) (ids : List Id) (id : Id) → IsValidMacrocell MAX_LEVEL file
     → AreSquaresOf knows content file.lines ids
-    → slice_get ids (length ids - 1) ≡ Some id → knows id × (1 ≤ depth (content id)) × ((x y : ℤ) → tree_cell (content id) x y ≡ cell file x y)
+    → slice_get ids (length ids - 1) ≡ Some id → knows id × (1 ≤ depth (content id)) × ((x y : ℤ) → tree_cell (content id) x y ≡ macrocell_cell file x y)
 root-cells knows content file ids id good h at =
     let lines = file.lines in
     let some : 0 < length lines = omega (arith, get-within ids (length ids - 1) id at, h.count) in

@@ -8,8 +8,8 @@ use Rattle.life_base.specs.Text.{lines_of}
 use Rattle.life_base.specs.Tree.{Tree, depth, tree_cell, is_blank_tree, IsFull}
 use Rattle.life_base.specs.declared.cell.TheConstants.{MAX_LEVEL}
 use Rattle.life_base.specs.declared.rule.Rule.{Rule}
-use Rattle.life_mc.specs.Macrocell.{Macrocell, IsValid, level_of}
-use Rattle.life_mc.specs.Reading.{Accepts, AreMacrocell, squares_of, square_on}
+use Rattle.life_mc.specs.Macrocell.{Macrocell, IsValidMacrocell, level_of}
+use Rattle.life_mc.specs.Reading.{AcceptsMacrocell, AreMacrocell, squares_of, square_on}
 use Rattle.life_mc.specs.Squares.{line_tree, tree_of}
 use Rattle.life_mc.specs.declared.line.Line.{Line}
 use Rattle.life_mc.specs.declared.line.Line.TheVariants.{Leaf, Quad}
@@ -17,10 +17,10 @@ use Rattle.life_mc.proofs.Accepted.{lines_are_valid}
 use Rattle.life_mc.proofs.FormatLaws.{fronts_are_files}
 use Rattle.life_mc.proofs.Squares.{lines_stand_for_squares}
 use Rattle.life_quad.specs.Refused.{SomePart}
-use Rattle.life_quad.specs.Store.{Nodes, held}
+use Rattle.life_quad.specs.Store.{Nodes, stored_squares}
 use Rattle.life_quad.specs.StoreLaws.{full_content}
 use Rattle.life_quad.specs.declared.id.Id.{Id}
-use Rattle.life_rle.specs.RunsLaw.{state_by as rle_state_by}
+use Rattle.life_rle.specs.RunsLaw.{rle_state_by}
 use Rattle.life_rle.proofs.BlockFronts.{few_blocks_in_fronts}
 use Rattle.life_strip.specs.Given.{by_columns}
 use Rattle.life_strip.specs.Needed.{SomeSquare}
@@ -29,7 +29,7 @@ use Rattle.life_canon.specs.Filling.{AreSquaresOf}
 use Rattle.life_canon.specs.Needs.{SomeOfLine, of_node_line, of_runs, grown_times, SomeRoot, trimmed_root, grown_root, SomeOfFile, of_lines, at_end, of_plane, of_root, level_of_root}
 use Rattle.life_canon.specs.Room.{HoldsFile}
 use Rattle.life_canon.specs.Store.{IsKnown, IsPatternOf, content}
-use Rattle.life_canon.specs.Universe.{Universe, centred, least_level, whole, macrocell_universe}
+use Rattle.life_canon.specs.Universe.{Universe, centred_square, least_level, whole, macrocell_universe}
 use Rattle.life_canon.specs.declared.pattern.Pattern.{Pattern}
 use Rattle.life_canon.proofs.CallFacts.{root-deep}
 use Rattle.life_canon.proofs.Formats.{files_say_one, macrocell-first}
@@ -62,10 +62,10 @@ squares-more [] more some = absurd (omega (arith, some))
 squares-more (header ∷ front) more some = (_, filter_map-append square_on front more)
 
 -- the Id of a line names the square that the lines before it say
-module _ (store : Nodes) (file : Macrocell) (ids : List Id) (good : IsValid MAX_LEVEL file)
+module _ (store : Nodes) (file : Macrocell) (ids : List Id) (good : IsValidMacrocell MAX_LEVEL file)
     (are : AreSquaresOf (IsKnown store) (content store) file.lines ids) where
   line-known : (before : List (List ℕ)) (square : Line) (rest : List Line) (rule : Rule) (generation : ℕ)
-      → IsValid MAX_LEVEL (record { rule = rule; generation = generation; lines = squares_of before ++ square ∷ [] })
+      → IsValidMacrocell MAX_LEVEL (record { rule = rule; generation = generation; lines = squares_of before ++ square ∷ [] })
       → file.lines ≡ (squares_of before ++ square ∷ []) ++ rest
       → (id : Id) × IsKnown store id × (content store id ≡ line_tree (tree_of (squares_of before) (level_of square - 1)) square)
   line-known before square rest rule generation valid e =
@@ -88,8 +88,8 @@ module _ (store : Nodes) (file : Macrocell) (ids : List Id) (good : IsValid MAX_
       )
 
   node-held : (lines before behind : List (List ℕ)) (line : List ℕ) (square : Line) → file.lines ≡ squares_of lines → lines ≡ before ++ line ∷ behind
-      → Prefix (Accepts MAX_LEVEL) (before ++ line ∷ []) → squares_of (before ++ line ∷ []) ≡ squares_of before ++ square ∷ []
-      → (t : Tree) → is_blank_tree t ≡ false → SomeOfLine (λ v. v ≡ t) (squares_of before) square → Contains (held store) t
+      → Prefix (AcceptsMacrocell MAX_LEVEL) (before ++ line ∷ []) → squares_of (before ++ line ∷ []) ≡ squares_of before ++ square ∷ []
+      → (t : Tree) → is_blank_tree t ≡ false → SomeOfLine (λ v. v ≡ t) (squares_of before) square → Contains (stored_squares store) t
   node-held lines before behind line square whole e prefix squares t live some =
       let next = next-square before (before ++ line ∷ []) line square refl prefix squares in
       let longer = length-append before (line ∷ []) in
@@ -108,16 +108,16 @@ pub record HasRoots (store : Nodes) (u : Universe) (level : ℕ) : Type 0 where
   pub known : IsKnown store root
   pub is : content store root ≡ whole MAX_LEVEL u
   pub deep : 1 ≤ depth (content store root)
-  pub grown : (n : ℕ) → level < n → n ≤ least_level u.rule → (id : Id) × IsKnown store id × (content store id ≡ centred u.cell n)
+  pub grown : (n : ℕ) → level < n → n ≤ least_level u.rule → (id : Id) × IsKnown store id × (content store id ≡ centred_square u.cell n)
 
 root-held : (store : Nodes) (u : Universe) (level : ℕ) → HasRoots store u level → (t : Tree) → is_blank_tree t ≡ false
-    → SomeRoot MAX_LEVEL (λ v. v ≡ t) u level → Contains (held store) t
+    → SomeRoot MAX_LEVEL (λ v. v ≡ t) u level → Contains (stored_squares store) t
 root-held store u level has t live (trimmed_root lower is) =
     let same = has.is ∙ is in
     known-held store has.root has.known t same live (subst (λ (v : Tree). 1 ≤ depth v) same has.deep)
 root-held store u level has t live (grown_root n higher least some) =
     let id = has.grown n higher least in
-    part-held store id.0 (centred u.cell n) t id.1 id.2 live some
+    part-held store id.0 (centred_square u.cell n) t id.1 id.2 live some
 
 -- no root is grown from the level of the whole plane
 pub none-grown : {P : Type 0} (rule : Rule) (n : ℕ) → MAX_LEVEL < n → n ≤ least_level rule → P
@@ -126,7 +126,7 @@ none-grown rule n higher least = let three = least-three rule in absurd (omega (
 -- a square that is grown from one with the cells of a pattern is that about (0, 0) of its level
 pub grown-root : (store : Nodes) (u : Universe) (t : Tree) → IsFull t → 1 ≤ depth t → ((x y : ℤ) → tree_cell t x y ≡ u.cell x y)
     → ((more : ℕ) → depth t + suc more ≤ least_level u.rule → (id : Id) × IsKnown store id × (content store id ≡ grown_times (suc more) t))
-    → (n : ℕ) → depth t < n → n ≤ least_level u.rule → (id : Id) × IsKnown store id × (content store id ≡ centred u.cell n)
+    → (n : ℕ) → depth t < n → n ≤ least_level u.rule → (id : Id) × IsKnown store id × (content store id ≡ centred_square u.cell n)
 grown-root store u t full high cells grown n higher least =
     let k : ℕ = depth t - 1 in
     let more : ℕ = n - depth t - 1 in
@@ -134,15 +134,15 @@ grown-root store u t full high cells grown n higher least =
     let c = is-centred u.cell t k full d cells in
     let id = grown more (omega (arith, higher, least)) in
     let level : suc (suc more + k) ≡ n = omega (arith, d, higher) in
-    (id.0, id.1, id.2 ∙ grown-centred u.cell (suc more) k t c.0 c.1 ∙ ap (centred u.cell) level)
+    (id.0, id.1, id.2 ∙ grown-centred u.cell (suc more) k t c.0 c.1 ∙ ap (centred_square u.cell) level)
 
 -- ---- a file of either format
 
 -- the store knows the squares of the node lines
 pub macrocell-held : (store : Nodes) (lines : List (List ℕ)) (file : Macrocell) (ids : List Id) → is_macrocell lines ≡ true
-    → AreMacrocell MAX_LEVEL lines file → IsValid MAX_LEVEL file → AreSquaresOf (IsKnown store) (content store) file.lines ids
+    → AreMacrocell MAX_LEVEL lines file → IsValidMacrocell MAX_LEVEL file → AreSquaresOf (IsKnown store) (content store) file.lines ids
     → HasRoots store (macrocell_universe file) (level_of_root MAX_LEVEL lines)
-    → (t : Tree) → is_blank_tree t ≡ false → SomeOfFile MAX_LEVEL (λ v. v ≡ t) lines → Contains (held store) t
+    → (t : Tree) → is_blank_tree t ≡ false → SomeOfFile MAX_LEVEL (λ v. v ≡ t) lines → Contains (stored_squares store) t
 macrocell-held store lines file ids m is good are roots t live (of_lines (of_node_line before line behind square e prefix squares some)) =
     node-held store file ids good are lines before behind line square is.squares e prefix squares t live some
 macrocell-held store lines file ids m is good are roots t live (of_lines (of_runs front behind runs e h some)) =
@@ -155,9 +155,9 @@ macrocell-held store lines file ids m is good are roots t live (at_end (of_root 
 
 -- the store knows the square of the whole plane
 module _ (store : Nodes) (lines : List (List ℕ)) (u : Universe) (rle : is_macrocell lines ≡ false) (says : Says MAX_LEVEL lines u) (plane : Id)
-    (known : IsKnown store plane) (is : content store plane ≡ centred u.cell (suc below_top)) (roots : HasRoots store u MAX_LEVEL) where
-  square-held : (t : Tree) → is_blank_tree t ≡ false → SomeSquare (λ v. v ≡ t) (2 ^ MAX_LEVEL) (by_columns u.cell) → Contains (held store) t
-  square-held t live s = part-held store plane (centred u.cell (suc below_top)) t known is live (plane-part u.cell t s)
+    (known : IsKnown store plane) (is : content store plane ≡ centred_square u.cell (suc below_top)) (roots : HasRoots store u MAX_LEVEL) where
+  square-held : (t : Tree) → is_blank_tree t ≡ false → SomeSquare (λ v. v ≡ t) (2 ^ MAX_LEVEL) (by_columns u.cell) → Contains (stored_squares store) t
+  square-held t live s = part-held store plane (centred_square u.cell (suc below_top)) t known is live (plane-part u.cell t s)
 
   -- the states of all runs
   states : rle_state_by (few_blocks_in_fronts MAX_LEVEL lines).runs ≡ u.cell
@@ -167,7 +167,7 @@ module _ (store : Nodes) (lines : List (List ℕ)) (u : Universe) (rle : is_macr
       by _ (as_macrocell file a) = absurd (true_false _ (macrocell-first MAX_LEVEL lines file a) rle)
       by _ (as_rle file h) = sym (file-states lines rle (few_blocks_in_fronts MAX_LEVEL lines) file h)
 
-  pub rle-held : (t : Tree) → is_blank_tree t ≡ false → SomeOfFile MAX_LEVEL (λ v. v ≡ t) lines → Contains (held store) t
+  pub rle-held : (t : Tree) → is_blank_tree t ≡ false → SomeOfFile MAX_LEVEL (λ v. v ≡ t) lines → Contains (stored_squares store) t
   rle-held t live (of_lines (of_node_line before line behind square e prefix squares some)) =
       let longer = length-append before (line ∷ []) in
       let file = (fronts_are_files MAX_LEVEL (before ++ line ∷ []) (omega (arith, longer))).0 prefix in
@@ -192,7 +192,7 @@ module _ (store : Nodes) (lines : List (List ℕ)) (u : Universe) (rle : is_macr
 -- the root of a pattern that was read
 roots-of : (store : Nodes) (bytes : List ℕ) (u : Universe) (pattern : Pattern) (level : ℕ) → Reads MAX_LEVEL bytes u
     → IsPatternOf MAX_LEVEL (IsKnown store) (content store) u pattern
-    → ((n : ℕ) → level < n → n ≤ least_level u.rule → (id : Id) × IsKnown store id × (content store id ≡ centred u.cell n)) → HasRoots store u level
+    → ((n : ℕ) → level < n → n ≤ least_level u.rule → (id : Id) × IsKnown store id × (content store id ≡ centred_square u.cell n)) → HasRoots store u level
 roots-of store bytes u pattern level reads is grown = record {
   root = pattern.root;
   known = is.known;
@@ -204,7 +204,7 @@ roots-of store bytes u pattern level reads is grown = record {
 -- of an RLE file: the store knows the square of the whole plane
 pub rle-holds : (store : Nodes) (bytes : List ℕ) (u : Universe) (pattern : Pattern) (plane : Id) → is_macrocell (lines_of bytes) ≡ false
     → Reads MAX_LEVEL bytes u → IsPatternOf MAX_LEVEL (IsKnown store) (content store) u pattern → IsKnown store plane
-    → depth (content store plane) ≡ MAX_LEVEL → ((x y : ℤ) → tree_cell (content store plane) x y ≡ u.cell x y) → HoldsFile bytes (held store)
+    → depth (content store plane) ≡ MAX_LEVEL → ((x y : ℤ) → tree_cell (content store plane) x y ≡ u.cell x y) → HoldsFile bytes (stored_squares store)
 rle-holds store bytes u pattern plane rle reads is known level cells =
     let top : MAX_LEVEL ≡ suc below_top = omega arith in
     let whole = (is-centred u.cell (content store plane) below_top (full_content store plane known.0) (level ∙ top) cells).0 in
@@ -218,7 +218,7 @@ pub macrocell-holds : (store : Nodes) (bytes : List ℕ) (file : Macrocell) (ids
     → ((x y : ℤ) → tree_cell (content store last) x y ≡ (macrocell_universe file).cell x y)
     → ((more : ℕ) → depth (content store last) + suc more ≤ least_level file.rule
     → (id : Id) × IsKnown store id × (content store id ≡ grown_times (suc more) (content store last)))
-    → HoldsFile bytes (held store)
+    → HoldsFile bytes (stored_squares store)
 macrocell-holds store bytes file ids pattern last m are squares is known high level cells grown =
     let u = macrocell_universe file in
     let roots = grown-root store u (content store last) (full_content store last known.0) high cells grown in

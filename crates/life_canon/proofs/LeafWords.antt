@@ -10,7 +10,7 @@ use Rattle.life_lanes.proofs.WordLemmas.{bit-mod, bit-shr}
 use Rattle.life_mc.specs.Cells.{leaf_cell}
 use Rattle.life_mc.specs.Squares.{tree_at}
 use Rattle.life_quad.specs.Store.{two, four}
-use Rattle.life_canon.specs.Rows.{row_of_four, rows_side_by_side, square_in}
+use Rattle.life_canon.specs.Rows.{row_of_four, rows_side_by_side, square_of_bits}
 
 -- ---- a word and its bytes
 
@@ -82,23 +82,23 @@ quarter_test x y k p = 63 - place_in_leaf (y + row_of p) (x + column_of p) == 15
 
 module _ (rows : List ℕ) (cells : ℕ) (bits : (r i : ℕ) → r < 8 → i < 8 → bit_at cells (63 - place_in_leaf r i) ≡ leaf_cell rows i r) where
   quarter-of : (x y k : ℕ) → x ≤ 4 → y ≤ 4 → all_below 16 (quarter_test x y k) ≡ true
-      → square_in cells k ≡ square (λ p. leaf_cell rows (x + column_of p) (y + row_of p))
+      → square_of_bits cells k ≡ square (λ p. leaf_cell rows (x + column_of p) (y + row_of p))
   quarter-of x y k lx ly t =
       four-of (cells / 2 ^ k % 2 ^ 16) (λ p. leaf_cell rows (x + column_of p) (y + row_of p)) (small (cells / 2 ^ k)) (λ p l.
       let at : 63 - place_in_leaf (y + row_of p) (x + column_of p) ≡ 15 - p + k = equal _ _ (all_below_at 16 (quarter_test x y k) p t l) in
       sixteenth cells k p ∙ ap (bit_at cells) (sym at)
       ∙ bits (y + row_of p) (x + column_of p) (omega (arith, ly, l)) (omega (arith, lx, l)))
 
-  pub leaf-nw : square_in cells 48 ≡ tree_at (leaf_cell rows) 2 0 0
+  pub leaf-nw : square_of_bits cells 48 ≡ tree_at (leaf_cell rows) 2 0 0
   leaf-nw = quarter-of 0 0 48 (omega arith) (omega arith) refl
 
-  pub leaf-ne : square_in cells 32 ≡ tree_at (leaf_cell rows) 2 4 0
+  pub leaf-ne : square_of_bits cells 32 ≡ tree_at (leaf_cell rows) 2 4 0
   leaf-ne = quarter-of 4 0 32 (omega arith) (omega arith) refl
 
-  pub leaf-sw : square_in cells 16 ≡ tree_at (leaf_cell rows) 2 0 4
+  pub leaf-sw : square_of_bits cells 16 ≡ tree_at (leaf_cell rows) 2 0 4
   leaf-sw = quarter-of 0 4 16 (omega arith) (omega arith) refl
 
-  pub leaf-se : square_in cells 0 ≡ tree_at (leaf_cell rows) 2 4 4
+  pub leaf-se : square_of_bits cells 0 ≡ tree_at (leaf_cell rows) 2 4 4
   leaf-se = quarter-of 4 4 0 (omega arith) (omega arith) refl
 
 -- ---- from squares of level 2 to rows
@@ -153,7 +153,8 @@ module _ (word cells : ℕ) (order : (r i : ℕ) → r < 8 → i < 8 → bit_at 
     eastern : (i : ℕ) → i < 4 → bit_at cells (63 - place_in_leaf row (4 + i)) ≡ bit_at (cells / 2 ^ (32 - 32 * half) % 2 ^ 16) (15 - place_in y i)
     eastern i li = ap (bit_at cells) (equal _ _ (right_of_and _ _ (tested i li))) ∙ sym (sixteenth cells (32 - 32 * half) (place_in y i))
 
-    row-of_squares : word / 2 ^ (8 * (7 - row)) % 256 ≡ 16 * row_of_four (square_in cells (48 - 32 * half)) y + row_of_four (square_in cells (32 - 32 * half)) y
+    row-of_squares : word / 2 ^ (8 * (7 - row)) % 256 ≡ 16 * row_of_four (square_of_bits cells (48 - 32 * half)) y
+        + row_of_four (square_of_bits cells (32 - 32 * half)) y
     row-of_squares =
         of_halves _ _ _ _ _ _ _ _ _ _ _ _ _ _ _ _ _ _ _ (byte-sum (word / 2 ^ (8 * (7 - row))))
         (bit-of 0 (omega arith) ∙ western 0 (omega arith)) (bit-of 1 (omega arith) ∙ western 1 (omega arith))
@@ -172,8 +173,8 @@ module _ (word cells : ℕ) (order : (r i : ℕ) → r < 8 → i < 8 → bit_at 
   whole : (m : ℕ) → m % 256 ≡ m / 2 ^ 0 % 256
   whole m = omega arith
 
-  pub rows-of_word : to_be_bytes w64 word ≡ rows_side_by_side (square_in cells 48) (square_in cells 32)
-      ++ rows_side_by_side (square_in cells 16) (square_in cells 0)
+  pub rows-of_word : to_be_bytes w64 word ≡ rows_side_by_side (square_of_bits cells 48) (square_of_bits cells 32)
+      ++ rows_side_by_side (square_of_bits cells 16) (square_of_bits cells 0)
   rows-of_word =
       eight_bytes
       (row-of_squares 0 0 (omega arith) (omega arith)) (row-of_squares 0 1 (omega arith) (omega arith))

@@ -5,15 +5,15 @@ use Rattle.std.proofs.lemmas.Bool.Decides.{nat_tests}
 use Rattle.life_base.specs.Tree.{Tree, quad, depth, blank, is_blank_tree as is_blank}
 use Rattle.life_base.specs.declared.rule.Rule.{Rule}
 use Rattle.life_base.specs.declared.rule.Rule.TheVariants.{Life, Named}
-use Rattle.life_mc.specs.Macrocell.{Macrocell, IsValid, level_of}
-use Rattle.life_mc.specs.Cells.{cell as macrocell_cell, root_level}
+use Rattle.life_mc.specs.Macrocell.{Macrocell, IsValidMacrocell, level_of}
+use Rattle.life_mc.specs.Cells.{macrocell_cell, root_level}
 use Rattle.life_mc.specs.Squares.{line_tree, tree_of, root_tree}
 use Rattle.life_mc.specs.declared.line.Line.{Line}
 use Rattle.life_mc.specs.declared.line.Line.TheVariants.{Leaf, Quad}
 use Rattle.life_mc.proofs.Squares.{lines_stand_for_squares}
-use Rattle.life_canon.specs.Universe.{Universe, IsSame, macrocell_universe, is_life, least_level, corner, centred, whole, IsBlankOutside, IsOnPlane}
-use Rattle.life_canon.specs.Listing.{same_tree, is_small, walk, is_in, with_all, listed, lines_for, canonical_file}
-use Rattle.life_canon.specs.Least.{IsRival, IsLineOf, HasPlaces}
+use Rattle.life_canon.specs.Universe.{Universe, IsSame, macrocell_universe, is_life, least_level, corner, centred_square, whole, IsBlankOutside, IsOnPlane}
+use Rattle.life_canon.specs.Listing.{same_tree, is_small, walk, is_in, with_all, listed_squares, lines_for, canonical_file}
+use Rattle.life_canon.specs.Least.{IsRival, IsLineOf, SquaresHaveNodeLines}
 use Rattle.life_canon.proofs.TreeWords.{HasDepth, point_depth, quad_depth, has_blank_border, middle, trim_times, trimmed_to as trimmed}
 use Rattle.life_canon.proofs.LineWords.{line_at, IsQuarter, IsValidLine}
 use Rattle.life_canon.proofs.LineFacts.{tree_of-line, get-line_at, squares-valid, root_level-last}
@@ -105,7 +105,7 @@ unfolding line_square
 line_squares-at lines n i h = line_squares-has lines n i h
 
 -- the square of a number has its level
-number-depth : (top : ℕ) (f : Macrocell) → IsValid top f → (k i number : ℕ) → i ≤ length f.lines → IsQuarter f.rule f.lines i k number
+number-depth : (top : ℕ) (f : Macrocell) → IsValidMacrocell top f → (k i number : ℕ) → i ≤ length f.lines → IsQuarter f.rule f.lines i k number
     → HasDepth k (tree_of f.lines k number)
 number-depth top f v zero i number l q = point_depth
 number-depth top f v (suc k) i zero l q = blank-depth (suc k)
@@ -118,7 +118,7 @@ number-depth top f v (suc k) i (suc j) l (inr c) =
     (subst (λ n. HasDepth n (tree_of f.lines (level_of (line_at f.lines j)) (suc j))) s.depth_is (full-depth _ s.full))
 
 -- the walk over a child's square meets squares of lines alone
-walk-lines : (top m : ℕ) (f : Macrocell) → IsValid top f → (3 ≤ m) ⊎ NoLeaves f.lines → (k i number : ℕ) → i ≤ length f.lines
+walk-lines : (top m : ℕ) (f : Macrocell) → IsValidMacrocell top f → (3 ≤ m) ⊎ NoLeaves f.lines → (k i number : ℕ) → i ≤ length f.lines
     → IsQuarter f.rule f.lines i k number
     → (t : Tree) → is_in (walk (tree_of f.lines k number) m) t ≡ true → is_in (line_squares f.lines i) t ≡ true
 walk-lines top m f v leaves zero i number l q t h = absurd (true_false false h refl)
@@ -290,11 +290,11 @@ once-front (x ∷ xs) ys h = (not_in xs x (λ i. true_false _ (is_in-left xs ys 
 one_more : (n m : ℕ) → n ≡ suc m → n ≡ m + 1
 one_more n m e = omega arith
 
-listed-small : (t : Tree) (m : ℕ) → is_small m t ≡ true → listed t m ≡ []
-unfolding listed
+listed-small : (t : Tree) (m : ℕ) → is_small m t ≡ true → listed_squares t m ≡ []
+unfolding listed_squares
 listed-small t m h = ap (with_all []) (walk-small t m h)
 
-pub quarter-last : (top : ℕ) (f : Macrocell) → IsValid top f → 0 < length f.lines → IsQuarter f.rule f.lines (length f.lines) (root_level f.lines)
+pub quarter-last : (top : ℕ) (f : Macrocell) → IsValidMacrocell top f → 0 < length f.lines → IsQuarter f.rule f.lines (length f.lines) (root_level f.lines)
     (length f.lines)
 quarter-last top f v h =
     let r = rooted top f v h in
@@ -326,11 +326,13 @@ numbered lines (suc n) t h = elim (bool_cases (same_tree (line_square lines n) t
 ]
 
 -- a line's square has the line's level
-line_square-depth : (top : ℕ) (f : Macrocell) → IsValid top f → (i : ℕ) → i < length f.lines → depth (line_square f.lines i) ≡ level_of (line_at f.lines i)
+line_square-depth : (top : ℕ) (f : Macrocell) → IsValidMacrocell top f → (i : ℕ) → i < length f.lines → depth (line_square f.lines i)
+    ≡ level_of (line_at f.lines i)
 unfolding line_square
 line_square-depth top f v i h = ((lines_stand_for_squares top f v).each (suc i) (line_at f.lines i) (get-line_at f.lines i h)).depth_is
 
-line_square-own : (top : ℕ) (f : Macrocell) → IsValid top f → (i : ℕ) (t : Tree) → i < length f.lines → line_square f.lines i ≡ t → IsLineOf f t (suc i)
+line_square-own : (top : ℕ) (f : Macrocell) → IsValidMacrocell top f → (i : ℕ) (t : Tree) → i < length f.lines → line_square f.lines i ≡ t
+    → IsLineOf f t (suc i)
 unfolding line_square
 line_square-own top f v i t h e =
     let d : depth t ≡ level_of (line_at f.lines i) = ap depth (sym e) ∙ line_square-depth top f v i h in
@@ -346,12 +348,12 @@ root-square f h =
 
 record IsTrimmedList (f : Macrocell) (w : Tree) (m : ℕ) : Type 0 where
   front : List Tree
-  is : listed w m ≡ front ++ w ∷ []
+  is : listed_squares w m ≡ front ++ w ∷ []
   once : NoRepeats front
   of_lines : (t : Tree) → is_in front t ≡ true → is_in (line_squares f.lines (length f.lines)) t ≡ true
   no_root : is_in front (root_tree f.lines) ≡ false
 
-deep-list : (top m : ℕ) (f : Macrocell) → IsValid top f → (3 ≤ m) ⊎ NoLeaves f.lines → 1 ≤ m → 0 < length f.lines → m ≤ root_level f.lines
+deep-list : (top m : ℕ) (f : Macrocell) → IsValidMacrocell top f → (3 ≤ m) ⊎ NoLeaves f.lines → 1 ≤ m → 0 < length f.lines → m ≤ root_level f.lines
     → {j : ℕ} {w : Tree} → HasDepth j w → w ≡ trimmed (root_tree f.lines) m → is_small m w ≡ false → IsTrimmedList f w m
 unfolding trimmed
 deep-list top m f v leaves le h deep {w = w} hw e s =
@@ -381,7 +383,7 @@ deep-list top m f v leaves le h deep {w = w} hw e s =
     }
 
 -- where the root has a level of at most m, the list has at most one square
-low-list : (m : ℕ) {w : Tree} → 1 ≤ m → HasDepth m w → (t : Tree) → is_in (listed w m) t ≡ true → t ≡ w
+low-list : (m : ℕ) {w : Tree} → 1 ≤ m → HasDepth m w → (t : Tree) → is_in (listed_squares w m) t ≡ true → t ≡ w
 low-list m {w = w} le hw t z = least-walk m t hw (le_from m m refl) (listed-walk w m t z)
 
 none_left : (a b : ℕ) → a ≡ b → a - b ≡ 0
@@ -393,13 +395,13 @@ trimmed-least m t h = let e : depth t - m ≡ 0 = none_left (depth t) m (depth_i
 
 -- the trimmed form of a valid file's cells: that of its root, or all of level m
 record IsFromRoot (f : Macrocell) (top m : ℕ) : Type 0 where
-  shape : ((m ≤ root_level f.lines) × (trimmed (centred (macrocell_cell f) top) m ≡ trimmed (root_tree f.lines) m))
-      ⊎ (trimmed (centred (macrocell_cell f) top) m ≡ centred (macrocell_cell f) m)
+  shape : ((m ≤ root_level f.lines) × (trimmed (centred_square (macrocell_cell f) top) m ≡ trimmed (root_tree f.lines) m))
+      ⊎ (trimmed (centred_square (macrocell_cell f) top) m ≡ centred_square (macrocell_cell f) m)
 
 pub sum_back : (a b c : ℕ) → a ≡ suc b → a ≤ suc c → suc ((c - b) + b) ≡ suc c
 sum_back a b c p q = omega arith
 
-from_root : (top m : ℕ) (f : Macrocell) → 3 ≤ suc top → 1 ≤ m → m ≤ suc top → IsValid (suc top) f → 0 < length f.lines → IsFromRoot f (suc top) m
+from_root : (top m : ℕ) (f : Macrocell) → 3 ≤ suc top → 1 ≤ m → m ≤ suc top → IsValidMacrocell (suc top) f → 0 < length f.lines → IsFromRoot f (suc top) m
 from_root top m f high le most v h =
     let g = macrocell_cell f in
     let k = root_level f.lines in
@@ -412,7 +414,7 @@ from_root top m f high le most v h =
       shape = elim (le_or_lt m k) [
         | inl d ↦ inl (
           d,
-          ap (λ n. trimmed (centred g n) m) (sym (sum_back k j top e top_k))
+          ap (λ n. trimmed (centred_square g n) m) (sym (sum_back k j top e top_k))
               ∙ centred-trimmed g m (top - j) j le (subst (λ n. m ≤ n) e d) out
               ∙ ap (λ t. trimmed t m) r.cells,
         )
@@ -421,10 +423,10 @@ from_root top m f high le most v h =
             let u : m ≡ suc i = omega arith in
             let w : suc ((i - j) + j) ≡ suc i = sum_back (suc j) j i refl (omega (arith, e)) in
             let out' : IsBlankOutside (suc i) g = subst (λ n. IsBlankOutside n g) w (outside-by g (i - j) j out) in
-            inr (ap (λ n. trimmed (centred g n) m) (sym (sum_back m i top u most))
+            inr (ap (λ n. trimmed (centred_square g n) m) (sym (sum_back m i top u most))
             ∙ centred-trimmed g m (top - i) i le (omega arith) out'
-            ∙ ap (λ n. trimmed (centred g n) m) (sym u)
-            ∙ trimmed-least m (centred g m) (centred-depth g m))
+            ∙ ap (λ n. trimmed (centred_square g n) m) (sym u)
+            ∙ trimmed-least m (centred_square g m) (centred-depth g m))
       ];
     }
 
@@ -445,8 +447,8 @@ record IsLine (f : Macrocell) (w t : Tree) (number : ℕ) : Type 0 where
 
 no_lines-blank : (top : ℕ) (u : Universe) (f : Macrocell) → least_level u.rule ≤ suc top → IsOnPlane (suc top) u → IsSame u (macrocell_universe f)
     → length f.lines ≡ 0
-    → listed (whole (suc top) u) (least_level u.rule) ≡ []
-unfolding centred
+    → listed_squares (whole (suc top) u) (least_level u.rule) ≡ []
+unfolding centred_square
 no_lines-blank top u f le h same z =
     let w = whole-is top u le h in
     let b : whole (suc top) u ≡ blank (suc w.level) =
@@ -467,9 +469,9 @@ place_for-own f w t h = rw h refl
 
 -- the squares of the list but its last stand for lines of their own, none of them the root's
 record AreApart (f : Macrocell) (w : Tree) (m : ℕ) : Type 0 where
-  others : (t : Tree) → is_in (listed w m) t ≡ true → same_tree t w ≡ false → is_in (line_squares f.lines (length f.lines)) t ≡ true
-  no_root : (t : Tree) → is_in (listed w m) t ≡ true → same_tree t w ≡ false → root_tree f.lines ≡ t → ⊥
-  few : length (listed w m) ≤ length f.lines
+  others : (t : Tree) → is_in (listed_squares w m) t ≡ true → same_tree t w ≡ false → is_in (line_squares f.lines (length f.lines)) t ≡ true
+  no_root : (t : Tree) → is_in (listed_squares w m) t ≡ true → same_tree t w ≡ false → root_tree f.lines ≡ t → ⊥
+  few : length (listed_squares w m) ≤ length f.lines
 
 line_squares-root : (f : Macrocell) → 0 < length f.lines → is_in (line_squares f.lines (length f.lines)) (root_tree f.lines) ≡ true
 line_squares-root f h = subst (λ t. is_in (line_squares f.lines (length f.lines)) t ≡ true) (root-square f h)
@@ -487,12 +489,12 @@ apart-deep f w m some l = record {
       ] in
       let long : length (root_tree f.lines ∷ l.front) ≤ length (line_squares f.lines (length f.lines)) = no_longer (root_tree f.lines ∷ l.front)
       (line_squares f.lines (length f.lines)) (l.no_root, l.once) all in
-      let a : length (listed w m) ≡ length l.front + 1 = ap length l.is ∙ length-append l.front (w ∷ []) in
+      let a : length (listed_squares w m) ≡ length l.front + 1 = ap length l.is ∙ length-append l.front (w ∷ []) in
       let b : length (line_squares f.lines (length f.lines)) ≡ length f.lines = line_squares-length f.lines (length f.lines) in
       omega arith;
 }
   where
-    in_front : (t : Tree) → is_in (listed w m) t ≡ true → same_tree t w ≡ false → is_in l.front t ≡ true
+    in_front : (t : Tree) → is_in (listed_squares w m) t ≡ true → same_tree t w ≡ false → is_in l.front t ≡ true
     in_front t z n = elim (is_in-append_cases l.front (w ∷ []) t (subst (λ y. is_in y t ≡ true) l.is z)) [
       | inl i ↦ i
       | inr i ↦ absurd (true_false _ (ap (λ y. same_tree y w) (sym (is_in-one w t i)) ∙ same_tree-refl w) n)
@@ -502,32 +504,33 @@ apart-low : (f : Macrocell) (w : Tree) (m : ℕ) → 0 < length f.lines → 1 �
 apart-low f w m some le h = record {
   others = λ t z n. absurd (never t z n);
   no_root = λ t z n e. absurd (never t z n);
-  few = at_most (no_longer (listed w m) (w ∷ []) (listed-once w m)
+  few = at_most (no_longer (listed_squares w m) (w ∷ []) (listed-once w m)
       (λ t z. subst (λ y. is_in (w ∷ []) y ≡ true) (sym (low-list m le h t z)) (or_left _ _ (same_tree-refl w))));
 }
   where
-    never : (t : Tree) → is_in (listed w m) t ≡ true → same_tree t w ≡ false → ⊥
+    never : (t : Tree) → is_in (listed_squares w m) t ≡ true → same_tree t w ≡ false → ⊥
     never t z n = true_false _ (ap (λ y. same_tree y w) (low-list m le h t z) ∙ same_tree-refl w) n
 
-    at_most : length (listed w m) ≤ 1 → length (listed w m) ≤ length f.lines
+    at_most : length (listed_squares w m) ≤ 1 → length (listed_squares w m) ≤ length f.lines
     at_most l = omega arith
 
 apart-small : (f : Macrocell) (w : Tree) (m : ℕ) → is_small m w ≡ true → AreApart f w m
 apart-small f w m s = record { others = λ t z n. absurd (never t z); no_root = λ t z n e. absurd (never t z); few = rw (listed-small w m s) (omega arith) }
   where
-    never : (t : Tree) → is_in (listed w m) t ≡ true → ⊥
+    never : (t : Tree) → is_in (listed_squares w m) t ≡ true → ⊥
     never t z = true_false false (subst (λ l. is_in l t ≡ true) (listed-small w m s) z) refl
 
-apart : (top : ℕ) (u : Universe) (f : Macrocell) → 3 ≤ suc top → IsOnPlane (suc top) u → IsValid (suc top) f → IsSame u (macrocell_universe f) → IsRival f
+apart : (top : ℕ) (u : Universe) (f : Macrocell) → 3 ≤ suc top → IsOnPlane (suc top) u → IsValidMacrocell (suc top) f → IsSame u (macrocell_universe f)
+    → IsRival f
     → 0 < length f.lines
     → AreApart f (whole (suc top) u) (least_level u.rule)
-unfolding centred
+unfolding centred_square
 apart top u f high h v same rival l =
     let m = least_level u.rule in
     let le = least-high u.rule (suc top) high in
     let wi = whole-is top u le h in
     let w = whole (suc top) u in
-    let e : w ≡ trimmed (centred (macrocell_cell f) (suc top)) m =
+    let e : w ≡ trimmed (centred_square (macrocell_cell f) (suc top)) m =
     whole-trimmed (suc top) u ∙ ap (λ x. trimmed x m) (square-same u.cell (macrocell_cell f) same.cells (suc top) (corner (suc top)) (corner (suc top))) in
     elim (bool_cases (is_small m w)) [
       | inl s ↦ apart-small f w m s
@@ -539,8 +542,8 @@ apart top u f high h v same rival l =
     ]
 
 -- the squares of the list have lines, no two of them one line
-pub has-places : (top : ℕ) (u : Universe) (f : Macrocell) → 3 ≤ suc top → IsOnPlane (suc top) u → IsValid (suc top) f → IsSame u (macrocell_universe f)
-    → IsRival f → HasPlaces (suc top) u f
+pub has-places : (top : ℕ) (u : Universe) (f : Macrocell) → 3 ≤ suc top → IsOnPlane (suc top) u → IsValidMacrocell (suc top) f → IsSame u (macrocell_universe f)
+    → IsRival f → SquaresHaveNodeLines (suc top) u f
 has-places top u f high h v same rival = elim (le_or_lt 1 (length f.lines)) [
   | inl l ↦
       let w = whole (suc top) u in
@@ -578,8 +581,9 @@ has-places top u f high h v same rival = elim (le_or_lt 1 (length f.lines)) [
         ];
       }
   | inr l ↦
-      let none : listed (whole (suc top) u) (least_level u.rule) ≡ [] = no_lines-blank top u f (least-high u.rule (suc top) high) h same (omega arith) in
-      let never : (t : Tree) → is_in (listed (whole (suc top) u) (least_level u.rule)) t ≡ true
+      let none : listed_squares (whole (suc top) u) (least_level u.rule)
+      ≡ [] = no_lines-blank top u f (least-high u.rule (suc top) high) h same (omega arith) in
+      let never : (t : Tree) → is_in (listed_squares (whole (suc top) u) (least_level u.rule)) t ≡ true
       → ⊥ = λ t z. true_false false (subst (λ y. is_in y t ≡ true) none z) refl in
       record {
         line_for = λ t. 0;
@@ -597,14 +601,15 @@ has-places top u f high h v same rival = elim (le_or_lt 1 (length f.lines)) [
         sym (root-square f l) ∙ ap (line_square f.lines) i ∙ r.square
 
 -- the canonical file has no more lines
-pub least : (top : ℕ) (u : Universe) (f : Macrocell) → 3 ≤ suc top → IsOnPlane (suc top) u → IsValid (suc top) f → IsSame u (macrocell_universe f) → IsRival f
+pub least : (top : ℕ) (u : Universe) (f : Macrocell) → 3 ≤ suc top → IsOnPlane (suc top) u → IsValidMacrocell (suc top) f → IsSame u (macrocell_universe f)
+    → IsRival f
     → length (canonical_file (suc top) u).lines ≤ length f.lines
 unfolding canonical_file
 least top u f high h v same rival =
     let m = least_level u.rule in
     let w = whole (suc top) u in
-    let n : length (lines_for u.rule (listed w m)) ≡ length (listed w m) = length-lines_for u.rule (listed w m) in
-    let few : length (listed w m) ≤ length f.lines = elim (le_or_lt 1 (length f.lines)) [
+    let n : length (lines_for u.rule (listed_squares w m)) ≡ length (listed_squares w m) = length-lines_for u.rule (listed_squares w m) in
+    let few : length (listed_squares w m) ≤ length f.lines = elim (le_or_lt 1 (length f.lines)) [
       | inl l ↦ (apart top u f high h v same rival l).few
       | inr l ↦ subst (λ y. length y ≤ length f.lines) (sym (no_lines-blank top u f (least-high u.rule (suc top) high) h same (omega arith))) (omega arith)
     ] in

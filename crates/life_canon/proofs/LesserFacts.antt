@@ -5,7 +5,7 @@ use Rattle.std.proofs.lemmas.List.Edits.{take-paste}
 use Rattle.std.proofs.lemmas.List.{take-append-le}
 use Rattle.life_mc.specs.Writing.{node_text}
 use Rattle.life_mc.specs.declared.line.Line.{Line}
-use Rattle.life_canon.specs.Lesser.{IsUpTo, IsLesser, IsLesserText, IsOldHeld, IsOldLesser, IsWithin, Holds, LinesCome}
+use Rattle.life_canon.specs.Lesser.{IsUpTo, IsLesser, IsLesserText, IsOldHeld, IsOldLesser, IsWithinTexts, LesserHolds, LinesCome}
 use Rattle.life_canon.specs.declared.lesser.Lesser.{Lesser}
 use Rattle.life_canon.specs.declared.lesser.Lesser.TheVariants.{Undecided, New, Old}
 use Rattle.life_canon.proofs.OrderFacts.{up-to-itself, up-to-behind, up-to-longer}
@@ -65,16 +65,16 @@ module _ (front rest piece old : List ℕ) (whole : old ≡ front ++ rest) where
 
 -- the same of a piece behind an old text
 pub holds-behind : (old piece items held : List ℕ) (count end : ℕ) (lesser : Lesser) → items ≡ old ++ piece → end ≡ length old → count ≤ end
-    → Holds (take end items) (take count items ++ drop end items) lesser held → Holds old (take count old ++ piece) lesser held
+    → LesserHolds (take end items) (take count items ++ drop end items) lesser held → LesserHolds old (take count old ++ piece) lesser held
 holds-behind old piece items held count end lesser e long order h =
     let size : length old ≡ end = sym long in
     let within : count ≤ length old = omega (arith, long, order) in
     let new : take count items ++ drop end items ≡ take count old ++ piece =
     ap₂ (λ (a b : List ℕ). a ++ b) (ap (take count) e ∙ take-append-le count old piece within) (ap (drop end) e ∙ drop_at old piece end size) in
-    subst₂ (λ (a b : List ℕ). Holds a b lesser held) (ap (take end) e ∙ take_at old piece end size) new h
+    subst₂ (λ (a b : List ℕ). LesserHolds a b lesser held) (ap (take end) e ∙ take_at old piece end size) new h
 
 -- what is undecided is within the old text
-pub is-within : (old new held : List ℕ) (lesser : Lesser) → Holds old new lesser held → IsWithin lesser held
+pub is-within : (old new held : List ℕ) (lesser : Lesser) → LesserHolds old new lesser held → IsWithinTexts lesser held
 is-within old new held (Undecided count) h =
     let long : min count (length old) ≡ length new = sym (length-take count old) ∙ ap length h.is.1 in
     subst (λ (text : List ℕ). count ≤ length text) (sym h.bytes) (omega (arith, long, h.is.0))
@@ -84,7 +84,7 @@ is-within old new held Old h = tt
 -- ---- in the end
 
 module _ (old new held : List ℕ) where
-  old-held : Holds old new Old held → IsOldHeld old new Old held
+  old-held : LesserHolds old new Old held → IsOldHeld old new Old held
   old-held h = λ _. (h.bytes, subst (IsUpTo old) (append-nil new) (h.is []))
 
   end-of-old : IsOldHeld old new Old held → IsLesserText old new held
@@ -96,7 +96,7 @@ module _ (old new held : List ℕ) where
         second = subst (λ (text : List ℕ). IsUpTo text new) (sym k.0) k.1;
       }
 
-  end-of-new : Holds old new New held → IsLesserText old new held
+  end-of-new : LesserHolds old new New held → IsLesserText old new held
   end-of-new h = record {
     one = inr h.bytes;
     first = subst (λ (text : List ℕ). IsUpTo text old) (append-nil new ∙ sym h.bytes) (h.is []);
@@ -104,7 +104,7 @@ module _ (old new held : List ℕ) where
   }
 
   -- a text with which the other begins is the lesser one
-  end-of-both : (count : ℕ) → Holds old new (Undecided count) held → IsLesserText old new (take count held)
+  end-of-both : (count : ℕ) → LesserHolds old new (Undecided count) held → IsLesserText old new (take count held)
   end-of-both count h =
       let e : take count held ≡ new = ap (take count) h.bytes ∙ h.is.1 in
       let whole : new ++ drop count old ≡ old = ap (λ (text : List ℕ). text ++ drop count old) (sym h.is.1) ∙ take-append-drop count old in
@@ -115,25 +115,25 @@ module _ (old new held : List ℕ) where
       }
 
   -- after a walk that returned this
-  pub ended-old : {A E : Type 0} (lesser : Lesser) → lesser ≡ Old → (r : Result A E) → OnOk r (Holds old new lesser held)
+  pub ended-old : {A E : Type 0} (lesser : Lesser) → lesser ≡ Old → (r : Result A E) → OnOk r (LesserHolds old new lesser held)
       → OnErr r (IsOldHeld old new lesser held) → IsLesserText old new held
-  ended-old lesser last (Ok x) h k = end-of-old (old-held (subst (λ (l : Lesser). Holds old new l held) last h))
+  ended-old lesser last (Ok x) h k = end-of-old (old-held (subst (λ (l : Lesser). LesserHolds old new l held) last h))
   ended-old lesser last (Err x) h k = end-of-old (subst (λ (l : Lesser). IsOldHeld old new l held) last k)
 
-  pub ended-new : {A E : Type 0} (lesser : Lesser) → lesser ≡ New → (r : Result A E) (x : A) → r ≡ Ok x → OnOk r (Holds old new lesser held)
+  pub ended-new : {A E : Type 0} (lesser : Lesser) → lesser ≡ New → (r : Result A E) (x : A) → r ≡ Ok x → OnOk r (LesserHolds old new lesser held)
       → IsLesserText old new held
   ended-new {A = A} {E = E} lesser last r x e h =
-      end-of-new (subst (λ (l : Lesser). Holds old new l held) last (subst (λ (t : Result A E). OnOk t (Holds old new lesser held)) e h))
+      end-of-new (subst (λ (l : Lesser). LesserHolds old new l held) last (subst (λ (t : Result A E). OnOk t (LesserHolds old new lesser held)) e h))
 
   pub ended-both : {A E : Type 0} (lesser : Lesser) (count : ℕ) → lesser ≡ Undecided count → (r : Result A E) (x : A) → r ≡ Ok x
-      → OnOk r (Holds old new lesser held) → IsLesserText old new (take count held)
+      → OnOk r (LesserHolds old new lesser held) → IsLesserText old new (take count held)
   ended-both {A = A} {E = E} lesser count last r x e h =
-      end-of-both count (subst (λ (l : Lesser). Holds old new l held) last (subst (λ (t : Result A E). OnOk t (Holds old new lesser held)) e h))
+      end-of-both count (subst (λ (l : Lesser). LesserHolds old new l held) last (subst (λ (t : Result A E). OnOk t (LesserHolds old new lesser held)) e h))
 
 -- after a walk that gave these lines, of which a text is left that is the lesser one wherever this follows
 pub after-walk : {A E : Type 0} (old front whole text held left : List ℕ) (lines : List Line) (before after : Lesser) (r : Result A E)
-    → Holds old front before held → OnOk r (LinesCome before held after left lines) → OnErr r (IsOldLesser before held after left lines)
-    → ((first second : List ℕ) → OnOk r (Holds first second after left) → OnErr r (IsOldHeld first second after left) → IsLesserText first second text)
+    → LesserHolds old front before held → OnOk r (LinesCome before held after left lines) → OnErr r (IsOldLesser before held after left lines)
+    → ((first second : List ℕ) → OnOk r (LesserHolds first second after left) → OnErr r (IsOldHeld first second after left) → IsLesserText first second text)
     → front ++ flat_map node_text lines ≡ whole → IsLesserText old whole text
 after-walk old front whole text held left lines before after (Ok x) h took broke so e =
     subst (λ (t : List ℕ). IsLesserText old t text) e (so old (front ++ flat_map node_text lines) (took old front h) tt)

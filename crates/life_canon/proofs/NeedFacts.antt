@@ -10,25 +10,25 @@ use Rattle.life_base.specs.declared.kind.Kind.{Kind}
 use Rattle.life_base.specs.declared.kind.Kind.TheVariants.{Full}
 use Rattle.life_base.specs.Tree.{Tree, depth, tree_cell, IsFull}
 use Rattle.life_base.proofs.WholeLines.{lines_are_whole, lines_continue}
-use Rattle.life_mc.specs.Reading.{Accepts, squares_of}
+use Rattle.life_mc.specs.Reading.{AcceptsMacrocell, squares_of}
 use Rattle.life_mc.specs.declared.line.Line.{Line}
 use Rattle.life_rle.specs.File.{HasRuns}
 use Rattle.life_strip.specs.Given.{half_plane, state_by, by_columns}
 use Rattle.life_strip.specs.Needed.{SomeSquare}
 use Rattle.life_canon.specs.Files.{is_macrocell}
-use Rattle.life_canon.specs.Taking.{IsGoing, IsEnd, taken}
+use Rattle.life_canon.specs.Taking.{IsGoing, IsEnd, taken_lines}
 use Rattle.life_canon.specs.declared.progress.Progress.{Progress}
 use Rattle.life_canon.specs.declared.progress.Progress.TheVariants as progress
 use Rattle.life_canon.proofs.Unions.{not-both}
 use Rattle.life_canon.proofs.FrontFacts.{whole-at, end-says, end-lines}
 use Rattle.life_quad.proofs.LawLemmas.{trimming_stops, depth_grown}
-use Rattle.life_quad.specs.Moves.{grown, trimmed}
+use Rattle.life_quad.specs.Moves.{grown_square, trimmed_square}
 use Rattle.life_quad.specs.Refused.{SomePart, TrimmedTo}
 use Rattle.life_quad.specs.declared.id.Id.{Id}
 use Rattle.life_quad.specs.declared.squares.Squares.{Ghosts}
 use Rattle.life_canon.specs.Filling.{HasGrown, HasSquare}
 use Rattle.life_canon.specs.Needs.{SomeOfRuns, SomeOfLine, SomeOfLines, of_node_line, of_runs, grown_times, SomeGrown, SomeRoot, trimmed_root, grown_root, SomeOfFile, of_lines, SomeAtEnd, of_plane, of_root, at_end, SomeOfMacrocell}
-use Rattle.life_canon.specs.Universe.{Universe, IsBlankOutside, centred, corner, least_level, whole}
+use Rattle.life_canon.specs.Universe.{Universe, IsBlankOutside, centred_square, corner, least_level, whole}
 use Rattle.life_canon.proofs.Content.{least-one}
 use Rattle.life_canon.proofs.PatternFacts.{trimmed-whole}
 use Rattle.life_canon.proofs.Planes.{full-depth, centred-tree_cell, tree_cell-outside}
@@ -37,12 +37,12 @@ use Rattle.life_canon.proofs.Trees.{square-same, centred-grown, outside-more}
 
 -- ---- a square that is grown
 
-pub SomeGrown-next : (P : Tree → Type 0) (t : Tree) (level : ℕ) → 1 ≤ depth t → SomeGrown P (grown t) level → SomeGrown P t level
+pub SomeGrown-next : (P : Tree → Type 0) (t : Tree) (level : ℕ) → 1 ≤ depth t → SomeGrown P (grown_square t) level → SomeGrown P t level
 SomeGrown-next P t level h s = let d = depth_grown t h in record { more = suc s.more; low = omega (arith, d, s.low); part = s.part }
 
 -- the squares of one growth more
-pub grown-next : {X : Type 0} (S : Ghosts X) (squares : X) (t : Tree) (level : ℕ) → 1 ≤ depth t → HasSquare S squares (grown t)
-    → HasGrown S squares (grown t) level → HasGrown S squares t level
+pub grown-next : {X : Type 0} (S : Ghosts X) (squares : X) (t : Tree) (level : ℕ) → 1 ≤ depth t → HasSquare S squares (grown_square t)
+    → HasGrown S squares (grown_square t) level → HasGrown S squares t level
 grown-next S squares t level high one rest zero low = one
 grown-next S squares t level high one rest (suc more) low = rest more (let d = depth_grown t high in omega (arith, d, low))
 
@@ -57,9 +57,9 @@ grown-stays S old new t level keeps has more low =
 -- ---- squares about (0, 0) with the cells of a pattern
 
 -- a square with these cells is the one of its level
-pub is-centred : (f : ℤ → ℤ → ℕ) (t : Tree) (k : ℕ) → IsFull t → depth t ≡ suc k → ((x y : ℤ) → tree_cell t x y ≡ f x y) → (t ≡ centred f (suc k))
+pub is-centred : (f : ℤ → ℤ → ℕ) (t : Tree) (k : ℕ) → IsFull t → depth t ≡ suc k → ((x y : ℤ) → tree_cell t x y ≡ f x y) → (t ≡ centred_square f (suc k))
     × IsBlankOutside (suc k) f
-unfolding centred
+unfolding centred_square
 is-centred f t k full d cells =
     let h : HasDepth (suc k) t = subst (λ (n : ℕ). HasDepth n t) d (full-depth t full) in (
       sym (centred-tree_cell h) ∙ square-same (tree_cell t) f cells (suc k) (corner (suc k)) (corner (suc k)),
@@ -68,11 +68,12 @@ is-centred f t k full d cells =
     )
 
 -- grown, it is one of a higher level
-pub grown-centred : (f : ℤ → ℤ → ℕ) (n k : ℕ) (t : Tree) → t ≡ centred f (suc k) → IsBlankOutside (suc k) f → grown_times n t ≡ centred f (suc (n + k))
-grown-centred f zero k t e o = let none : suc k ≡ suc (0 + k) = omega arith in e ∙ ap (centred f) none
+pub grown-centred : (f : ℤ → ℤ → ℕ) (n k : ℕ) (t : Tree) → t ≡ centred_square f (suc k) → IsBlankOutside (suc k) f → grown_times n t
+    ≡ centred_square f (suc (n + k))
+grown-centred f zero k t e o = let none : suc k ≡ suc (0 + k) = omega arith in e ∙ ap (centred_square f) none
 grown-centred f (suc n) k t e o =
     let level : suc (n + suc k) ≡ suc (suc n + k) = omega arith in
-    grown-centred f n (suc k) (grown t) (ap grown e ∙ sym (centred-grown f k o)) (outside-more f k o) ∙ ap (centred f) level
+    grown-centred f n (suc k) (grown_square t) (ap grown_square e ∙ sym (centred-grown f k o)) (outside-more f k o) ∙ ap (centred_square f) level
 
 -- ---- the root of a pattern
 
@@ -84,7 +85,7 @@ root-grown P u t full h cells s =
     let k : ℕ = depth t - 1 in
     let d : depth t ≡ suc k = omega arith in
     let c = is-centred u.cell t k full d cells in
-    let e : grown_times (suc s.more) t ≡ centred u.cell (suc (suc s.more + k)) = grown-centred u.cell (suc s.more) k t c.0 c.1 in
+    let e : grown_times (suc s.more) t ≡ centred_square u.cell (suc (suc s.more + k)) = grown-centred u.cell (suc s.more) k t c.0 c.1 in
     grown_root (suc (suc s.more + k)) (omega (arith, d)) (omega (arith, d, s.low)) (subst (SomePart P) e s.part)
 
 -- it is trimmed, from the level of the root and not from the least one, at which nothing is trimmed
@@ -93,9 +94,9 @@ pub root-trimmed : (P : Tree → Type 0) (u : Universe) (t : Tree) (n : ℕ) →
     → TrimmedTo P t (least_level u.rule) → SomeRoot MAX_LEVEL P u n
 root-trimmed P u t n full low high cells s =
     let least = least_level u.rule in
-    let is : trimmed t least ≡ whole MAX_LEVEL u = trimmed-whole below_top u t full low (omega (arith, high)) cells in
-    let stops : least ≤ depth (trimmed t least) = (trimming_stops t least full (least-one u.rule)).0 (omega (arith, high)) in
-    let lower : depth (trimmed t least) < n = omega (arith, stops, high, s.smaller) in
+    let is : trimmed_square t least ≡ whole MAX_LEVEL u = trimmed-whole below_top u t full low (omega (arith, high)) cells in
+    let stops : least ≤ depth (trimmed_square t least) = (trimming_stops t least full (least-one u.rule)).0 (omega (arith, high)) in
+    let lower : depth (trimmed_square t least) < n = omega (arith, stops, high, s.smaller) in
     trimmed_root (subst (λ (r : Tree). depth r < n) is lower) (subst P is s.has)
 
 -- ---- runs
@@ -142,10 +143,11 @@ front-more P bytes more s =
     more-lines P (whole_lines bytes) (whole_lines (rest_line bytes ++ more)) (whole_lines (bytes ++ more)) (lines_continue bytes more).whole s
 
 -- a node line behind a front
-pub next-needs : (P : Tree → Type 0) (front all : List (List ℕ)) (line : List ℕ) (square : Line) → all ≡ front ++ line ∷ [] → Prefix (Accepts MAX_LEVEL) all
+pub next-needs : (P : Tree → Type 0) (front all : List (List ℕ)) (line : List ℕ) (square : Line) → all ≡ front ++ line ∷ []
+    → Prefix (AcceptsMacrocell MAX_LEVEL) all
     → squares_of all ≡ squares_of front ++ square ∷ [] → SomeOfLine P (squares_of front) square → SomeOfLines MAX_LEVEL P (front ++ line ∷ [])
 next-needs P front all line square e prefix squares some =
-    of_node_line front line [] square refl (subst (Prefix (Accepts MAX_LEVEL)) e prefix)
+    of_node_line front line [] square refl (subst (Prefix (AcceptsMacrocell MAX_LEVEL)) e prefix)
     (subst (λ (ls : List (List ℕ)). squares_of ls ≡ squares_of front ++ square ∷ []) e squares) some
 
 -- the line that ends, and lines behind it
@@ -161,7 +163,7 @@ pub whole-needs : (P : Tree → Type 0) (bytes : List ℕ) → SomeOfLines MAX_L
 whole-needs P bytes s = of_lines (more-lines P (whole_lines bytes) (one_line (rest_line bytes)) (lines_of bytes) (lines_are_whole bytes) s)
 
 -- what the end of the lines that were taken needs, the end of the file needs
-pub end-needs : (P : Tree → Type 0) (bytes : List ℕ) (ended : ℕ) (p : Progress) → IsEnd bytes ended p → SomeAtEnd MAX_LEVEL P (taken p)
+pub end-needs : (P : Tree → Type 0) (bytes : List ℕ) (ended : ℕ) (p : Progress) → IsEnd bytes ended p → SomeAtEnd MAX_LEVEL P (taken_lines p)
     → SomeAtEnd MAX_LEVEL P (lines_of bytes)
 end-needs P bytes ended p e (of_plane u says rle some) =
     let more = end-lines bytes ended p u e says in
@@ -172,12 +174,12 @@ end-needs P bytes ended p e (of_root u says some) =
 
 -- the same of a node line that was waiting until the end
 pub left-needs : (P : Tree → Type 0) (bytes : List ℕ) (ended : ℕ) (p : Progress) → IsEnd bytes ended p
-    → SomeAtEnd MAX_LEVEL P (taken p) ⊎ SomeOfMacrocell MAX_LEVEL P (taken p)
+    → SomeAtEnd MAX_LEVEL P (taken_lines p) ⊎ SomeOfMacrocell MAX_LEVEL P (taken_lines p)
     → SomeOfFile MAX_LEVEL P (lines_of bytes)
 left-needs P bytes ended p e (inl s) = at_end (end-needs P bytes ended p e s)
 left-needs P bytes ended p e (inr s) = of_lines (by p e s)
   where
-    by : (p : Progress) → IsEnd bytes ended p → SomeOfMacrocell MAX_LEVEL P (taken p) → SomeOfLines MAX_LEVEL P (lines_of bytes)
+    by : (p : Progress) → IsEnd bytes ended p → SomeOfMacrocell MAX_LEVEL P (taken_lines p) → SomeOfLines MAX_LEVEL P (lines_of bytes)
     by progress.Undecided e s = more-lines P [] [] (lines_of bytes) (e.going (λ v. v)).0 s.1
     by (progress.Macrocell reader ids waiting) e s =
         more-lines P reader.lines [] (lines_of bytes) ((e.going (λ v. v)).0 ∙ sym (append-nil reader.lines)) s.1

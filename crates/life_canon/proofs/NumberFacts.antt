@@ -2,16 +2,16 @@
 use Rattle.std.proofs.Common.{◌≡◌, ℕ, suc, ◌+◌, ◌-◌, ◌^◌, ◌<◌, ◌≤◌, List, length, ap, sym, ◌∙◌, subst, arith, ℤ}
 use Rattle.life_base.specs.Tree.{Tree, depth, IsFull, tree_cell}
 use Rattle.life_base.specs.declared.rule.Rule.{Rule}
-use Rattle.life_canon.specs.Universe.{least_level, IsOnPlane, square_universe, centred, whole, IsBlankOutside}
-use Rattle.life_canon.specs.Listing.{listed, lines_for, square_file, canonical_file}
-use Rattle.life_canon.specs.Least.{IsLeast}
+use Rattle.life_canon.specs.Universe.{least_level, IsOnPlane, square_universe, centred_square, whole, IsBlankOutside}
+use Rattle.life_canon.specs.Listing.{listed_squares, lines_for, square_file, canonical_file}
+use Rattle.life_canon.specs.Least.{IsLeastLineCount}
 use Rattle.life_base.specs.Rules.{IsRule}
 use Rattle.life_mc.specs.Cells.{node_lines}
 use Rattle.life_mc.specs.Macrocell.{AreSquares, largest_state}
 use Rattle.life_mc.specs.Squares.{HasStatesUpTo}
 use Rattle.life_mc.specs.declared.line.Line.{Line}
 use Rattle.life_mc.proofs.Accepted.{files_are_valid}
-use Rattle.life_quad.specs.Moves.{trimmed}
+use Rattle.life_quad.specs.Moves.{trimmed_square}
 use Rattle.life_canon.proofs.TreeWords.{HasDepth, trimmed_to}
 use Rattle.life_canon.proofs.LineWords.{state_bound}
 use Rattle.life_canon.proofs.LineFacts.{valid-squares}
@@ -23,7 +23,7 @@ use Rattle.life_canon.proofs.Content.{least-one, lines_for-valid}
 
 -- the lines of the list are squares
 pub valid-lines : (top : ℕ) (rule : Rule) (root : Tree) → IsFull root → HasStatesUpTo (largest_state rule) root → depth root ≤ top → (all : List Tree)
-    → all ≡ listed root (least_level rule)
+    → all ≡ listed_squares root (least_level rule)
     → (lines : List Line) → lines ≡ lines_for rule all → AreSquares top rule lines
 valid-lines top rule root full states low all e lines f =
     let P : List Line → Type 0 = λ ls. AreSquares top rule ls in
@@ -32,20 +32,20 @@ valid-lines top rule root full states low all e lines f =
 
 -- a root that is its own trimmed form is the whole of what it says
 pub whole-of : (top : ℕ) (rule : Rule) (generation : ℕ) {k : ℕ} {root : Tree} → HasDepth (suc k) root → suc k ≤ suc top → least_level rule ≤ suc k
-    → trimmed root (least_level rule) ≡ root
+    → trimmed_square root (least_level rule) ≡ root
     → whole (suc top) (square_universe rule generation root) ≡ root
 whole-of top rule generation {k = k} {root = root} h low le fixed =
     let m = least_level rule in
     let n : suc top ≡ suc ((top - k) + k) = omega arith in
     whole-trimmed (suc top) (square_universe rule generation root)
-    ∙ ap (λ j. trimmed_to (centred (tree_cell root) j) m) n
+    ∙ ap (λ j. trimmed_to (centred_square (tree_cell root) j) m) n
     ∙ centred-trimmed (tree_cell root) m (top - k) k (least-one rule) le (tree_cell-outside h)
     ∙ ap (λ t. trimmed_to t m) (centred-tree_cell h)
     ∙ sym (trimmed-is m h (least-one rule)) ∙ fixed
 
 -- the canonical file of what the root says
 pub file-of : (top : ℕ) (rule : Rule) (generation : ℕ) (root : Tree) → IsFull root → depth root ≤ suc top → least_level rule ≤ depth root
-    → trimmed root (least_level rule) ≡ root
+    → trimmed_square root (least_level rule) ≡ root
     → canonical_file (suc top) (square_universe rule generation root) ≡ square_file rule generation root
 unfolding canonical_file
 file-of top rule generation root full low le fixed =
@@ -59,7 +59,8 @@ outside-up f k top l h = let n : suc ((top - k) + k) ≡ suc top = omega arith i
 -- no macrocell file of what the root says has fewer lines
 pub root-least : (top : ℕ) (rule : Rule) (generation : ℕ) (root : Tree) → 3 ≤ suc top → IsFull root → HasStatesUpTo (largest_state rule) root
     → depth root ≤ suc top → least_level rule ≤ depth root
-    → trimmed root (least_level rule) ≡ root → IsLeast (suc top) (square_universe rule generation root) (node_lines (square_file rule generation root))
+    → trimmed_square root (least_level rule) ≡ root
+    → IsLeastLineCount (suc top) (square_universe rule generation root) (node_lines (square_file rule generation root))
 unfolding canonical_file
 root-least top rule generation root high full states low le fixed = λ bytes file says same rival.
     let d : depth root ≡ suc (depth root - 1) = omega (arith, least-one rule) in

@@ -4,8 +4,8 @@ use Rattle.std.proofs.lemmas.Result.{on_err_weaker, err_from_is_err_and}
 use Rattle.life_base.proofs.Results.{on_err_both}
 use Rattle.life_base.specs.Tree.{Tree}
 use Rattle.life_base.specs.declared.kind.Kind.{Kind}
-use Rattle.life_quad.specs.Grows.{Keeps, GrowsOnly}
-use Rattle.life_quad.specs.Keeping.{AddsOnly, IsWantKind}
+use Rattle.life_quad.specs.Grows.{KeepsStore, GrowsOnly}
+use Rattle.life_quad.specs.Keeping.{AddsOnly, IsShortageKind}
 use Rattle.life_quad.specs.declared.id.Id.{Id}
 use Rattle.life_quad.specs.declared.squares.Squares.{Ghosts}
 use Rattle.life_quad.proofs.KeepingLemmas.{keeps-same, keeps-then, adds-none, adds-as, adds-then}
@@ -27,7 +27,7 @@ module _ {X : Type 0} {S : Ghosts X} {A : Type 0} (M : (Tree → Type 0) → Typ
       }
 
   -- a call behind others
-  pub only-behind : {N : (Tree → Type 0) → Type 0} {old mid new : X} {r : Result A Kind} → Keeps S old mid → AddsOnly S.stored M old mid
+  pub only-behind : {N : (Tree → Type 0) → Type 0} {old mid new : X} {r : Result A Kind} → KeepsStore S old mid → AddsOnly S.stored M old mid
       → GrowsOnly S mid new r N
       → ((P : Tree → Type 0) → N P → M P) → GrowsOnly S old new r M
   only-behind {new = new} {r = r} keeps adds call more =
@@ -39,9 +39,9 @@ module _ {X : Type 0} {S : Ghosts X} {A : Type 0} (M : (Tree → Type 0) → Typ
       }
 
   -- a call behind others, by its clauses, whose refusal is handed on
-  pub only-refused : {N : (Tree → Type 0) → Type 0} {old mid new : X} {e : Kind} (r : Result A Kind) → IsErrAnd r (λ f. f ≡ e) → Keeps S old mid
+  pub only-refused : {N : (Tree → Type 0) → Type 0} {old mid new : X} {e : Kind} (r : Result A Kind) → IsErrAnd r (λ f. f ≡ e) → KeepsStore S old mid
       → AddsOnly S.stored M old mid
-      → Keeps S mid new → IsWantKind (S.stored new) (S.most new) e → N (S.needs_node new) → AddsOnly S.stored N mid new
+      → KeepsStore S mid new → IsShortageKind (S.stored new) (S.most new) e → N (S.needs_node new) → AddsOnly S.stored N mid new
       → ((P : Tree → Type 0) → N P → M P) → GrowsOnly S old new r M
   only-refused {new = new} r told first before keeps kinds needed adds more =
       let p = err_from_is_err_and r told in
@@ -54,9 +54,9 @@ module _ {X : Type 0} {S : Ghosts X} {A : Type 0} (M : (Tree → Type 0) → Typ
       }
 
 -- a join behind other calls, by its clauses
-pub only-join : {X : Type 0} {S : Ghosts X} (M : (Tree → Type 0) → Type 0) {old mid new : X} {t : Tree} (r : Result Id Kind) → Keeps S old mid
+pub only-join : {X : Type 0} {S : Ghosts X} (M : (Tree → Type 0) → Type 0) {old mid new : X} {t : Tree} (r : Result Id Kind) → KeepsStore S old mid
     → AddsOnly S.stored M old mid
-    → Keeps S mid new → IfErr r (IsWantKind (S.stored new) (S.most new)) → OnErr r (S.needs_node mid t) → OnErr r (new ≡ mid)
+    → KeepsStore S mid new → IfErr r (IsShortageKind (S.stored new) (S.most new)) → OnErr r (S.needs_node mid t) → OnErr r (new ≡ mid)
     → AddsOnly S.stored (λ P. P t) mid new → ((P : Tree → Type 0) → P t → M P) → GrowsOnly S old new r M
 only-join {S = S} M {new = new} {t = t} r first before keeps refusals needed unchanged adds more =
     record {

@@ -7,29 +7,29 @@ use Rattle.life_base.specs.declared.cell.Run.{Run}
 use Rattle.life_base.specs.declared.kind.Kind.{Kind}
 use Rattle.life_base.specs.declared.kind.Kind.TheVariants.{Full, Memory, Spent, NoHeader}
 use Rattle.life_base.specs.declared.rule.Rule.{Rule}
-use Rattle.life_mc.specs.Macrocell.{IsValid, AreSquares}
-use Rattle.life_mc.specs.Reading.{broken, is_macrocell_kind, squares_of, Accepts}
+use Rattle.life_mc.specs.Macrocell.{IsValidMacrocell, AreSquares}
+use Rattle.life_mc.specs.Reading.{broken_rule, is_macrocell_kind, squares_of, AcceptsMacrocell}
 use Rattle.life_mc.specs.declared.line.Line.{Line}
 use Rattle.life_mc.proofs.Accepted.{lines_are_valid}
 use Rattle.life_mc.proofs.FormatLaws.{fronts_are_files}
 use Rattle.life_mc.proofs.LineKinds.{broken_kind}
-use Rattle.life_quad.specs.Moves.{trimmed}
-use Rattle.life_quad.specs.Store.{Nodes, held}
+use Rattle.life_quad.specs.Moves.{trimmed_square}
+use Rattle.life_quad.specs.Store.{Nodes, stored_squares}
 use Rattle.life_rle.specs.Decided.{LacksHeader}
 use Rattle.life_rle.specs.File.{HasRuns}
-use Rattle.life_rle.specs.Grammar.{IsRle, Breaks as BreaksRle, is_rle_kind}
-use Rattle.life_rle.specs.Pattern.{Rle, cell as rle_cell}
+use Rattle.life_rle.specs.Grammar.{IsRle, BreaksRle, is_rle_kind}
+use Rattle.life_rle.specs.Pattern.{Rle, rle_cell}
 use Rattle.life_rle.specs.Position.{default_position}
-use Rattle.life_rle.specs.RunsLaw.{state_by as rle_state_by, has_cell}
+use Rattle.life_rle.specs.RunsLaw.{rle_state_by, has_cell}
 use Rattle.life_rle.proofs.LineKinds.{Breaks-kind}
 use Rattle.life_rle.proofs.DecidedLaw.{decided}
 use Rattle.life_rle.proofs.RunsLaws.{runs_are_cells}
 use Rattle.life_rle.proofs.Unique.{IsRle-unique}
 use Rattle.life_strip.specs.Given.{state_by}
 use Rattle.life_canon.specs.Files.{Breaks, is_macrocell}
-use Rattle.life_quad.specs.Keeping.{IsWantKind}
-use Rattle.life_canon.specs.Taking.{taken}
-use Rattle.life_canon.specs.Universe.{Universe, IsSame, least_level, centred, whole, square_universe}
+use Rattle.life_quad.specs.Keeping.{IsShortageKind}
+use Rattle.life_canon.specs.Taking.{taken_lines}
+use Rattle.life_canon.specs.Universe.{Universe, IsSame, least_level, centred_square, whole, square_universe}
 use Rattle.life_canon.specs.declared.progress.Progress.{Progress}
 use Rattle.life_canon.specs.declared.progress.Progress.TheVariants as progress
 use Rattle.life_canon.proofs.Canonical.{same-whole, whole-trimmed}
@@ -43,7 +43,7 @@ use Rattle.life_canon.proofs.Trees.{centred-trimmed}
 -- a square with the cells of a pattern, trimmed, is the whole of the pattern
 pub trimmed-whole : (top : ℕ) (u : Universe) (t : Tree) → IsFull t → depth t ≤ suc top → least_level u.rule ≤ depth t
     → ((x y : ℤ) → tree_cell t x y ≡ u.cell x y)
-    → trimmed t (least_level u.rule) ≡ whole (suc top) u
+    → trimmed_square t (least_level u.rule) ≡ whole (suc top) u
 trimmed-whole top u t full low le cells =
     let m = least_level u.rule in
     let k : ℕ = depth t - 1 in
@@ -53,7 +53,7 @@ trimmed-whole top u t full low le cells =
     let n : suc top ≡ suc ((top - k) + k) = omega (arith, d, low) in
     let v : Universe = square_universe u.rule u.generation t in
     let s : IsSame u v = record { rule = refl; generation = refl; cells = λ x y. sym (cells x y) } in
-    sym (same-whole (suc top) u v s ∙ whole-trimmed (suc top) v ∙ ap (λ (j : ℕ). trimmed_to (centred (tree_cell t) j) m) n
+    sym (same-whole (suc top) u v s ∙ whole-trimmed (suc top) v ∙ ap (λ (j : ℕ). trimmed_to (centred_square (tree_cell t) j) m) n
     ∙ centred-trimmed (tree_cell t) m (top - k) k (least-one u.rule) high (tree_cell-outside h)
     ∙ ap (λ (s : Tree). trimmed_to s m) (centred-tree_cell h) ∙ sym (trimmed-is m h (least-one u.rule)))
 
@@ -77,10 +77,10 @@ file-cells lines runs file (inr h) r x y =
 pub record NextSquare (lines : List (List ℕ)) (square : Line) : Type 0 where
   pub rule : Rule
   pub generation : ℕ
-  pub valid : IsValid MAX_LEVEL (record { rule = rule; generation = generation; lines = squares_of lines ++ square ∷ [] })
+  pub valid : IsValidMacrocell MAX_LEVEL (record { rule = rule; generation = generation; lines = squares_of lines ++ square ∷ [] })
 
 -- a node line that goes on a front is a square behind those before it
-pub next-square : (lines more : List (List ℕ)) (line : List ℕ) (square : Line) → more ≡ lines ++ line ∷ [] → Prefix (Accepts MAX_LEVEL) more
+pub next-square : (lines more : List (List ℕ)) (line : List ℕ) (square : Line) → more ≡ lines ++ line ∷ [] → Prefix (AcceptsMacrocell MAX_LEVEL) more
     → squares_of more ≡ squares_of lines ++ square ∷ [] → NextSquare lines square
 next-square lines more line square e p s =
     let some : 0 < length more = omega (arith, ap length e, length-append lines (line ∷ [])) in
@@ -101,7 +101,7 @@ kind-differs kind other h k e = cc
 kind-differs-rle : (kind other : Kind) → is_rle_kind kind ≡ true → is_rle_kind other ≡ false → kind ≡ other → ⊥
 kind-differs-rle kind other h k e = cc
 
-pub not-full : (lines : List (List ℕ)) (line : List ℕ) (kind : Kind) → (kind ≡ Memory) ⊎ (kind ≡ Spent) ⊎ (broken MAX_LEVEL lines line ≡ Some kind)
+pub not-full : (lines : List (List ℕ)) (line : List ℕ) (kind : Kind) → (kind ≡ Memory) ⊎ (kind ≡ Spent) ⊎ (broken_rule MAX_LEVEL lines line ≡ Some kind)
     → kind ≡ Full → ⊥
 not-full lines line kind (inl m) e = cc
 not-full lines line kind (inr (inl s)) e = cc
@@ -114,8 +114,9 @@ not-full-rle lines line kind (inr (inl s)) e = cc
 not-full-rle lines line kind (inr (inr b)) e = kind-differs-rle kind Full (Breaks-kind MAX_LEVEL lines line kind b) refl e
 
 -- no lines lack a header
-pub undecided-lacks : (p : Progress) → p ≡ progress.Undecided → LacksHeader MAX_LEVEL (taken p) × (is_macrocell (taken p) ≡ false)
-undecided-lacks p e = subst (λ (q : Progress). LacksHeader MAX_LEVEL (taken q) × (is_macrocell (taken q) ≡ false)) (sym e) ((default_position, refl), refl)
+pub undecided-lacks : (p : Progress) → p ≡ progress.Undecided → LacksHeader MAX_LEVEL (taken_lines p) × (is_macrocell (taken_lines p) ≡ false)
+undecided-lacks p e = subst (λ (q : Progress). LacksHeader MAX_LEVEL (taken_lines q) × (is_macrocell (taken_lines q) ≡ false)) (sym e)
+    ((default_position, refl), refl)
 
 -- what holds of an answer by two facts
 pub on-ok : {T E P Q : Type 0} (r : Result T E) → OnOk r P → (P → Q) → OnOk r Q
@@ -128,23 +129,23 @@ both-ok (Err e) p q f = tt
 
 -- a reader that has refused nothing isn't spent
 pub told-fault : (stored : List Tree) (most : ℕ) (B : Type 0) (refused : Bool) (kind : Kind) → refused ≡ false
-    → (kind ≡ Memory) ⊎ (kind ≡ Spent) ⊎ B → (kind ≡ Spent → refused ≡ true) → IsWantKind stored most kind ⊎ B
+    → (kind ≡ Memory) ⊎ (kind ≡ Spent) ⊎ B → (kind ≡ Spent → refused ≡ true) → IsShortageKind stored most kind ⊎ B
 told-fault stored most B refused kind r (inl m) s = inl (inl m)
 told-fault stored most B refused kind r (inr (inl p)) s = let t = s p in cc
 told-fault stored most B refused kind r (inr (inr b)) s = inr b
 
 -- the kind of a refused line of RLE
 pub rle-fault : (r : Result (Unit {0}) Kind) (store : Nodes) (lines : List (List ℕ)) (line : List ℕ) → is_macrocell (lines ++ line ∷ []) ≡ false
-    → IfErr r (λ kind. IsWantKind (held store) store.limit kind ⊎ BreaksRle MAX_LEVEL lines line kind)
-    → IfErr r (λ kind. IsWantKind (held store) store.limit kind ⊎ Breaks MAX_LEVEL lines line kind)
+    → IfErr r (λ kind. IsShortageKind (stored_squares store) store.limit kind ⊎ BreaksRle MAX_LEVEL lines line kind)
+    → IfErr r (λ kind. IsShortageKind (stored_squares store) store.limit kind ⊎ Breaks MAX_LEVEL lines line kind)
 rle-fault (Ok x) store lines line m f = tt
 rle-fault (Err kind) store lines line m (inl want) = inl want
 rle-fault (Err kind) store lines line m (inr b) =
-    inr (subst (λ (v : Bool). MatchBool v (broken MAX_LEVEL lines line ≡ Some kind) (BreaksRle MAX_LEVEL lines line kind)) (sym m) b)
+    inr (subst (λ (v : Bool). MatchBool v (broken_rule MAX_LEVEL lines line ≡ Some kind) (BreaksRle MAX_LEVEL lines line kind)) (sym m) b)
 
 -- the end of a reader of RLE is refused for want of a header
-pub end-kind : (p : Progress) (lines : List (List ℕ)) (refused : Bool) (kind : Kind) → taken p ≡ lines → is_macrocell lines ≡ false → refused ≡ false
+pub end-kind : (p : Progress) (lines : List (List ℕ)) (refused : Bool) (kind : Kind) → taken_lines p ≡ lines → is_macrocell lines ≡ false → refused ≡ false
     → (kind ≡ NoHeader) ⊎ (kind ≡ Spent) → (kind ≡ NoHeader → LacksHeader MAX_LEVEL lines) → (kind ≡ Spent → refused ≡ true)
-    → (kind ≡ NoHeader) × LacksHeader MAX_LEVEL (taken p) × (is_macrocell (taken p) ≡ false)
+    → (kind ≡ NoHeader) × LacksHeader MAX_LEVEL (taken_lines p) × (is_macrocell (taken_lines p) ≡ false)
 end-kind p lines refused kind e m r (inl n) l s = (n, subst (LacksHeader MAX_LEVEL) (sym e) (l n), ap is_macrocell e ∙ m)
 end-kind p lines refused kind e m r (inr t) l s = let u = s t in cc

@@ -5,11 +5,11 @@ use Rattle.std.proofs.KnownBytes.{Appends-trans}
 use Rattle.life_base.specs.Tree.{Tree}
 use Rattle.life_base.specs.Writing.{WritesPrefix, WritesText}
 use Rattle.life_base.specs.declared.cell.TheConstants.{MAX_LEVEL}
-use Rattle.life_mc.specs.Writing.{mc_text, node_text, front_text}
+use Rattle.life_mc.specs.Writing.{mc_text, node_text, header_lines_text}
 use Rattle.life_quad.specs.Store.{Nodes}
 use Rattle.life_quad.proofs.LawLemmas.{known_squares_are_full}
 use Rattle.life_canon.specs.Universe.{least_level}
-use Rattle.life_canon.specs.Listing.{listed, lines_for, square_file, canon_text}
+use Rattle.life_canon.specs.Listing.{listed_squares, lines_for, square_file, canon_text}
 use Rattle.life_canon.specs.PieceLaws.{front-prefix}
 use Rattle.life_canon.specs.Pieces.{WritesFront}
 use Rattle.life_canon.specs.Store.{content, universe_in, IsTrimmed}
@@ -37,8 +37,9 @@ text-of-trimmed store p t text e =
     e ∙ ap mc_text (sym (file-of below_top p.rule p.generation (content store p.root) k.0 k.1 t.level t.trimmed))
 
 -- so is its front and then the lines of its squares
-pub pieces-text : (store : Nodes) (p : Pattern) → IsTrimmed store p → (front : List ℕ) (all : List Tree) → front ≡ front_text p.rule p.generation
-    → all ≡ listed (content store p.root) (least_level p.rule) → front ++ flat_map node_text (lines_for p.rule all) ≡ canon_text MAX_LEVEL (universe_in store p)
+pub pieces-text : (store : Nodes) (p : Pattern) → IsTrimmed store p → (front : List ℕ) (all : List Tree) → front ≡ header_lines_text p.rule p.generation
+    → all ≡ listed_squares (content store p.root) (least_level p.rule) → front ++ flat_map node_text (lines_for p.rule all)
+    ≡ canon_text MAX_LEVEL (universe_in store p)
 pieces-text store p t front all e l =
     text-of-trimmed store p t _
-    (ap (λ f. f ++ flat_map node_text (lines_for p.rule all)) e ∙ ap (λ a. front_text p.rule p.generation ++ flat_map node_text (lines_for p.rule a)) l)
+    (ap (λ f. f ++ flat_map node_text (lines_for p.rule all)) e ∙ ap (λ a. header_lines_text p.rule p.generation ++ flat_map node_text (lines_for p.rule a)) l)

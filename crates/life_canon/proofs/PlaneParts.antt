@@ -6,7 +6,7 @@ use Rattle.life_base.specs.Tree.{Tree, depth}
 use Rattle.life_quad.specs.Refused.{SomePart}
 use Rattle.life_strip.specs.Given.{half_plane, by_columns}
 use Rattle.life_strip.specs.Needed.{SomeSquare}
-use Rattle.life_canon.specs.Universe.{square, corner, centred}
+use Rattle.life_canon.specs.Universe.{square, corner, centred_square}
 use Rattle.life_canon.proofs.Planes.{full-depth}
 use Rattle.life_canon.proofs.RoomTrees.{low_level}
 use Rattle.life_canon.proofs.TreeWords.{below_top}
@@ -96,8 +96,8 @@ few-columns level d column sum le =
     let fits : column + 1 ≤ 2 ^ d = le_of_mul-le-mul_right (subst (λ (n : ℕ). (column + 1) * 2 ^ level ≤ n) sides le) (pow_pos level) in
     omega (arith, fits)
 
-pub plane-part : (f : ℤ → ℤ → ℕ) (t : Tree) → SomeSquare (λ v. v ≡ t) (2 ^ MAX_LEVEL) (by_columns f) → SomePart (λ v. v ≡ t) (centred f (suc below_top))
-unfolding centred
+pub plane-part : (f : ℤ → ℤ → ℕ) (t : Tree) → SomeSquare (λ v. v ≡ t) (2 ^ MAX_LEVEL) (by_columns f) → SomePart (λ v. v ≡ t) (centred_square f (suc below_top))
+unfolding centred_square
 plane-part f t s =
     let level : ℕ = depth s.square in
     let k : ℕ = level - 1 in

@@ -8,8 +8,8 @@ use Rattle.std.proofs.lemmas.Int.{ints}
 use Rattle.life_base.specs.Tree.{Tree, point, quad, depth, state_at, half_side, tree_cell, IsFull, is_blank_tree as is_blank}
 use Rattle.life_mc.specs.Squares.{HasStatesUpTo}
 use Rattle.life_quad.proofs.TurningLemmas.{four-true}
-use Rattle.life_quad.specs.Moves.{trim_up_to, can_trim, outer, inner, trimmed}
-use Rattle.life_canon.specs.Universe.{corner, centred, IsBlankOutside}
+use Rattle.life_quad.specs.Moves.{trim_up_to, can_trim, outer, inner, trimmed_square}
+use Rattle.life_canon.specs.Universe.{corner, centred_square, IsBlankOutside}
 use Rattle.life_canon.proofs.TreeWords.{HasDepth, point_depth, quad_depth, StatesBelow, middle, has_blank_border, trim_times, trimmed_to}
 use Rattle.life_canon.proofs.Trees.{depth_is, trees_equal, centred-depth, state_at-centred, trim_times-once, trim_times-stop, bool_cases}
 use Rattle.life_base.proofs.Basics.{right_of_and, left_of_and, double}
@@ -116,7 +116,7 @@ steps-same m le (suc (suc k)) (suc n) t h l = elim (reach m (suc (suc k))) [
     more : (m k : ℕ) → m < suc k → suc k - m ≡ suc (k - m)
     more m k h = omega arith
 
-pub trimmed-is : {k : ℕ} {t : Tree} (m : ℕ) → HasDepth k t → 1 ≤ m → trimmed t m ≡ trimmed_to t m
+pub trimmed-is : {k : ℕ} {t : Tree} (m : ℕ) → HasDepth k t → 1 ≤ m → trimmed_square t m ≡ trimmed_to t m
 unfolding trimmed_to
 trimmed-is {k = k} {t = t} m h le =
     let e : depth t ≡ k = depth_is h in
@@ -144,7 +144,7 @@ tree_cell-at t n i j e p q =
     ∙ ap (λ v. state_at t v (unsigned_abs (y +ℤ pos n))) a.2 ∙ ap (state_at t i) b.2)
 
 -- the square of the cells of a square is that square
-pub centred-tree_cell : {k : ℕ} {t : Tree} → HasDepth (suc k) t → centred (tree_cell t) (suc k) ≡ t
+pub centred-tree_cell : {k : ℕ} {t : Tree} → HasDepth (suc k) t → centred_square (tree_cell t) (suc k) ≡ t
 unfolding corner
 centred-tree_cell {k = k} {t = t} h =
     trees_equal (centred-depth (tree_cell t) (suc k)) h

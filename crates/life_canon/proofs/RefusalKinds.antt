@@ -5,10 +5,10 @@ use Rattle.std.proofs.lemmas.Bool.Decides.{nat_tests}
 use Rattle.life_base.specs.declared.fault.Fault.{Fault}
 use Rattle.life_base.specs.declared.kind.Kind.{Kind}
 use Rattle.life_base.specs.declared.kind.Kind.TheVariants.{NoHeader}
-use Rattle.life_mc.specs.Reading.{broken, is_macrocell_kind, LinesBreakByKinds as MacrocellKinds}
-use Rattle.life_rle.specs.Grammar.{Breaks as BreaksRle, is_rle_kind}
-use Rattle.life_rle.specs.Laws.{LinesBreakByKinds as RleKinds}
-use Rattle.life_canon.specs.Files.{RefusesLines, Breaks, missing, is_macrocell, is_file_kind}
+use Rattle.life_mc.specs.Reading.{broken_rule, is_macrocell_kind, MacrocellLinesBreakByKinds as MacrocellKinds}
+use Rattle.life_rle.specs.Grammar.{BreaksRle, is_rle_kind}
+use Rattle.life_rle.specs.Laws.{RleLinesBreakByKinds as RleKinds}
+use Rattle.life_canon.specs.Files.{RefusesLines, Breaks, missing_file_part, is_macrocell, is_file_kind}
 
 left : (a b : Bool) → a ≡ true → (a || b) ≡ true
 left true b h = refl
@@ -22,7 +22,7 @@ by_line : (top : ℕ) → MacrocellKinds top → RleKinds → (front : List (Lis
     → is_file_kind kind ≡ true
 by_line top m r front line kind = by (is_macrocell (front ++ line ∷ []))
   where
-    by : (b : Bool) → MatchBool b (broken top front line ≡ Some kind) (BreaksRle top front line kind) → is_file_kind kind ≡ true
+    by : (b : Bool) → MatchBool b (broken_rule top front line ≡ Some kind) (BreaksRle top front line kind) → is_file_kind kind ≡ true
     by true h = left (is_macrocell_kind kind) (is_rle_kind kind) (m front line kind h)
     by false h = right (is_macrocell_kind kind) (is_rle_kind kind) (r top front line kind h)
 
@@ -30,12 +30,12 @@ by_end : (b : Bool) (kind : Kind) → MatchBool b (None ≡ Some kind) (Some NoH
 by_end true kind h = cc
 by_end false kind h = let e : NoHeader ≡ kind = cc in subst (λ k. is_file_kind k ≡ true) e refl
 
-ends : (lines : List (List ℕ)) (kind : Kind) → missing lines ≡ Some kind → is_file_kind kind ≡ true
+ends : (lines : List (List ℕ)) (kind : Kind) → missing_file_part lines ≡ Some kind → is_file_kind kind ≡ true
 ends lines kind h = by (is_macrocell lines) refl
   where
     by : (b : Bool) → is_macrocell lines ≡ b → is_file_kind kind ≡ true
-    by true e = let z : missing lines ≡ None = grind (arith, e) in by_end true kind (sym z ∙ h)
-    by false e = let z : missing lines ≡ Some NoHeader = grind (arith, e) in by_end false kind (sym z ∙ h)
+    by true e = let z : missing_file_part lines ≡ None = grind (arith, e) in by_end true kind (sym z ∙ h)
+    by false e = let z : missing_file_part lines ≡ Some NoHeader = grind (arith, e) in by_end false kind (sym z ∙ h)
 
 pub refusal-kinds : (top : ℕ) → MacrocellKinds top → RleKinds → (lines : List (List ℕ)) (fault : Fault) → RefusesLines top lines fault
     → is_file_kind fault.kind ≡ true

@@ -13,8 +13,8 @@ use Rattle.life_base.specs.Text.{lines_of, onto_first, is_too_long, begins_with}
 use Rattle.life_base.specs.declared.cell.TheConstants.{MAX_LEVEL}
 use Rattle.life_base.specs.declared.fault.Fault.{Fault}
 use Rattle.life_base.specs.declared.kind.Kind.TheVariants.{LineTooLong}
-use Rattle.life_mc.specs.Reading.{broken}
-use Rattle.life_rle.specs.Grammar.{Breaks as BreaksRle}
+use Rattle.life_mc.specs.Reading.{broken_rule}
+use Rattle.life_rle.specs.Grammar.{BreaksRle}
 use Rattle.life_rle.proofs.FormatLaws.{broken_for_good}
 use Rattle.life_rle.proofs.FrontLaws.{lines_behind_mark_are_free, long_lines_break}
 use Rattle.life_canon.specs.Feeding.{RefusesFront}
@@ -37,7 +37,7 @@ length-of-long line h = grind (arith, nat_tests, h)
 
 breaks-longer : (front : List (List ℕ)) (line more : List ℕ) → Breaks MAX_LEVEL front line LineTooLong → Breaks MAX_LEVEL front (line ++ more) LineTooLong
 breaks-longer front line more b =
-    subst (λ (v : Bool). MatchBool v (broken MAX_LEVEL front (line ++ more) ≡ Some LineTooLong) (BreaksRle MAX_LEVEL front (line ++ more) LineTooLong))
+    subst (λ (v : Bool). MatchBool v (broken_rule MAX_LEVEL front (line ++ more) ≡ Some LineTooLong) (BreaksRle MAX_LEVEL front (line ++ more) LineTooLong))
     (format-longer front line more (omega (arith, long))) (by (is_macrocell (front ++ line ∷ [])) b)
   where
     long : 2 ^ 20 < length line
@@ -46,8 +46,8 @@ breaks-longer front line more b =
     longer : is_too_long (line ++ more) ≡ true
     longer = too_long (line ++ more) (omega (arith, long, length-append line more))
 
-    by : (m : Bool) → MatchBool m (broken MAX_LEVEL front line ≡ Some LineTooLong) (BreaksRle MAX_LEVEL front line LineTooLong)
-        → MatchBool m (broken MAX_LEVEL front (line ++ more) ≡ Some LineTooLong) (BreaksRle MAX_LEVEL front (line ++ more) LineTooLong)
+    by : (m : Bool) → MatchBool m (broken_rule MAX_LEVEL front line ≡ Some LineTooLong) (BreaksRle MAX_LEVEL front line LineTooLong)
+        → MatchBool m (broken_rule MAX_LEVEL front (line ++ more) ≡ Some LineTooLong) (BreaksRle MAX_LEVEL front (line ++ more) LineTooLong)
     by true h = long-macrocell front (line ++ more) longer
     by false h =
         ((long_lines_break MAX_LEVEL front (line ++ more)).1 longer (broken_for_good MAX_LEVEL front line LineTooLong h).0

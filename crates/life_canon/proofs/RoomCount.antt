@@ -8,12 +8,12 @@ use Rattle.life_mc.specs.declared.line.Line.{Line}
 use Rattle.life_mc.specs.declared.line.Line.TheVariants.{Leaf, Quad}
 use Rattle.life_mc.specs.Squares.{leaf_tree}
 use Rattle.life_quad.specs.Refused.{SomePart, TrimmedTo}
-use Rattle.life_quad.specs.Store.{Nodes, held}
+use Rattle.life_quad.specs.Store.{Nodes, stored_squares}
 use Rattle.life_strip.specs.Needed.{SomeSquare}
 use Rattle.life_strip.proofs.NeededLemmas.{SomeSquare-as}
 use Rattle.life_canon.specs.Needs.{SomeOfLine, SomeOfRuns, SomeOfLines, of_node_line, of_runs, SomeRoot, trimmed_root, grown_root, of_plane, of_root, SomeOfFile, of_lines, at_end, IsNew}
 use Rattle.life_canon.specs.Room.{RoomSuffices, HoldsOnly, room_for}
-use Rattle.life_canon.specs.Universe.{Universe, centred, whole}
+use Rattle.life_canon.specs.Universe.{Universe, centred_square, whole}
 use Rattle.life_canon.proofs.RoomLaw.{few_squares}
 use Rattle.life_canon.proofs.RoomLists.{Among, among-left, among-right, among-contains, contains-among, distinct-pairs, pigeons}
 
@@ -57,7 +57,7 @@ find-lines P lines (of_runs front behind runs e h some) = found-as (λ Q k. of_r
 
 find-root : (P : Tree → Type 0) (u : Universe) (n : ℕ) → SomeRoot MAX_LEVEL P u n → Found P (λ Q. SomeRoot MAX_LEVEL Q u n)
 find-root P u n (trimmed_root lower p) = record { square = whole MAX_LEVEL u; holds = p; some = trimmed_root lower refl }
-find-root P u n (grown_root level higher least p) = found-as (λ Q k. grown_root level higher least k) (find-part P (centred u.cell level) p)
+find-root P u n (grown_root level higher least p) = found-as (λ Q k. grown_root level higher least k) (find-part P (centred_square u.cell level) p)
 
 pub find-file : (P : Tree → Type 0) (lines : List (List ℕ)) → SomeOfFile MAX_LEVEL P lines → Found P (λ Q. SomeOfFile MAX_LEVEL Q lines)
 find-file P lines (of_lines s) = found-as (λ Q k. of_lines k) (find-lines P lines s)
@@ -67,18 +67,18 @@ find-file P lines (at_end (of_root u says s)) = found-as (λ Q k. at_end (of_roo
 -- ---- the law
 
 -- a store holds no more than the list and the room for the file
-pub few-more : (bytes : List ℕ) (base : List Tree) (store : Nodes) → AllPairs ◌≢◌ (held store)
-    → ((t : Tree) → Contains (held store) t → is_blank_tree t ≡ false)
-    → HoldsOnly base bytes store → length (held store) ≤ length base + room_for (length bytes)
+pub few-more : (bytes : List ℕ) (base : List Tree) (store : Nodes) → AllPairs ◌≢◌ (stored_squares store)
+    → ((t : Tree) → Contains (stored_squares store) t → is_blank_tree t ≡ false)
+    → HoldsOnly base bytes store → length (stored_squares store) ≤ length base + room_for (length bytes)
 few-more bytes base store distinct live only =
     let few = few_squares bytes in
-    let have : (x : Tree) → Among (held store) x → Among (base ++ few.0) x = λ x h.
-    let c = contains-among (held store) x h in
+    let have : (x : Tree) → Among (stored_squares store) x → Among (base ++ few.0) x = λ x h.
+    let c = contains-among (stored_squares store) x h in
     elim (only x c) [
       | inl b ↦ among-left base few.0 x (among-contains base x b)
       | inr f ↦ among-right base few.0 x (among-contains few.0 x (few.2 x (live x c) f))
     ] in
-    let all = pigeons (held store) (base ++ few.0) (distinct-pairs (held store) distinct) have in
+    let all = pigeons (stored_squares store) (base ++ few.0) (distinct-pairs (stored_squares store) distinct) have in
     let sum = length-append base few.0 in
     let most = few.1 in
     omega (arith, all, sum, most)
@@ -87,19 +87,19 @@ pub room_suffices : RoomSuffices
 room_suffices bytes base store distinct live only lacks =
     let lack = find-file (IsNew store) (lines_of bytes) lacks in
     let few = few_squares bytes in
-    let have : (x : Tree) → Among (lack.square ∷ held store) x → Among (base ++ few.0) x = λ x a. elim a [
+    let have : (x : Tree) → Among (lack.square ∷ stored_squares store) x → Among (base ++ few.0) x = λ x a. elim a [
       | inl e ↦ among-right base few.0 x (among-contains few.0 x (subst (Contains few.0) e (few.2 lack.square lack.holds.0 lack.some)))
       | inr h ↦
-          let c = contains-among (held store) x h in
+          let c = contains-among (stored_squares store) x h in
           elim (only x c) [
             | inl b ↦ among-left base few.0 x (among-contains base x b)
             | inr f ↦ among-right base few.0 x (among-contains few.0 x (few.2 x (live x c) f))
           ]
     ] in
-    let all = pigeons (lack.square ∷ held store) (base ++ few.0) (
-      (λ a. lack.holds.1 (contains-among (held store) lack.square a)),
+    let all = pigeons (lack.square ∷ stored_squares store) (base ++ few.0) (
+      (λ a. lack.holds.1 (contains-among (stored_squares store) lack.square a)),
       distinct-pairs
-          (held store) distinct,
+          (stored_squares store) distinct,
     ) have in
     let sum = length-append base few.0 in
     let most = few.1 in

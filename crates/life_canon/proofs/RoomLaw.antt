@@ -2,21 +2,21 @@
 use Rattle.std.proofs.Common.{◌≡◌, ℕ, suc, ◌+◌, ◌*◌, ◌^◌, ◌<◌, ◌≤◌, true, false, cond, List, [], ◌∷◌, ◌++◌, length, map, max, refl, ap, sym, ◌∙◌, subst, arith, inl, inr, length-append, ℤ, ◌==◌, Contains, if◌then◌else◌}
 use Rattle.std.proofs.lemmas.List.{length-map}
 use Rattle.std.proofs.lemmas.List.Elements.{Contains-append_left, Contains-append_right}
-use Rattle.life_base.specs.Lines.{joined}
+use Rattle.life_base.specs.Lines.{joined_lines}
 use Rattle.life_base.specs.Text.{lines_of, onto_first}
 use Rattle.life_base.specs.Tree.{Tree, is_blank_tree}
 use Rattle.life_base.specs.declared.cell.TheConstants.{MAX_LEVEL}
 use Rattle.life_base.specs.declared.cell.Run.{Run}
 use Rattle.life_mc.specs.Cells.{cell_of, root_level}
-use Rattle.life_mc.specs.Reading.{Accepts, squares_of}
+use Rattle.life_mc.specs.Reading.{AcceptsMacrocell, squares_of}
 use Rattle.life_mc.specs.declared.line.Line.{Line}
 use Rattle.life_mc.proofs.FormatLaws.{fronts_are_files}
 use Rattle.life_rle.specs.Blocks.{HasFewBlocks}
 use Rattle.life_rle.specs.File.{HasRuns}
 use Rattle.life_rle.specs.Grammar.{IsRle}
-use Rattle.life_rle.specs.Pattern.{Rle, cell as rle_cell, placed}
+use Rattle.life_rle.specs.Pattern.{Rle, rle_cell, placed_items}
 use Rattle.life_rle.specs.Runs.{runs_of}
-use Rattle.life_rle.specs.RunsLaw.{state_by as rle_state_by}
+use Rattle.life_rle.specs.RunsLaw.{rle_state_by}
 use Rattle.life_rle.proofs.BlockFronts.{few_blocks_in_fronts}
 use Rattle.life_rle.proofs.RunsLaws.{runs_are_cells}
 use Rattle.life_strip.specs.Given.{by_columns}
@@ -36,15 +36,15 @@ use Rattle.life_base.proofs.Basics.{true_false}
 
 -- ---- bytes
 
-onto-longer : (b : ℕ) (lines : List (List ℕ)) (n : ℕ) → length (joined lines) ≤ n + 1 → length (joined (onto_first b lines)) ≤ suc n + 1
+onto-longer : (b : ℕ) (lines : List (List ℕ)) (n : ℕ) → length (joined_lines lines) ≤ n + 1 → length (joined_lines (onto_first b lines)) ≤ suc n + 1
 onto-longer b [] n h = omega arith
 onto-longer b (line ∷ lines) n h = omega (arith, h)
 
-lines-few : (bytes : List ℕ) → length (joined (lines_of bytes)) ≤ length bytes + 1
+lines-few : (bytes : List ℕ) → length (joined_lines (lines_of bytes)) ≤ length bytes + 1
 lines-few [] = omega arith
 lines-few (b ∷ bytes) =
     let rest = lines-few bytes in
-    elim (b == 10) as (λ t. length (joined (if t then [] ∷ lines_of bytes else onto_first b (lines_of bytes))) ≤ length (b ∷ bytes) + 1)
+    elim (b == 10) as (λ t. length (joined_lines (if t then [] ∷ lines_of bytes else onto_first b (lines_of bytes))) ≤ length (b ∷ bytes) + 1)
     [ true ↦ omega (arith, rest) | false ↦ let h = onto-longer b (lines_of bytes) (length bytes) rest in omega (arith, h) ]
 
 -- ---- which format
@@ -53,7 +53,7 @@ same-first : (before behind : List (List ℕ)) (line : List ℕ) → is_macrocel
 same-first [] behind line = refl
 same-first (first ∷ before) behind line = refl
 
-pub no-nodes : (lines before behind : List (List ℕ)) (line : List ℕ) → lines ≡ before ++ line ∷ behind → Accepts MAX_LEVEL (before ++ line ∷ [])
+pub no-nodes : (lines before behind : List (List ℕ)) (line : List ℕ) → lines ≡ before ++ line ∷ behind → AcceptsMacrocell MAX_LEVEL (before ++ line ∷ [])
     → is_macrocell lines ≡ true
 no-nodes lines before behind line e a = ap is_macrocell e ∙ same-first before behind line ∙ macrocell-first MAX_LEVEL (before ++ line ∷ []) a.0 a.1
 
@@ -96,7 +96,7 @@ module _ (lines : List (List ℕ)) (m : is_macrocell lines ≡ true) where
   node-squares-have t (at_end (of_root u says some)) =
       Contains-append_right (nodes [] lines) (all_roots states) t (contains-among (all_roots states) t (node-root u t says some))
 
-  node-squares-few : length node_squares ≤ 14 * length (joined lines) + 29
+  node-squares-few : length node_squares ≤ 14 * length (joined_lines lines) + 29
   node-squares-few =
       let a = length-append (nodes [] lines) (all_roots states) in
       let b = nodes-few [] lines in
@@ -114,7 +114,7 @@ module _ (lines : List (List ℕ)) (m : is_macrocell lines ≡ false) (few : Has
 
   pub file-states : (file : Rle) → IsRle MAX_LEVEL lines file → rle_cell file ≡ run_states
   file-states file h =
-      let cells : rle_cell file ≡ rle_state_by (runs_of (placed file)) = (λ i x y. (runs_are_cells MAX_LEVEL lines file h).2 x y i) in
+      let cells : rle_cell file ≡ rle_state_by (runs_of (placed_items file)) = (λ i x y. (runs_are_cells MAX_LEVEL lines file h).2 x y i) in
       cells ∙ ap rle_state_by (sym (few.whole file h))
 
   of-block : (t : Tree) → is_blank_tree t ≡ false → SomeSquare (λ v. v ≡ t) (2 ^ MAX_LEVEL) (by_columns run_states) → Contains run_squares t
@@ -146,7 +146,7 @@ module _ (lines : List (List ℕ)) (m : is_macrocell lines ≡ false) (few : Has
   run-squares-have t live (at_end (of_plane u says rle some)) = plane-square u t live says some
   run-squares-have t live (at_end (of_root u says some)) = run-root u t says some
 
-  run-squares-few : length run_squares ≤ 14 * length (joined lines) + 250
+  run-squares-few : length run_squares ≤ 14 * length (joined_lines lines) + 250
   run-squares-few =
       let a = length-append (map (block_tree run_states) few.blocks) (trimmed_roots run_states) in
       let b = length-map few.blocks (block_tree run_states) in

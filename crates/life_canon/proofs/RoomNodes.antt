@@ -1,10 +1,10 @@
 -- The squares of node lines are few.
 use Rattle.std.proofs.Common.{◌≡◌, ℕ, ◌+◌, ◌*◌, ◌≤◌, List, [], ◌∷◌, ◌++◌, length, refl, ap, sym, ◌∙◌, subst, arith, inl, Option, Some, None, append_assoc, length-append, ◌-◌, append-nil}
 use Rattle.std.specs.List.{cons_option}
-use Rattle.life_base.specs.Lines.{joined}
+use Rattle.life_base.specs.Lines.{joined_lines}
 use Rattle.life_base.specs.Tree.{Tree, quad}
 use Rattle.life_mc.specs.Cells.{leaf_cell}
-use Rattle.life_mc.specs.Reading.{squares_of, square_behind}
+use Rattle.life_mc.specs.Reading.{squares_of, square_after}
 use Rattle.life_mc.specs.Squares.{tree_of, leaf_tree}
 use Rattle.life_mc.specs.declared.line.Line.{Line}
 use Rattle.life_mc.specs.declared.line.Line.TheVariants.{Leaf, Quad}
@@ -24,7 +24,7 @@ squares_in lines (Some (Quad level nw ne sw se)) =
 -- of all lines behind these
 abbrev pub nodes : List (List ℕ) → List (List ℕ) → List Tree
 nodes before [] = []
-nodes before (line ∷ lines) = squares_in (squares_of before) (square_behind before line) ++ nodes (before ++ line ∷ []) lines
+nodes before (line ∷ lines) = squares_in (squares_of before) (square_after before line) ++ nodes (before ++ line ∷ []) lines
 
 -- ---- they are all
 
@@ -42,15 +42,15 @@ pub nodes-have : (before b behind : List (List ℕ)) (line : List ℕ) (square :
     → SomeOfLine (λ u. u ≡ t) (squares_of (before ++ b)) square → Among (nodes before (b ++ line ∷ behind)) t
 nodes-have before [] behind line square t e some =
     let none : before ++ [] ≡ before = append-nil before in
-    let taken : squares_of before ++ cons_option (square_behind before line) [] ≡ squares_of before ++ square ∷ [] =
+    let taken : squares_of before ++ cons_option (square_after before line) [] ≡ squares_of before ++ square ∷ [] =
     sym (squares_taken before line) ∙ subst (λ (bs : List (List ℕ)). squares_of (bs ++ line ∷ []) ≡ squares_of bs ++ square ∷ []) none e in
-    let is = ends-same (squares_of before) (square_behind before line) square taken in
-    among-left (squares_in (squares_of before) (square_behind before line)) (nodes (before ++ line ∷ []) behind) t
+    let is = ends-same (squares_of before) (square_after before line) square taken in
+    among-left (squares_in (squares_of before) (square_after before line)) (nodes (before ++ line ∷ []) behind) t
     (subst (λ (o : Option Line). Among (squares_in (squares_of before) o) t) (sym is)
     (in-line (squares_of before) square t (subst (λ (bs : List (List ℕ)). SomeOfLine (λ u. u ≡ t) (squares_of bs) square) none some)))
 nodes-have before (first ∷ b) behind line square t e some =
     let moved : before ++ first ∷ b ≡ (before ++ first ∷ []) ++ b = sym (append_assoc before (first ∷ []) b) in
-    among-right (squares_in (squares_of before) (square_behind before first)) (nodes (before ++ first ∷ []) (b ++ line ∷ behind)) t
+    among-right (squares_in (squares_of before) (square_after before first)) (nodes (before ++ first ∷ []) (b ++ line ∷ behind)) t
     (nodes-have (before ++ first ∷ []) b behind line square t
     (subst (λ (bs : List (List ℕ)). squares_of (bs ++ line ∷ []) ≡ squares_of bs ++ square ∷ []) moved e)
     (subst (λ (bs : List (List ℕ)). SomeOfLine (λ u. u ≡ t) (squares_of bs) square) moved some))
@@ -62,19 +62,19 @@ squares_in-few lines None = omega arith
 squares_in-few lines (Some (Leaf rows)) = let h = parts-few (tree_at-depth (leaf_cell rows) 3 0 0) in omega (arith, h)
 squares_in-few lines (Some (Quad level nw ne sw se)) = omega arith
 
-no-square : (before : List (List ℕ)) → square_behind before [] ≡ None
+no-square : (before : List (List ℕ)) → square_after before [] ≡ None
 no-square [] = refl
 no-square (header ∷ lines) = refl
 
-line-few : (before : List (List ℕ)) (line : List ℕ) → length (squares_in (squares_of before) (square_behind before line)) ≤ 14 * (length line + 1)
+line-few : (before : List (List ℕ)) (line : List ℕ) → length (squares_in (squares_of before) (square_after before line)) ≤ 14 * (length line + 1)
 line-few before [] = rw (no-square before) (omega arith)
-line-few before (b ∷ line) = let h = squares_in-few (squares_of before) (square_behind before (b ∷ line)) in omega (arith, h)
+line-few before (b ∷ line) = let h = squares_in-few (squares_of before) (square_after before (b ∷ line)) in omega (arith, h)
 
-pub nodes-few : (before lines : List (List ℕ)) → length (nodes before lines) ≤ 14 * length (joined lines)
+pub nodes-few : (before lines : List (List ℕ)) → length (nodes before lines) ≤ 14 * length (joined_lines lines)
 nodes-few before [] = omega arith
 nodes-few before (line ∷ lines) =
     let one = line-few before line in
     let rest = nodes-few (before ++ line ∷ []) lines in
-    let both = length-append (squares_in (squares_of before) (square_behind before line)) (nodes (before ++ line ∷ []) lines) in
-    let size = length-append line (10 ∷ joined lines) in
+    let both = length-append (squares_in (squares_of before) (square_after before line)) (nodes (before ++ line ∷ []) lines) in
+    let size = length-append line (10 ∷ joined_lines lines) in
     omega (arith, one, rest, both, size)

@@ -5,10 +5,10 @@ use Rattle.life_base.specs.declared.cell.TheConstants.{MAX_LEVEL}
 use Rattle.life_base.specs.declared.rule.Rule.{Rule}
 use Rattle.life_base.specs.declared.rule.Rule.TheVariants.{Life, Named}
 use Rattle.life_base.specs.Tree.{Tree, point, quad}
-use Rattle.life_quad.specs.Moves.{trimmed}
+use Rattle.life_quad.specs.Moves.{trimmed_square}
 use Rattle.life_quad.specs.Refused.{SomePart}
 use Rattle.life_canon.specs.Needs.{SomeRoot, trimmed_root, grown_root}
-use Rattle.life_canon.specs.Universe.{Universe, centred, whole, least_level}
+use Rattle.life_canon.specs.Universe.{Universe, centred_square, whole, least_level}
 use Rattle.life_canon.proofs.RoomLists.{Among, among-left, among-right}
 use Rattle.life_canon.proofs.TreeWords.{HasDepth, point_depth, quad_depth}
 use Rattle.life_canon.proofs.Trees.{centred-depth}
@@ -52,13 +52,13 @@ parts-few (quad_depth {nw = a} {ne = b} {sw = c} {se = d} p q r s) =
 
 -- those that are trimmed, under either kind of rule
 abbrev pub trimmed_roots : (ℤ → ℤ → ℕ) → List Tree
-trimmed_roots f = trimmed (centred f MAX_LEVEL) 3 ∷ trimmed (centred f MAX_LEVEL) 1 ∷ []
+trimmed_roots f = trimmed_square (centred_square f MAX_LEVEL) 3 ∷ trimmed_square (centred_square f MAX_LEVEL) 1 ∷ []
 
 trimmed-root : (u : Universe) → Among (trimmed_roots u.cell) (whole MAX_LEVEL u)
 unfolding whole
 trimmed-root u = by u.rule
   where
-    by : (rule : Rule) → Among (trimmed_roots u.cell) (trimmed (centred u.cell MAX_LEVEL) (least_level rule))
+    by : (rule : Rule) → Among (trimmed_roots u.cell) (trimmed_square (centred_square u.cell MAX_LEVEL) (least_level rule))
     by (Life sets) = inl refl
     by (Named name) = inr (inl refl)
 
@@ -73,7 +73,7 @@ plane-root u t (grown_root level higher least some) = let three = least-three u.
 
 -- those that are grown
 abbrev pub grown_roots : (ℤ → ℤ → ℕ) → List Tree
-grown_roots f = parts (centred f 1) ++ (parts (centred f 2) ++ parts (centred f 3))
+grown_roots f = parts (centred_square f 1) ++ (parts (centred_square f 2) ++ parts (centred_square f 3))
 
 -- all of them, of any level
 abbrev pub all_roots : (ℤ → ℤ → ℕ) → List Tree
@@ -84,22 +84,23 @@ all_roots-few f =
     let one = parts-few (centred-depth f 1) in
     let two = parts-few (centred-depth f 2) in
     let three = parts-few (centred-depth f 3) in
-    let b = length-append (parts (centred f 1)) (parts (centred f 2) ++ parts (centred f 3)) in
-    let c = length-append (parts (centred f 2)) (parts (centred f 3)) in
+    let b = length-append (parts (centred_square f 1)) (parts (centred_square f 2) ++ parts (centred_square f 3)) in
+    let c = length-append (parts (centred_square f 2)) (parts (centred_square f 3)) in
     omega (arith, one, two, three, b, c)
 
 three_levels : (level : ℕ) → 0 < level → level ≤ 3 → (level ≡ 1) ⊎ (level ≡ 2) ⊎ (level ≡ 3)
 three_levels level h k = grind (arith, nat_tests)
 
-grown-among : (f : ℤ → ℤ → ℕ) (level : ℕ) (t : Tree) → (level ≡ 1) ⊎ (level ≡ 2) ⊎ (level ≡ 3) → Among (parts (centred f level)) t → Among (grown_roots f) t
+grown-among : (f : ℤ → ℤ → ℕ) (level : ℕ) (t : Tree) → (level ≡ 1) ⊎ (level ≡ 2) ⊎ (level ≡ 3) → Among (parts (centred_square f level)) t
+    → Among (grown_roots f) t
 grown-among f level t (inl e) h =
-    among-left (parts (centred f 1)) (parts (centred f 2) ++ parts (centred f 3)) t (subst (λ k. Among (parts (centred f k)) t) e h)
+    among-left (parts (centred_square f 1)) (parts (centred_square f 2) ++ parts (centred_square f 3)) t (subst (λ k. Among (parts (centred_square f k)) t) e h)
 grown-among f level t (inr (inl e)) h =
-    among-right (parts (centred f 1)) (parts (centred f 2) ++ parts (centred f 3)) t
-    (among-left (parts (centred f 2)) (parts (centred f 3)) t (subst (λ k. Among (parts (centred f k)) t) e h))
+    among-right (parts (centred_square f 1)) (parts (centred_square f 2) ++ parts (centred_square f 3)) t
+    (among-left (parts (centred_square f 2)) (parts (centred_square f 3)) t (subst (λ k. Among (parts (centred_square f k)) t) e h))
 grown-among f level t (inr (inr e)) h =
-    among-right (parts (centred f 1)) (parts (centred f 2) ++ parts (centred f 3)) t
-    (among-right (parts (centred f 2)) (parts (centred f 3)) t (subst (λ k. Among (parts (centred f k)) t) e h))
+    among-right (parts (centred_square f 1)) (parts (centred_square f 2) ++ parts (centred_square f 3)) t
+    (among-right (parts (centred_square f 2)) (parts (centred_square f 3)) t (subst (λ k. Among (parts (centred_square f k)) t) e h))
 
 pub any-root : (u : Universe) (t : Tree) (n : ℕ) → SomeRoot MAX_LEVEL (λ v. v ≡ t) u n → Among (all_roots u.cell) t
 any-root u t n (trimmed_root lower e) =
@@ -107,4 +108,4 @@ any-root u t n (trimmed_root lower e) =
 any-root u t n (grown_root level higher least some) =
     let three = least-three u.rule in
     among-right (trimmed_roots u.cell) (grown_roots u.cell) t
-    (grown-among u.cell level t (three_levels level (omega (arith, higher)) (omega (arith, least, three))) (parts-have (centred u.cell level) t some))
+    (grown-among u.cell level t (three_levels level (omega (arith, higher)) (omega (arith, least, three))) (parts-have (centred_square u.cell level) t some))

@@ -7,7 +7,7 @@ use Rattle.std.proofs.Math.Nat.{add-sub_cancel}
 use Rattle.life_base.specs.declared.cell.TheConstants.{MAX_LEVEL}
 use Rattle.life_base.specs.Tree.{Tree, depth, state_at, is_blank_tree}
 use Rattle.life_rle.specs.Blocks.{Block, AreAllBlocks}
-use Rattle.life_rle.specs.Plane.{edge}
+use Rattle.life_rle.specs.Plane.{rle_plane_end}
 use Rattle.life_strip.specs.Given.{by_columns}
 use Rattle.life_strip.specs.Needed.{SomeSquare}
 use Rattle.life_canon.specs.Universe.{square}
@@ -89,7 +89,7 @@ some_cell (quad_depth {k = k} {nw = a} {ne = b} {sw = c} {se = d} p q r s) h =
 -- ---- the square of a block
 
 abbrev pub block_tree : (ℤ → ℤ → ℕ) → Block → Tree
-block_tree f b = square f b.level (pos (b.column * 2 ^ b.level) -ℤ edge MAX_LEVEL) (pos (b.row * 2 ^ b.level) -ℤ edge MAX_LEVEL)
+block_tree f b = square f b.level (pos (b.column * 2 ^ b.level) -ℤ rle_plane_end MAX_LEVEL) (pos (b.row * 2 ^ b.level) -ℤ rle_plane_end MAX_LEVEL)
 
 pub low_level : (level column : ℕ) → (column + 1) * 2 ^ level ≤ 2 ^ MAX_LEVEL → level ≤ MAX_LEVEL
 low_level level column h = elim (cases_lt MAX_LEVEL level) [
@@ -101,7 +101,7 @@ low_level level column h = elim (cases_lt MAX_LEVEL level) [
 pub square-of-block : (f : ℤ → ℤ → ℕ) (blocks : List Block) (t : Tree) (rows : ℕ) → AreAllBlocks MAX_LEVEL f blocks → is_blank_tree t ≡ false
     → SomeSquare (λ u. u ≡ t) rows (by_columns f) → Contains (map (block_tree f) blocks) t
 square-of-block f blocks t rows all some s =
-    let e = edge MAX_LEVEL in
+    let e = rle_plane_end MAX_LEVEL in
     let k = depth s.square in
     let m = 2 ^ k in
     let full = full-depth s.square s.full in

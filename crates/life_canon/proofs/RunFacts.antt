@@ -12,7 +12,7 @@ use Rattle.life_base.specs.declared.cell.TheConstants.{MAX_LEVEL}
 use Rattle.life_base.specs.declared.fault.Fault.{Fault}
 use Rattle.life_base.specs.declared.kind.Kind.{Kind}
 use Rattle.life_base.specs.declared.kind.Kind.TheVariants.{Full, Memory, ReadFault}
-use Rattle.life_quad.specs.Store.{Nodes, held}
+use Rattle.life_quad.specs.Store.{Nodes, stored_squares}
 use Rattle.life_canon.specs.Feeding.{Fed, RefusesFront, Stands}
 use Rattle.life_canon.specs.Files.{is_file_kind}
 use Rattle.life_canon.specs.Laws.{LengthsStay}
@@ -20,7 +20,7 @@ use Rattle.life_canon.specs.Needs.{LacksFor, LacksForFront, SomeOfFile}
 use Rattle.life_canon.specs.Room.{AddsLines, AddsFile, HoldsFile, HoldsFront, HoldsOnly, room_for}
 use Rattle.life_canon.specs.Running.{ReadRefuses, by_file, by_want, LacksForRead, for_front, for_file, AddsForRead, HoldsRead, IsTightForRead, ReadsSource}
 use Rattle.life_canon.specs.ReadWhole.{ReadsWhole}
-use Rattle.life_canon.specs.Store.{IsRead, IsWant, Keeps, RefusesIn}
+use Rattle.life_canon.specs.Store.{IsRead, IsShortageOf, Keeps, RefusesIn}
 use Rattle.life_canon.specs.declared.pattern.Pattern.{Pattern}
 use Rattle.life_mc.proofs.LineKinds.{broken_kind}
 use Rattle.life_rle.proofs.LineKinds.{Breaks-kind}
@@ -95,13 +95,13 @@ full-not kind h e = let k : is_file_kind Full ≡ true = subst (λ (k : Kind). i
 memory-not : (kind : Kind) → is_file_kind kind ≡ true → kind ≡ Memory → ⊥
 memory-not kind h e = let k : is_file_kind Memory ≡ true = subst (λ (k : Kind). is_file_kind k ≡ true) e h in cc
 
-pub want-of : (store : Nodes) (bytes : List ℕ) (fault : Fault) → IsWant store fault ⊎ RefusesFront MAX_LEVEL bytes fault → (fault.kind ≡ Full)
-    ⊎ (fault.kind ≡ Memory) → IsWant store fault
+pub want-of : (store : Nodes) (bytes : List ℕ) (fault : Fault) → IsShortageOf store fault ⊎ RefusesFront MAX_LEVEL bytes fault → (fault.kind ≡ Full)
+    ⊎ (fault.kind ≡ Memory) → IsShortageOf store fault
 want-of store bytes fault (inl w) k = w
 want-of store bytes fault (inr r) (inl k) = absurd (full-not fault.kind (front-kind bytes fault r) k)
 want-of store bytes fault (inr r) (inr k) = absurd (memory-not fault.kind (front-kind bytes fault r) k)
 
-pub refused-by : (store : Nodes) (bytes : List ℕ) (fault : Fault) → IsWant store fault ⊎ RefusesFront MAX_LEVEL bytes fault → (fault.kind ≡ Full → ⊥)
+pub refused-by : (store : Nodes) (bytes : List ℕ) (fault : Fault) → IsShortageOf store fault ⊎ RefusesFront MAX_LEVEL bytes fault → (fault.kind ≡ Full → ⊥)
     → (fault.kind ≡ Memory → ⊥)
     → RefusesFront MAX_LEVEL bytes fault
 refused-by store bytes fault (inr r) n m = r
@@ -109,23 +109,23 @@ refused-by store bytes fault (inl (inl e)) n m = absurd (m (ap (λ (f : Fault). 
 refused-by store bytes fault (inl (inr e)) n m = absurd (n (ap (λ (f : Fault). f.kind) e.0))
 
 -- a store that is full holds its limit
-want-full : (store : Nodes) (fault : Fault) → IsWant store fault → fault ≡ fault_of Full → length (held store) ≡ store.limit
+want-full : (store : Nodes) (fault : Fault) → IsShortageOf store fault → fault ≡ fault_of Full → length (stored_squares store) ≡ store.limit
 want-full store fault (inl m) e = let k = ap (λ (f : Fault). f.kind) (sym e ∙ m) in cc
 want-full store fault (inr w) e = w.1
 
-pub front-full : (store : Nodes) (bytes : List ℕ) (fault : Fault) → IsWant store fault ⊎ RefusesFront MAX_LEVEL bytes fault → fault ≡ fault_of Full
-    → length (held store) ≡ store.limit
+pub front-full : (store : Nodes) (bytes : List ℕ) (fault : Fault) → IsShortageOf store fault ⊎ RefusesFront MAX_LEVEL bytes fault → fault ≡ fault_of Full
+    → length (stored_squares store) ≡ store.limit
 front-full store bytes fault h e = want-full store fault (want-of store bytes fault h (inl (ap (λ (f : Fault). f.kind) e))) e
 
 pub file-full : {T : Type 0} (store : Nodes) (bytes : List ℕ) (r : Result T Fault) → IfErr r (RefusesIn MAX_LEVEL bytes store) → r ≡ Err (fault_of Full)
-    → length (held store) ≡ store.limit
+    → length (stored_squares store) ≡ store.limit
 file-full store bytes (Ok x) h e = cc
 file-full store bytes (Err fault) h e = by h
   where
     is : fault ≡ fault_of Full
     is = cc
 
-    by : RefusesIn MAX_LEVEL bytes store fault → length (held store) ≡ store.limit
+    by : RefusesIn MAX_LEVEL bytes store fault → length (stored_squares store) ≡ store.limit
     by (inl r) = absurd (full-not fault.kind (refusal-kinds MAX_LEVEL (broken_kind MAX_LEVEL) Breaks-kind (lines_of bytes) fault r)
         (ap (λ (f : Fault). f.kind) is))
     by (inr w) = want-full store fault w is
@@ -201,8 +201,10 @@ module _ (first store new : Nodes) (before mid after : Option (List ℕ)) (total
       → IsTightForRead most first (record { before = before; after = after; failures = failures })
   piece-tight r came len short e limit room =
       let same = (open-state r e).1 in
-      let holds : HoldsFront (held first) fed.bytes store = subst (λ (b : List ℕ). HoldsFront (held first) b store) (sym same) r.adds.each in
-      let tight = subst (λ (b : List ℕ). store.limit < length (held first) + room_for (length (b ++ piece))) same (room (held first) holds) in
+      let holds : HoldsFront (stored_squares first) fed.bytes store = subst (λ (b : List ℕ). HoldsFront (stored_squares first) b store) (sym same)
+      r.adds.each in
+      let tight = subst (λ (b : List ℕ). store.limit < length (stored_squares first) + room_for (length (b ++ piece))) same
+      (room (stored_squares first) holds) in
       record {
         bytes = r.bytes ++ piece;
         came = Consumes-trans before mid after r.bytes piece r.came came;
@@ -233,7 +235,7 @@ module _ (first store new : Nodes) (before mid after : Option (List ℕ)) (total
       rw (open-state r is).1 (read-all most before mid after r.bytes r.came came.0 came.1 (omega (arith, r.count, short)))
 
   -- the end came, and the store holds what it has
-  pub ended-holds : refused ≡ None → {A : Type 0} (result : Result A Fault) → OnOk result (HoldsFile fed.bytes (held new))
+  pub ended-holds : refused ≡ None → {A : Type 0} (result : Result A Fault) → OnOk result (HoldsFile fed.bytes (stored_squares new))
       → OnOk result (HoldsRead most new (record { before = before; after = after; failures = failures }))
   ended-holds is result all = on-ok result all (λ holds. record { bytes = fed.bytes; read = ended-read is; all = holds })
 
@@ -259,8 +261,9 @@ module _ (first store new : Nodes) (before mid after : Option (List ℕ)) (total
   ended-tight is limit room =
       let all = ended-read is in
       let same = (open-state r is).1 in
-      let front : HoldsFront (held first) fed.bytes store = subst (λ (b : List ℕ). HoldsFront (held first) b store) (sym same) r.adds.each in
-      let tight = room (held first) (fronts_hold fed.bytes [] (held first) store store front).1 in
+      let front : HoldsFront (stored_squares first) fed.bytes store = subst (λ (b : List ℕ). HoldsFront (stored_squares first) b store) (sym same)
+      r.adds.each in
+      let tight = room (stored_squares first) (fronts_hold fed.bytes [] (stored_squares first) store store front).1 in
       record { bytes = fed.bytes; came = all.taken; within = all.within; tight = omega (arith, tight, limit) }
 
   -- the end came, and the reader refuses what it has

@@ -2,7 +2,7 @@
 use Rattle.std.proofs.Common.{◌≡◌, ℕ, ◌<◌, Bool, true, false, Option, Some, None, sym, ap, subst, MatchOption}
 use Rattle.life_base.specs.Tree.{Tree, point, quad, depth, IsFull}
 use Rattle.life_mc.specs.Squares.{HasStatesUpTo}
-use Rattle.life_quad.specs.Turning.{end_of, one_of_four, side_of, turned_tree}
+use Rattle.life_quad.specs.Turning.{turned_half, one_of_four, side_of, turned_tree}
 use Rattle.life_quad.specs.declared.turning.Turn.{Turn}
 use Rattle.life_quad.proofs.TurningLemmas.{depth-turned}
 
@@ -19,10 +19,10 @@ states-turned most turn (quad a b c d) h =
     let at = λ (u v : Bool).
     one-states most u v (turned_tree turn a) (turned_tree turn b) (turned_tree turn c) (turned_tree turn d) (states-turned most turn a h.0)
     (states-turned most turn b h.1) (states-turned most turn c h.2) (states-turned most turn d h.3) in (
-      at (side_of turn false false) (end_of turn false false),
-      at (side_of turn true false) (end_of turn true false),
-      at (side_of turn false true) (end_of turn false true),
-      at (side_of turn true true) (end_of turn true true),
+      at (side_of turn false false) (turned_half turn false false),
+      at (side_of turn true false) (turned_half turn true false),
+      at (side_of turn false true) (turned_half turn false true),
+      at (side_of turn true true) (turned_half turn true true),
     )
 
 -- a cell is seen as it is

@@ -5,15 +5,15 @@ use Rattle.std.proofs.Math.Pow.{pow_mono}
 use Rattle.std.proofs.lemmas.Int.{ints}
 use Rattle.life_base.specs.Tree.{Tree, depth, blank, state_at, tree_cell, is_blank_tree as is_blank, IsFull}
 use Rattle.life_base.specs.declared.cell.TheConstants.{MAX_LEVEL}
-use Rattle.life_quad.specs.Cells.{IsLeastBox as IsLeastBoxOf, population}
+use Rattle.life_quad.specs.Cells.{IsBoundingBoxOfTree as IsLeastBoxOf, population}
 use Rattle.life_quad.specs.Store.{Nodes}
 use Rattle.life_quad.proofs.LawLemmas.{known_squares_are_full}
 use Rattle.life_base.specs.declared.bounds.Bounds.{Bounds}
-use Rattle.life_rle.specs.Written.{span}
+use Rattle.life_rle.specs.Written.{box_side}
 use Rattle.life_canon.specs.Universe.{corner, IsWithin}
 use Rattle.life_canon.specs.Listing.{canonical_file}
 use Rattle.life_canon.specs.Store.{content, IsRead, universe_in}
-use Rattle.life_canon.specs.Texts.{IsBoxOf, AreOrdered, IsShown, box_text, show_text}
+use Rattle.life_canon.specs.Texts.{IsBoxOf, AreOrdered, IsShownText, box_text, show_text}
 use Rattle.life_canon.specs.declared.pattern.Pattern.{Pattern}
 use Rattle.life_canon.proofs.TreeWords.{HasDepth}
 use Rattle.life_canon.proofs.Trees.{is_blank-blank}
@@ -86,7 +86,7 @@ box-of f t full same (Some box) h = record {
 pub is-shown : (bytes : List ℕ) (store : Nodes) (pattern : Pattern) → IsRead MAX_LEVEL bytes store pattern → (box : Option Bounds)
     → MatchOption box (is_blank (content store pattern.root) ≡ true) (IsLeastBoxOf (content store pattern.root))
     → (nodes : ℕ) (text : List ℕ) → text ≡ show_text pattern.rule pattern.generation (population (content store pattern.root)) box nodes
-    → nodes ≡ length (canonical_file MAX_LEVEL (universe_in store pattern)).lines → IsShown MAX_LEVEL bytes text
+    → nodes ≡ length (canonical_file MAX_LEVEL (universe_in store pattern)).lines → IsShownText MAX_LEVEL bytes text
 is-shown bytes store pattern r box found nodes text e n =
     let t = content store pattern.root in
     let full = (known_squares_are_full store pattern.root r.is.known.0).0 in
@@ -117,8 +117,8 @@ nine o a b c d e f g h i = simp append_assoc
 
 pub box-text : (o0 o1 o2 o3 o4 o5 o6 o7 : List ℕ) (found : Option Bounds) (box : Bounds) (columns rows : ℕ) → found ≡ Some box
     → o1 ≡ o0 ++ codes "box " → o2 ≡ o1 ++ signed_decimal box.left ++ codes " " → o3 ≡ o2 ++ signed_decimal box.top ++ codes " "
-    → columns ≡ span box.left box.right → o4 ≡ o3 ++ decimal columns → o5 ≡ o4 ++ codes " "
-    → rows ≡ span box.top box.bottom → o6 ≡ o5 ++ decimal rows → o7 ≡ o6 ++ codes "\n" → o7 ≡ o0 ++ box_text found
+    → columns ≡ box_side box.left box.right → o4 ≡ o3 ++ decimal columns → o5 ≡ o4 ++ codes " "
+    → rows ≡ box_side box.top box.bottom → o6 ≡ o5 ++ decimal rows → o7 ≡ o6 ++ codes "\n" → o7 ≡ o0 ++ box_text found
 box-text o0 o1 o2 o3 o4 o5 o6 o7 found box columns rows is e1 e2 e3 w e4 e5 h e6 e7 =
     let sl = signed_decimal box.left in
     let st = signed_decimal box.top in
@@ -131,7 +131,7 @@ box-text o0 o1 o2 o3 o4 o5 o6 o7 found box columns rows is e1 e2 e3 w e4 e5 h e6
     e7 ∙ ap (λ o. o ++ codes "\n") f6
     ∙ nine o0 (codes "box ") sl (codes " ") st (codes " ") (decimal columns) (codes " ") (decimal rows) (codes "\n")
     ∙ ap (λ n. o0 ++ (codes "box " ++ sl ++ codes " " ++ st ++ codes " " ++ decimal n ++ codes " " ++ decimal rows ++ codes "\n")) w
-    ∙ ap (λ n. o0 ++ (codes "box " ++ sl ++ codes " " ++ st ++ codes " " ++ decimal (span box.left box.right) ++ codes " " ++ decimal n ++ codes "\n")) h
+    ∙ ap (λ n. o0 ++ (codes "box " ++ sl ++ codes " " ++ st ++ codes " " ++ decimal (box_side box.left box.right) ++ codes " " ++ decimal n ++ codes "\n")) h
     ∙ ap (λ f. o0 ++ box_text f) (sym is)
 
 five : (r g p b n : List ℕ)

@@ -5,13 +5,13 @@ use Rattle.life_base.specs.Tree.{Tree, depth}
 use Rattle.life_mc.specs.declared.line.Line.{Line}
 use Rattle.life_quad.specs.Store.{Nodes}
 use Rattle.life_quad.specs.declared.id.Id.{Id}
-use Rattle.life_strip.specs.Picture.{IsSound}
+use Rattle.life_strip.specs.Picture.{IsSoundStrip}
 use Rattle.life_strip.specs.Pile.{strips_of}
 use Rattle.life_strip.specs.Plane.{IsFilled}
 use Rattle.life_strip.specs.declared.plane.Plane.{Plane}
 use Rattle.life_strip.specs.declared.spans.Strip.{Strip}
 use Rattle.life_strip.proofs.PlaneLemmas.{cells-keep, filled-keeps}
-use Rattle.life_canon.specs.Feeding.{IsInStrips, IsKept}
+use Rattle.life_canon.specs.Feeding.{IsInStrips, IsKeptId}
 use Rattle.life_canon.specs.Store.{IsKnown, content}
 use Rattle.life_canon.specs.Laws.{ReadersStand}
 use Rattle.life_canon.specs.Taking.{StandsFor}
@@ -40,7 +40,7 @@ module _ (knows keeps : Id → Type 0) (content : Id → Tree) (p : Plane) (each
   abbrev all : List Strip
   all = strips_of p.pile ++ p.row ∷ []
 
-  sound-both : (s : Strip) → Contains all s → IsSound knows content s → IsSound both content s
+  sound-both : (s : Strip) → Contains all s → IsSoundStrip knows content s → IsSoundStrip both content s
   sound-both s there h = record {
     squares = λ column id at. let one = h.squares column id at in ((one.0, each id (s, column, there, at)), one.1);
     within = h.within;
@@ -76,7 +76,7 @@ module _ (knows keeps : Id → Type 0) (content : Id → Tree) (p : Plane) (each
     most = h.most;
   }
 
-stays : (old new : Nodes) (p : Progress) → ((id : Id) → IsKept p id → IsKnown old id → IsKnown new id × (content new id ≡ content old id))
+stays : (old new : Nodes) (p : Progress) → ((id : Id) → IsKeptId p id → IsKnown old id → IsKnown new id × (content new id ≡ content old id))
     → StandsFor (IsKnown old) (content old) p → StandsFor (IsKnown new) (content new) p
 stays old new progress.Undecided k h = tt
 stays old new (progress.Rle reader builder runs) k h =

@@ -6,15 +6,15 @@ use Rattle.life_base.specs.Tree.{Tree, quad}
 use Rattle.life_base.specs.declared.kind.Kind.{Kind}
 use Rattle.life_base.proofs.Refusals.{one_refusal}
 use Rattle.life_base.proofs.Basics.{some_same}
-use Rattle.life_mc.specs.Reading.{IsMacrocell, broken}
+use Rattle.life_mc.specs.Reading.{IsMacrocell, broken_rule}
 use Rattle.life_mc.specs.Writing.{mc_text}
 use Rattle.life_mc.proofs.Accepted.{files_are_valid}
 use Rattle.life_mc.proofs.TextBack.{texts_read_back}
-use Rattle.life_rle.specs.Grammar.{Breaks as BreaksRle}
+use Rattle.life_rle.specs.Grammar.{BreaksRle}
 use Rattle.life_rle.proofs.FormatLaws.{broken_for_good}
 use Rattle.life_canon.specs.Universe.{Universe, IsSame, macrocell_universe, least_level, whole, IsOnPlane}
-use Rattle.life_canon.specs.Files.{as_macrocell, Reads, Accepts, is_macrocell, Breaks, missing}
-use Rattle.life_canon.specs.Listing.{is_small, is_in, with_new, with_all, walk, listed, canonical_file, canon_text}
+use Rattle.life_canon.specs.Files.{as_macrocell, Reads, Accepts, is_macrocell, Breaks, missing_file_part}
+use Rattle.life_canon.specs.Listing.{is_small, is_in, with_new, with_all, walk, listed_squares, canonical_file, canon_text}
 use Rattle.life_canon.specs.Laws.{FilesAreOnPlane, BlankOutside, FaultsAreUnique, TextsKeepPatterns, TextsTellUniverses, TextsTellPatterns, TextsAreFiles, TextsAreFixed, CanonicalIsLeast, SquaresHavePlaces, WiderPlaneKeepsTexts}
 use Rattle.life_canon.proofs.TreeWords.{HasDepth, point_depth, quad_depth}
 use Rattle.life_canon.proofs.Trees.{bool_cases, outside-by}
@@ -65,8 +65,8 @@ length-walk m (suc n) (quad_depth {nw = a} {ne = b} {sw = c} {se = d} p q r s) h
       subst (λ l. length l < four_to (suc n)) (sym (walk-big a b c d m e)) (omega (arith, wa, wb, wc, wd, l))
 ]
 
-length-listed : (m n : ℕ) {k : ℕ} {t : Tree} → HasDepth k t → k ≤ n → length (listed t m) < four_to n
-unfolding listed
+length-listed : (m n : ℕ) {k : ℕ} {t : Tree} → HasDepth k t → k ≤ n → length (listed_squares t m) < four_to n
+unfolding listed_squares
 length-listed m n {t = t} h l = omega (arith, length-all [] (walk t m), length-walk m n h l)
 
 pub canonical-short : (top : ℕ) (u : Universe) → least_level u.rule ≤ suc top → IsOnPlane (suc top) u → length (canonical_file (suc top) u).lines
@@ -74,7 +74,7 @@ pub canonical-short : (top : ℕ) (u : Universe) → least_level u.rule ≤ suc 
 unfolding canonical_file
 canonical-short top u le h =
     let w = whole-is top u le h in
-    subst (λ n. n < four_to (suc top)) (sym (length-lines_for u.rule (listed (whole (suc top) u) (least_level u.rule))))
+    subst (λ n. n < four_to (suc top)) (sym (length-lines_for u.rule (listed_squares (whole (suc top) u) (least_level u.rule))))
     (length-listed (least_level u.rule) (suc top) w.depth_of w.most)
 
 -- ---- canonical texts
@@ -208,10 +208,10 @@ wider_plane_keeps_texts = λ top wider u high le most h.
 breaks-once : (top : ℕ) (front : List (List ℕ)) (line : List ℕ) (a b : Kind) → Breaks top front line a → Breaks top front line b → a ≡ b
 breaks-once top front line a b = by (is_macrocell (front ++ line ∷ []))
   where
-    by : (m : Bool) → MatchBool m (broken top front line ≡ Some a) (BreaksRle top front line a)
-        → MatchBool m (broken top front line ≡ Some b) (BreaksRle top front line b) → a ≡ b
-    by true p q = some_same a b (broken top front line) p q
+    by : (m : Bool) → MatchBool m (broken_rule top front line ≡ Some a) (BreaksRle top front line a)
+        → MatchBool m (broken_rule top front line ≡ Some b) (BreaksRle top front line b) → a ≡ b
+    by true p q = some_same a b (broken_rule top front line) p q
     by false p q = (broken_for_good top front line b q).1 a p
 
 pub faults_are_unique : (top : ℕ) → FaultsAreUnique top
-faults_are_unique top = λ lines a b p q. one_refusal (Accepts top) (Breaks top) missing (breaks-once top) lines a b p q
+faults_are_unique top = λ lines a b p q. one_refusal (Accepts top) (Breaks top) missing_file_part (breaks-once top) lines a b p q

@@ -4,20 +4,20 @@ use Rattle.std.specs.List.{slice_index_or}
 use Rattle.std.proofs.lemmas.List.{take-append-le}
 use Rattle.std.proofs.Math.ListN.{get_or-append}
 use Rattle.std.proofs.Math.Seq.{take-append_seam, get_or-append_seam}
-use Rattle.life_base.specs.Refusal.{Prefix, kept, continuations}
+use Rattle.life_base.specs.Refusal.{Prefix, kept_lines, continuations}
 use Rattle.life_base.specs.declared.fault.Fault.{Fault}
 use Rattle.life_base.specs.declared.kind.Kind.{Kind}
 use Rattle.life_base.specs.declared.kind.Kind.TheVariants.{NoHeader}
-use Rattle.life_mc.specs.Laws.{AreUnbroken}
+use Rattle.life_mc.specs.Laws.{IsUnbrokenMacrocell}
 use Rattle.life_mc.specs.Macrocell.{Macrocell}
-use Rattle.life_mc.specs.Reading.{AreMacrocell, broken, Accepts as IsSomeMacrocell}
+use Rattle.life_mc.specs.Reading.{AreMacrocell, broken_rule, AcceptsMacrocell as IsSomeMacrocell}
 use Rattle.life_mc.proofs.FormatLaws.{fronts_are_unbroken}
 use Rattle.life_rle.specs.Decided.{LacksHeader}
-use Rattle.life_rle.specs.Grammar.{IsSomeRle, Breaks as BreaksRle}
+use Rattle.life_rle.specs.Grammar.{IsSomeRle, BreaksRle}
 use Rattle.life_rle.proofs.DecidedLaw.{decided}
 use Rattle.life_rle.proofs.FormatLaws.{broken_for_good}
 use Rattle.life_rle.proofs.FrontLaws.{fronts_of_fronts, fronts_are_files}
-use Rattle.life_canon.specs.Files.{Says, as_macrocell, as_rle, Accepts, Breaks, RefusesLines, missing, is_macrocell}
+use Rattle.life_canon.specs.Files.{Says, as_macrocell, as_rle, Accepts, Breaks, RefusesLines, missing_file_part, is_macrocell}
 use Rattle.life_canon.specs.Universe.{Universe, macrocell_universe, rle_universe}
 use Rattle.life_canon.proofs.Formats.{macrocell-first, rle-first}
 use Rattle.life_base.proofs.Basics.{true_false}
@@ -34,7 +34,7 @@ rle-front top lines p = (p.0, (rle_universe p.1.0, as_rle p.1.0 p.1.1))
 pub no_lines : (top : ℕ) → Prefix (Accepts top) []
 no_lines top = macrocell-front top [] ((fronts_are_unbroken top []).1 (λ k h. absurd (omega arith)))
 
-unbroken-shorter : (top : ℕ) (lines more : List (List ℕ)) → AreUnbroken top (lines ++ more) → AreUnbroken top lines
+unbroken-shorter : (top : ℕ) (lines more : List (List ℕ)) → IsUnbrokenMacrocell top (lines ++ more) → IsUnbrokenMacrocell top lines
 unbroken-shorter top lines more u k h =
     let e : take k (lines ++ more) ≡ take k lines = take-append-le k lines more (omega arith) in
     let f : get_or (lines ++ more) k [] ≡ get_or lines k [] = get_or-append lines more [] k h in
@@ -44,7 +44,7 @@ unbroken-shorter top lines more u k h =
 pub shorter-front : (top : ℕ) (lines more : List (List ℕ)) → Prefix (Accepts top) (lines ++ more) → Prefix (Accepts top) lines
 shorter-front top lines more p = by p.1.0 p.1.1
   where
-    by : (u : Universe) → Says top ((lines ++ more) ++ kept p.0 continuations) u → Prefix (Accepts top) lines
+    by : (u : Universe) → Says top ((lines ++ more) ++ kept_lines p.0 continuations) u → Prefix (Accepts top) lines
     by _ (as_macrocell file are) =
         macrocell-front top lines ((fronts_are_unbroken top lines).1
         (unbroken-shorter top lines more ((fronts_are_unbroken top (lines ++ more)).0 (p.0, (file, are)))))
@@ -69,15 +69,15 @@ pub for_good : (top : ℕ) (front : List (List ℕ)) (line : List ℕ) (kind : K
     → Accepts top ((front ++ line ∷ []) ++ more) → ⊥
 for_good top front line kind more b a = by (is_macrocell (front ++ line ∷ [])) refl b a.0 a.1
   where
-    at_once : (file : Macrocell) → AreMacrocell top ((front ++ line ∷ []) ++ more) file → broken top front line ≡ Some kind → ⊥
+    at_once : (file : Macrocell) → AreMacrocell top ((front ++ line ∷ []) ++ more) file → broken_rule top front line ≡ Some kind → ⊥
     at_once file are h =
         let e : (front ++ line ∷ []) ++ more ≡ front ++ line ∷ more = append_assoc front (line ∷ []) more in
-        let u : AreUnbroken top (front ++ line ∷ more) = subst (AreUnbroken top) e are.unbroken in
+        let u : IsUnbrokenMacrocell top (front ++ line ∷ more) = subst (IsUnbrokenMacrocell top) e are.unbroken in
         let v = u (length front) (omega (arith, length-append front (line ∷ more))) in
-        let w : broken top front line ≡ None = rw (take-append_seam front (line ∷ more), get_or-append_seam front line more []) at v in
-        none-some kind (broken top front line) w h
+        let w : broken_rule top front line ≡ None = rw (take-append_seam front (line ∷ more), get_or-append_seam front line more []) at v in
+        none-some kind (broken_rule top front line) w h
 
-    by : (m : Bool) → is_macrocell (front ++ line ∷ []) ≡ m → MatchBool m (broken top front line ≡ Some kind) (BreaksRle top front line kind)
+    by : (m : Bool) → is_macrocell (front ++ line ∷ []) ≡ m → MatchBool m (broken_rule top front line ≡ Some kind) (BreaksRle top front line kind)
         → (u : Universe) → Says top ((front ++ line ∷ []) ++ more) u → ⊥
     by true e h _ (as_macrocell file are) = at_once file are h
     by true e h _ (as_rle file is) = rle-first top _ file is (same-format front line more ∙ e)
@@ -107,7 +107,7 @@ line-refused top lines front line more fault e p b at =
         before = λ k h.
             let same : take k lines ≡ take k front = ap (take k) e ∙ take-append-le k front (line ∷ more) (omega arith) in
             subst (Prefix (Accepts top)) (sym same) (taken-front top k front p);
-        here = λ h q. let r = subst (Prefix (Accepts top)) whole q in for_good top front line fault.kind (kept r.0 continuations) b r.1;
+        here = λ h q. let r = subst (Prefix (Accepts top)) whole q in for_good top front line fault.kind (kept_lines r.0 continuations) b r.1;
       };
       line = at;
       at_line = λ h.
@@ -148,5 +148,5 @@ end-refused top lines fault h format kind at = record {
     by _ (as_macrocell file are) = true_false _ (macrocell-first top lines file are) format
     by _ (as_rle file is) = (decided top lines).1 (file, is) h
 
-    lacks : missing lines ≡ Some fault.kind
+    lacks : missing_file_part lines ≡ Some fault.kind
     lacks = ap (λ (b : Bool). cond b None (Some NoHeader)) format ∙ ap Some (sym kind)

@@ -8,7 +8,7 @@ use Rattle.std.proofs.Math.Seq.{take-length}
 use Rattle.life_base.specs.Tree.{Tree, quad, depth}
 use Rattle.life_base.specs.declared.cell.TheConstants.{MAX_LEVEL}
 use Rattle.life_base.specs.declared.rule.Rule.{Rule}
-use Rattle.life_mc.specs.Macrocell.{IsSquare, IsValid, level_of}
+use Rattle.life_mc.specs.Macrocell.{IsSquare, IsValidMacrocell, level_of}
 use Rattle.life_mc.specs.Reading.{squares_of}
 use Rattle.life_mc.specs.Squares.{line_tree, tree_of}
 use Rattle.life_mc.specs.declared.line.Line.{Line}
@@ -121,7 +121,7 @@ map-get content (one ∷ ids) zero id e = cc
 map-get content (one ∷ ids) (suc i) id e = map-get content ids i id e
 
 module _ (knows : Id → Type 0) (content : Id → Tree) (rule : Rule) (generation : ℕ) (first more : List Line) (ids : List Id) (waiting : List Quarters)
-    (good : IsValid MAX_LEVEL (record { rule = rule; generation = generation; lines = first ++ more })) where
+    (good : IsValidMacrocell MAX_LEVEL (record { rule = rule; generation = generation; lines = first ++ more })) where
   pub first-squares : length first ≡ length ids → AreKeptOf knows content (first ++ more) ids waiting → AreSquaresOf knows content first ids
   first-squares len h = record {
     count = sym len;
@@ -181,7 +181,7 @@ first-square rule lines n square le is names =
 
 -- its square is the same behind more lines
 pub first-tree : (rule : Rule) (generation : ℕ) (first more : List Line) (square : Line)
-    → IsValid MAX_LEVEL (record { rule = rule; generation = generation; lines = first ++ more })
+    → IsValidMacrocell MAX_LEVEL (record { rule = rule; generation = generation; lines = first ++ more })
     → IsSquare MAX_LEVEL rule (map level_of first) square
     → line_tree (tree_of (first ++ more) (level_of square - 1)) square ≡ line_tree (tree_of first (level_of square - 1)) square
 first-tree rule generation first more square good is =
@@ -218,7 +218,7 @@ names-lines rule lines square is =
 -- ---- one line more
 
 module _ {knows : Id → Type 0} {content : Id → Tree} (rule : Rule) (generation : ℕ) (lines : List Line) (square : Line) (ids : List Id)
-    (good : IsValid MAX_LEVEL (record { rule = rule; generation = generation; lines = lines ++ square ∷ [] })) where
+    (good : IsValidMacrocell MAX_LEVEL (record { rule = rule; generation = generation; lines = lines ++ square ∷ [] })) where
   -- that waits
   pub kept-quarters : (waiting : List Quarters) (q : Quarters) → AreKeptOf knows content lines ids waiting → length waiting < MOST_WAITING
       → CanJoin knows content q → quad_of content q ≡ line_tree (tree_of lines (level_of square - 1)) square

@@ -11,7 +11,7 @@ use Rattle.life_quad.specs.declared.id.Id.{Id}
 use Rattle.life_mc.specs.declared.line.Line.{Line}
 use Rattle.life_mc.specs.declared.line.Line.TheVariants.{Leaf, Quad}
 use Rattle.life_canon.specs.Universe.{is_life, least_level}
-use Rattle.life_canon.specs.Listing.{is_small, is_in, with_new, with_all, walk, place, number_of, line_of, lines_for, quad_line, rows_of, listed}
+use Rattle.life_canon.specs.Listing.{is_small, is_in, with_new, with_all, walk, place, number_of_quarter, line_of, lines_for, quad_line, rows_of, listed_squares}
 use Rattle.life_canon.specs.Closed.{IsClosed}
 use Rattle.life_canon.specs.Walking.{TakesNodeLine, BreaksOff, TakesOn, TakesWalk, MayWalk, Walked, BreaksIn}
 use Rattle.life_canon.proofs.Trees.{bool_cases}
@@ -53,7 +53,7 @@ large (Named name) n high some = some
 
 -- the number of a square that is in the list, or needs not be, stays
 number-stays : (rule : Rule) (old new : List Tree) (q : Tree) → (is_life rule ≡ true → 3 ≤ depth q) → IsKnown (least_level rule) old q → Behind old new
-    → number_of old q ≡ number_of new q
+    → number_of_quarter old q ≡ number_of_quarter new q
 number-stays rule old new (point s) high known p = refl
 number-stays rule old new (quad a b c d) high known p = elim (bool_cases (is_blank (quad a b c d))) [
   | inl e ↦ number-blank old a b c d e ∙ sym (number-blank new a b c d e)
@@ -66,7 +66,7 @@ number-stays rule old new (quad a b c d) high known p = elim (bool_cases (is_bla
 ]
 
 -- a new square's number is that of its place, the last one
-pub number-last : (all : List Tree) (t : Tree) → 1 ≤ depth t → is_blank t ≡ false → is_in all t ≡ false → number_of (all ++ t ∷ []) t ≡ length all + 1
+pub number-last : (all : List Tree) (t : Tree) → 1 ≤ depth t → is_blank t ≡ false → is_in all t ≡ false → number_of_quarter (all ++ t ∷ []) t ≡ length all + 1
 number-last all (point s) some shown absent = absurd (omega arith)
 number-last all (quad a b c d) some shown absent =
     number-place (all ++ quad a b c d ∷ []) a b c d shown ∙ ap suc (place-last all (quad a b c d) absent) ∙ omega arith
@@ -123,7 +123,8 @@ takes-none took rule old = λ start all rest e w. w
 module _ (content : Id → Tree) (id : Id) (keys : List Id) (inj : All (λ a. content a ≡ content id → a ≡ id) keys) where
   pub number-keys : (r : Option ℕ) → AllPairs ◌≢◌ keys → 1 ≤ depth (content id) → is_blank (content id) ≡ false
       → MatchOption r (¬ Contains keys id) (λ n. slice_get keys (n - 1) ≡ Some id)
-      → IfSome r (λ n. 1 ≤ n) → MatchOption r ((1 ≤ depth (content id)) × (is_blank (content id) ≡ false)) (λ n. n ≡ number_of (map content keys) (content id))
+      → IfSome r (λ n. 1 ≤ n) → MatchOption r ((1 ≤ depth (content id)) × (is_blank (content id) ≡ false))
+      (λ n. n ≡ number_of_quarter (map content keys) (content id))
   number-keys None once some shown at counted = (some, shown)
   number-keys (Some n) once some shown at counted =
       let p : place (map content keys) (content id) ≡ n - 1 = place-keys content id keys (n - 1) inj once at in
@@ -190,7 +191,8 @@ pub quad-line : (rule : Rule) (t a b c d : Tree) (level na nb nc nd : ℕ) (all 
     → (is_life rule ≡ true → 3 ≤ depth t) → (is_life rule && depth t == 3) ≡ false → level ≡ depth t → IsClosed (least_level rule) all
     → all1 ≡ with_all all (walk a (least_level rule)) → all2 ≡ with_all all1 (walk b (least_level rule)) → all3 ≡ with_all all2 (walk c (least_level rule))
     → all4 ≡ with_all all3 (walk d (least_level rule))
-    → na ≡ number_of all1 a → nb ≡ number_of all2 b → nc ≡ number_of all3 c → nd ≡ number_of all4 d → whole ≡ (all4 ++ t ∷ []) ++ rest
+    → na ≡ number_of_quarter all1 a → nb ≡ number_of_quarter all2 b → nc ≡ number_of_quarter all3 c → nd ≡ number_of_quarter all4 d → whole ≡ (all4 ++ t ∷ [])
+    ++ rest
     → Quad level na nb nc nd ≡ line_of rule whole t
 quad-line rule t a b c d level na nb nc nd all all1 all2 all3 all4 whole rest e full high other l h p1 p2 p3 p4 ea eb ec ed w =
     let m = least_level rule in
@@ -263,11 +265,11 @@ module _ {K : Type 0} (content : K → Tree) (ids new : List K) (id : K) (added 
   trees-more = ap (map content) added ∙ map-append content ids (id ∷ [])
 
   number-pushed : (n : ℕ) → n ≡ length new → (1 ≤ depth (content id)) × (is_blank (content id) ≡ false) → is_in (map content ids) (content id) ≡ false
-      → n ≡ number_of (map content new) (content id)
+      → n ≡ number_of_quarter (map content new) (content id)
   number-pushed n e p absent =
       let long : length new ≡ length (map content ids) + 1 = sym (length-map new content) ∙ ap length trees-more
       ∙ length-append (map content ids) (content id ∷ []) in
-      e ∙ long ∙ sym (number-last (map content ids) (content id) p.0 p.1 absent) ∙ ap (λ l. number_of l (content id)) (sym trees-more)
+      e ∙ long ∙ sym (number-last (map content ids) (content id) p.0 p.1 absent) ∙ ap (λ l. number_of_quarter l (content id)) (sym trees-more)
 
 -- ---- what a walk leaves
 
@@ -416,16 +418,16 @@ module _ {A : Type 0} (took broke : A → A → List Line → Type 0) (rule : Ru
     begun-none all = subst (λ l. took a a (map (line_of rule all) l)) (sym none) begins
 
     pub whole-taken : (new : List Tree) → new ≡ with_all old (walk root (least_level rule)) → TakesOn took rule a b old new
-        → took a b (lines_for rule (listed root (least_level rule)))
-    unfolding listed
+        → took a b (lines_for rule (listed_squares root (least_level rule)))
+    unfolding listed_squares
     whole-taken new p w =
         let all = with_all [] (walk root (least_level rule)) in
         let n : new ≡ all = p ∙ ap (λ l. with_all l (walk root (least_level rule))) none in
         subst (λ l. took a b (map (line_of rule all) l)) n (w a all [] (sym n ∙ sym (append-nil new)) (begun-none all))
 
     pub whole-broken : BreaksIn took broke rule a b old (with_all old (walk root (least_level rule)))
-        → broke a b (lines_for rule (listed root (least_level rule)))
-    unfolding listed
+        → broke a b (lines_for rule (listed_squares root (least_level rule)))
+    unfolding listed_squares
     whole-broken w =
         let all = with_all [] (walk root (least_level rule)) in
         w a all [] (ap (λ l. with_all l (walk root (least_level rule))) (sym none) ∙ sym (append-nil (with_all old (walk root (least_level rule)))))

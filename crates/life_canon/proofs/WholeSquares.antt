@@ -1,7 +1,7 @@
 -- The whole square of a pattern is the least square about the middle of the plane that holds all its cells.
 use Rattle.std.proofs.Common.{◌≡◌, ℕ, suc, ◌+◌, ◌-◌, ◌<◌, ◌≤◌, ap, ◌∙◌, sym, arith, ◌⊎◌, inl, inr}
 use Rattle.life_base.specs.Tree.{depth}
-use Rattle.life_canon.specs.Universe.{Universe, IsOnPlane, IsBlankOutside, least_level, centred, whole}
+use Rattle.life_canon.specs.Universe.{Universe, IsOnPlane, IsBlankOutside, least_level, centred_square, whole}
 use Rattle.life_canon.proofs.TreeWords.{trimmed_to}
 use Rattle.life_canon.proofs.Trees.{centred-depth, centred-trimmed, depth_is, trimmed-centred}
 use Rattle.life_canon.proofs.Canonical.{IsWhole, whole-is, whole-trimmed, least-high}
@@ -11,7 +11,7 @@ use Rattle.life_canon.proofs.Content.{least-one}
 pub record IsLeastSquare (u : Universe) : Type 0 where
   pub level : ℕ
   pub high : least_level u.rule ≤ suc level
-  pub is : whole 62 u ≡ centred u.cell (suc level)
+  pub is : whole 62 u ≡ centred_square u.cell (suc level)
   pub outside : IsBlankOutside (suc level) u.cell
   pub least : (lower : ℕ) → least_level u.rule ≤ suc lower → IsBlankOutside (suc lower) u.cell → level ≤ lower
 
@@ -29,8 +29,8 @@ least_square u on = record { level = w.level; high = w.least; is = w.is; outside
         let one = least-one u.rule in
         let t = trimmed-centred u.cell (least_level u.rule) j one h outside in
         let n : (61 - j) + j ≡ 61 = omega (arith, low) in
-        let same : centred u.cell (suc w.level) ≡ centred u.cell (suc t.level) =
-        sym w.is ∙ whole-trimmed 62 u ∙ sym (ap (λ k. trimmed_to (centred u.cell (suc k)) (least_level u.rule)) n)
+        let same : centred_square u.cell (suc w.level) ≡ centred_square u.cell (suc t.level) =
+        sym w.is ∙ whole-trimmed 62 u ∙ sym (ap (λ k. trimmed_to (centred_square u.cell (suc k)) (least_level u.rule)) n)
         ∙ centred-trimmed u.cell (least_level u.rule) (61 - j) j one h outside ∙ t.is in
         let levels : suc w.level ≡ suc t.level =
         sym (depth_is (centred-depth u.cell (suc w.level))) ∙ ap depth same ∙ depth_is (centred-depth u.cell (suc t.level)) in

@@ -8,9 +8,9 @@ use Rattle.life_base.specs.declared.cell.TheConstants.{MAX_LEVEL}
 use Rattle.life_base.specs.declared.fault.Fault.{Fault}
 use Rattle.life_base.specs.declared.kind.Kind.{Kind}
 use Rattle.life_base.specs.declared.kind.Kind.TheVariants.{Full}
-use Rattle.life_quad.specs.Grows.{Keeps as KeepsIn}
+use Rattle.life_quad.specs.Grows.{KeepsStore as KeepsIn}
 use Rattle.life_quad.specs.Keeping.{AddsOnly}
-use Rattle.life_quad.specs.Store.{Nodes, held}
+use Rattle.life_quad.specs.Store.{Nodes, stored_squares}
 use Rattle.life_quad.specs.declared.squares.Squares.{Ghosts}
 use Rattle.life_canon.specs.Files.{Accepted}
 use Rattle.life_canon.specs.Needs.{IsNew, LacksFor, LacksForFront, SomeOfFile, SomeOfLines}
@@ -21,7 +21,7 @@ use Rattle.life_canon.specs.Store.{Keeps}
 -- such a square. `Needs` says of a property that a square which the call needs has it.
 pub record Stores {A E : Type 0} (full : E) (old new : Nodes) (result : Result A E) (Needs : (Tree → Type 0) → Type 0) : Type 0 where
   pub needed : result ≡ Err full → Needs (IsNew new)
-  pub adds : AddsOnly held Needs old new
+  pub adds : AddsOnly stored_squares Needs old new
   pub keeps : Keeps old new
 
 -- the same of squares of any kind
@@ -42,18 +42,18 @@ StoresFile bytes old new result = Stores (fault_of Full) old new result (λ P. S
 -- (`all` and `adds`). A store that gets full lacks a square of the file, and its limit leaves less than the room for the file beside the squares that
 -- it held.
 pub record ReadsInto {A : Type 0} (bytes : List ℕ) (old new : Nodes) (result : Result A Fault) : Type 0 where
-  pub all : OnOk result (HoldsFile bytes (held new))
+  pub all : OnOk result (HoldsFile bytes (stored_squares new))
   pub needed : result ≡ Err (fault_of Full) → LacksFor MAX_LEVEL bytes new
   pub adds : AddsFile bytes old new
-  pub room : result ≡ Err (fault_of Full) → old.limit < length (held old) + room_for (length bytes)
+  pub room : result ≡ Err (fault_of Full) → old.limit < length (stored_squares old) + room_for (length bytes)
   pub keeps : Keeps old new
 
 -- a call that reads two files, one after the other
 pub record ReadsBothInto {A : Type 0} (first second : List ℕ) (old new : Nodes) (result : Result A Fault) : Type 0 where
-  pub all : OnOk result (HoldsFile first (held new) × HoldsFile second (held new))
+  pub all : OnOk result (HoldsFile first (stored_squares new) × HoldsFile second (stored_squares new))
   pub needed : result ≡ Err (fault_of Full) → LacksFor MAX_LEVEL first new ⊎ (Accepted MAX_LEVEL first × LacksFor MAX_LEVEL second new)
-  pub adds : AddsOnly held (λ P. SomeOfFile MAX_LEVEL P (lines_of first) ⊎ SomeOfFile MAX_LEVEL P (lines_of second)) old new
-  pub room : result ≡ Err (fault_of Full) → old.limit < length (held old) + (room_for (length first) + room_for (length second))
+  pub adds : AddsOnly stored_squares (λ P. SomeOfFile MAX_LEVEL P (lines_of first) ⊎ SomeOfFile MAX_LEVEL P (lines_of second)) old new
+  pub room : result ≡ Err (fault_of Full) → old.limit < length (stored_squares old) + (room_for (length first) + room_for (length second))
   pub keeps : Keeps old new
 
 -- A call that feeds a piece after these bytes. Whatever the store held before, it is full only where its limit is below that and the room for the bytes.
@@ -66,7 +66,7 @@ pub record FeedsInto {A : Type 0} (before piece : List ℕ) (old new : Nodes) (r
 
 -- the same of the call that ends the file: where it succeeds, the store holds every square of the file
 pub record EndsInto {A : Type 0} (bytes : List ℕ) (old new : Nodes) (result : Result A Fault) : Type 0 where
-  pub all : OnOk result (HoldsFile bytes (held new))
+  pub all : OnOk result (HoldsFile bytes (stored_squares new))
   pub needed : result ≡ Err (fault_of Full) → LacksFor MAX_LEVEL bytes new
   pub adds : AddsFile bytes old new
   pub room : result ≡ Err (fault_of Full) → (base : List Tree) → HoldsOnly base bytes old → old.limit < length base + room_for (length bytes)

@@ -51,11 +51,11 @@ IsInStrips strips id = (strip : Strip) × (column : ℕ) × Contains strips stri
 
 -- the Ids that are kept of the lines so far: under RLE those of the squares that aren't part of a larger one yet, and else those of the node lines, and
 -- those of the quarters where a line waits
-abbrev pub IsKept : Progress → Id → Type 0
-IsKept progress.Undecided id = ⊥
-IsKept (progress.Rle reader builder runs) id = IsInStrips (strips_of builder.kept.pile ++ builder.kept.row ∷ []) id
-IsKept (progress.Macrocell reader ids waiting) id = Contains ids.items id ⊎ IsQuarterOfOne waiting.items id
+abbrev pub IsKeptId : Progress → Id → Type 0
+IsKeptId progress.Undecided id = ⊥
+IsKeptId (progress.Rle reader builder runs) id = IsInStrips (strips_of builder.kept.pile ++ builder.kept.row ∷ []) id
+IsKeptId (progress.Macrocell reader ids waiting) id = Contains ids.items id ⊎ IsQuarterOfOne waiting.items id
 
 -- each Id that the reader keeps names the square that it named
 abbrev pub KeepsIdsOf : Fed → Nodes → Nodes → Type 0
-KeepsIdsOf fed old new = (id : Id) → IsKept fed.progress id → IsKnown old id → IsKnown new id × (content new id ≡ content old id)
+KeepsIdsOf fed old new = (id : Id) → IsKeptId fed.progress id → IsKnown old id → IsKnown new id × (content new id ≡ content old id)

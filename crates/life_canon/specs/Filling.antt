@@ -3,7 +3,7 @@ use Rattle.std.specs.Prelude.{◌≡◌, ℕ, suc, ◌+◌, ◌≤◌, List, len
 use Rattle.life_base.specs.Tree.{Tree, depth}
 use Rattle.life_base.specs.declared.cell.TheConstants.{MAX_LEVEL}
 use Rattle.life_base.specs.declared.rule.Rule.{Rule}
-use Rattle.life_mc.specs.Macrocell.{Macrocell, IsSquare, IsValid, level_of}
+use Rattle.life_mc.specs.Macrocell.{Macrocell, IsSquare, IsValidMacrocell, level_of}
 use Rattle.life_mc.specs.Squares.{tree_of}
 use Rattle.life_mc.specs.declared.line.Line.{Line}
 use Rattle.life_quad.specs.declared.id.Id.{Id}
@@ -35,4 +35,4 @@ ForLines S squares ids line Holds =
 
 -- what holds of each file whose node lines have these squares
 abbrev pub ForMacrocell : {X : Type 0} → Ghosts X → X → List Id → (Macrocell → Type 0) → Type 0
-ForMacrocell S squares ids Holds = (file : Macrocell) → IsValid MAX_LEVEL file → AreSquaresIn S squares file.lines ids → Holds file
+ForMacrocell S squares ids Holds = (file : Macrocell) → IsValidMacrocell MAX_LEVEL file → AreSquaresIn S squares file.lines ids → Holds file

@@ -4,8 +4,8 @@ use Rattle.life_base.specs.declared.cell.TheConstants.{MAX_LEVEL}
 use Rattle.life_base.specs.declared.fault.Fault.{Fault}
 use Rattle.life_quad.specs.Store.{Nodes}
 use Rattle.life_canon.specs.Calls.{StoresLines}
-use Rattle.life_canon.specs.Store.{IsKnown, IsWant, content}
-use Rattle.life_canon.specs.Taking.{IsFrontOf, IsLineFault, IsOpen, StandsFor, bytes_of, taken}
+use Rattle.life_canon.specs.Store.{IsKnown, IsShortageOf, content}
+use Rattle.life_canon.specs.Taking.{IsFrontOf, IsLineFault, IsOpen, StandsFor, bytes_of, taken_lines}
 use Rattle.life_canon.specs.declared.progress.Progress.{Progress}
 use Rattle.life_canon.specs.declared.front.Front.{Front}
 
@@ -20,17 +20,17 @@ pub record IsFrontIn (store : Nodes) (front : Front) : Type 0 where
   pub stands : StandsFor (IsKnown store) (content store) front.progress
 
 -- the line was taken behind so many others, and counted
-pub record HasLine (line : List ℕ) (store : Nodes) (before : Progress) (ended : ℕ) (after : Progress) (now_ended : ℕ) : Type 0 where
-  pub lines : taken after ≡ taken before ++ line ∷ []
+pub record HasTakenLine (line : List ℕ) (store : Nodes) (before : Progress) (ended : ℕ) (after : Progress) (now_ended : ℕ) : Type 0 where
+  pub lines : taken_lines after ≡ taken_lines before ++ line ∷ []
   pub progress : IsOpenIn store after
   pub count : now_ended ≡ min (ended + 1) (2 ^ 64 - 1)
 
 -- a call that takes a line, by what it changes of a front
 pub record TakesLineOf {A : Type 0} (line : List ℕ) (old new : Nodes) (before : Progress) (ended : ℕ) (after : Progress) (now_ended : ℕ)
     (result : Result A Fault) : Type 0 where
-  pub line_taken : OnOk result (HasLine line new before ended after now_ended)
-  pub fault : IfErr result (λ fault. IsWant new fault ⊎ IsLineFault MAX_LEVEL (taken before) line ended fault)
-  pub stores : StoresLines (taken before ++ line ∷ []) old new result
+  pub line_taken : OnOk result (HasTakenLine line new before ended after now_ended)
+  pub fault : IfErr result (λ fault. IsShortageOf new fault ⊎ IsLineFault MAX_LEVEL (taken_lines before) line ended fault)
+  pub stores : StoresLines (taken_lines before ++ line ∷ []) old new result
 
 -- the same by the fronts before and after
 abbrev pub TakesLine : {A : Type 0} → List ℕ → Nodes → Nodes → Front → Front → Result A Fault → Type 0

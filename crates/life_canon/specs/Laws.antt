@@ -12,10 +12,10 @@ use Rattle.life_mc.specs.Reading.{AreMacrocell, IsMacrocell}
 use Rattle.life_rle.specs.Pattern.{Rle}
 use Rattle.life_rle.specs.Grammar.{IsRle}
 use Rattle.life_rle.specs.Written.{rle_text}
-use Rattle.life_canon.specs.Universe.{Universe, IsSame, IsBlankOutside, IsOnPlane, centred, macrocell_universe, rle_universe}
+use Rattle.life_canon.specs.Universe.{Universe, IsSame, IsBlankOutside, IsOnPlane, centred_square, macrocell_universe, rle_universe}
 use Rattle.life_canon.specs.Files.{Says, Reads, Same, Refuses, RefusesLines, is_file_kind}
 use Rattle.life_canon.specs.Listing.{canonical_file, canon_text}
-use Rattle.life_canon.specs.Least.{IsRival, IsLeast, HasPlaces}
+use Rattle.life_canon.specs.Least.{IsRival, IsLeastLineCount, SquaresHaveNodeLines}
 use Rattle.life_canon.specs.Feeding.{Fed, KeepsIdsOf, RefusesFront, Stands}
 use Rattle.life_canon.specs.Store.{Keeps, IsRead, IsTrimmed, universe_in}
 use Rattle.life_canon.specs.Texts.{AreCellsOf, IsRleOf}
@@ -80,14 +80,14 @@ TextsAreFixed top = (u v : Universe) → IsOnPlane top u → Reads top (canon_te
 
 -- no macrocell file of the same pattern, under a name none without leaf lines, has fewer node lines than the canonical one
 abbrev pub CanonicalIsLeast : ℕ → Type 0
-CanonicalIsLeast top = (u : Universe) → IsOnPlane top u → IsLeast top u (node_lines (canonical_file top u))
+CanonicalIsLeast top = (u : Universe) → IsOnPlane top u → IsLeastLineCount top u (node_lines (canonical_file top u))
 
 -- the squares of the canonical list have node lines in every macrocell file of the pattern, under a name in every one without leaf lines, and no
 -- two of them have one line
 abbrev pub SquaresHavePlaces : ℕ → Type 0
 SquaresHavePlaces top =
     (u : Universe) (b : List ℕ) (file : Macrocell) → IsOnPlane top u → IsMacrocell top b file → IsSame u (macrocell_universe file) → IsRival file
-    → HasPlaces top u file
+    → SquaresHaveNodeLines top u file
 
 -- on every wider plane, up to level 62, a pattern has the same canonical text, and that text is accepted and says the same there
 abbrev pub WiderPlaneKeepsTexts : Type 0
@@ -103,12 +103,13 @@ WiderPlanesKeepFiles =
 
 -- a full square of level 1 or more is the square about (0, 0) of its own cells, and every cell outside has state 0
 abbrev pub SquaresAreCentred : Type 0
-SquaresAreCentred = (t : Tree) → IsFull t → 1 ≤ depth t → (centred (tree_cell t) (depth t) ≡ t) × IsBlankOutside (depth t) (tree_cell t)
+SquaresAreCentred = (t : Tree) → IsFull t → 1 ≤ depth t → (centred_square (tree_cell t) (depth t) ≡ t) × IsBlankOutside (depth t) (tree_cell t)
 
 -- planes that are blank outside the squares of one level about (0, 0) have the same cells, if these squares are equal
 abbrev pub CentredSquaresTellCells : Type 0
 CentredSquaresTellCells =
-    (level : ℕ) (f g : ℤ → ℤ → ℕ) → IsBlankOutside level f → IsBlankOutside level g → centred f level ≡ centred g level → (x y : ℤ) → f x y ≡ g x y
+    (level : ℕ) (f g : ℤ → ℤ → ℕ) → IsBlankOutside level f → IsBlankOutside level g → centred_square f level ≡ centred_square g level → (x y : ℤ) → f x y
+    ≡ g x y
 
 -- a pattern that was read may be numbered, and has the cells of the file
 abbrev pub PatternsFit : ℕ → Type 0

@@ -24,20 +24,20 @@ kept_text old new New = new
 kept_text old new Old = old
 
 -- these bytes are held, and so it is decided
-pub record Holds (old new : List ℕ) (lesser : Lesser) (held : List ℕ) : Type 0 where
+pub record LesserHolds (old new : List ℕ) (lesser : Lesser) (held : List ℕ) : Type 0 where
   pub is : IsLesser old new lesser
   pub bytes : held ≡ kept_text old new lesser
 
 -- what is undecided is within the bytes that are held
-abbrev pub IsWithin : Lesser → List ℕ → Type 0
-IsWithin (Undecided count) held = count ≤ length held
-IsWithin New held = Unit {0}
-IsWithin Old held = Unit {0}
+abbrev pub IsWithinTexts : Lesser → List ℕ → Type 0
+IsWithinTexts (Undecided count) held = count ≤ length held
+IsWithinTexts New held = Unit {0}
+IsWithinTexts Old held = Unit {0}
 
 -- the text of these lines came between two states
 abbrev pub LinesCome : Lesser → List ℕ → Lesser → List ℕ → List Line → Type 0
 LinesCome before held after left lines =
-    (old new : List ℕ) → Holds old new before held → Holds old (new ++ flat_map node_text lines) after left
+    (old new : List ℕ) → LesserHolds old new before held → LesserHolds old (new ++ flat_map node_text lines) after left
 
 -- where the old text is the lesser one it is held, and it is no greater than the new one
 abbrev pub IsOldHeld : List ℕ → List ℕ → Lesser → List ℕ → Type 0
@@ -46,7 +46,7 @@ IsOldHeld old new lesser held = lesser ≡ Old → (held ≡ old) × IsUpTo old 
 -- it is so after these lines
 abbrev pub IsOldLesser : Lesser → List ℕ → Lesser → List ℕ → List Line → Type 0
 IsOldLesser before held after left lines =
-    (old new : List ℕ) → Holds old new before held → IsOldHeld old (new ++ flat_map node_text lines) after left
+    (old new : List ℕ) → LesserHolds old new before held → IsOldHeld old (new ++ flat_map node_text lines) after left
 
 -- the text is one of the two, and no greater than either
 pub record IsLesserText (old new text : List ℕ) : Type 0 where

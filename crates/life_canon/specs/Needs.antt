@@ -7,22 +7,22 @@ use Rattle.life_base.specs.Text.{lines_of}
 use Rattle.life_base.specs.Tree.{Tree, quad, depth, is_blank_tree}
 use Rattle.life_base.specs.declared.cell.Run.{Run}
 use Rattle.life_mc.specs.Cells.{root_level}
-use Rattle.life_mc.specs.Reading.{Accepts, squares_of}
+use Rattle.life_mc.specs.Reading.{AcceptsMacrocell, squares_of}
 use Rattle.life_mc.specs.Squares.{tree_of, leaf_tree}
 use Rattle.life_mc.specs.declared.line.Line.{Line}
 use Rattle.life_mc.specs.declared.line.Line.TheVariants.{Leaf, Quad}
-use Rattle.life_quad.specs.Moves.{grown}
+use Rattle.life_quad.specs.Moves.{grown_square}
 use Rattle.life_quad.specs.Refused.{SomePart}
-use Rattle.life_quad.specs.Store.{Nodes, held}
+use Rattle.life_quad.specs.Store.{Nodes, stored_squares}
 use Rattle.life_rle.specs.File.{HasRuns}
 use Rattle.life_strip.specs.Given.{half_plane, state_by, by_columns}
 use Rattle.life_strip.specs.Needed.{SomeSquare}
 use Rattle.life_canon.specs.Files.{Says, is_macrocell}
-use Rattle.life_canon.specs.Universe.{Universe, least_level, centred, whole}
+use Rattle.life_canon.specs.Universe.{Universe, least_level, centred_square, whole}
 
 -- a square that isn't blank and that the store doesn't hold
 abbrev pub IsNew : Nodes → Tree → Type 0
-IsNew store t = (is_blank_tree t ≡ false) × ¬ Contains (held store) t
+IsNew store t = (is_blank_tree t ≡ false) × ¬ Contains (stored_squares store) t
 
 -- a square of a node line behind these has a property: the square of the line, or a part of a leaf
 abbrev pub SomeOfLine : (Tree → Type 0) → List Line → Line → Type 0
@@ -41,7 +41,7 @@ pub record SomeOfRuns (P : Tree → Type 0) (runs : List Run) : Type 0 where
 -- a square of the front of a file has a property: of a node line, or of the runs so far
 pub data SomeOfLines (top : ℕ) (P : Tree → Type 0) (lines : List (List ℕ)) : Type 0 where
   of_node_line : (before : List (List ℕ)) (line : List ℕ) (behind : List (List ℕ)) (square : Line) → lines ≡ before ++ line ∷ behind
-      → Prefix (Accepts top) (before ++ line ∷ []) → squares_of (before ++ line ∷ []) ≡ squares_of before ++ square ∷ []
+      → Prefix (AcceptsMacrocell top) (before ++ line ∷ []) → squares_of (before ++ line ∷ []) ≡ squares_of before ++ square ∷ []
       → SomeOfLine P (squares_of before) square → SomeOfLines top P lines
   of_runs : (front behind : List (List ℕ)) (runs : List Run) → lines ≡ front ++ behind → HasRuns top front runs → SomeOfRuns P runs
       → SomeOfLines top P lines
@@ -53,7 +53,7 @@ SomeOfMacrocell top P lines = (is_macrocell lines ≡ true) × SomeOfLines top P
 -- the square, grown as often as this
 abbrev pub grown_times : ℕ → Tree → Tree
 grown_times zero t = t
-grown_times (suc n) t = grown_times n (grown t)
+grown_times (suc n) t = grown_times n (grown_square t)
 
 -- a square that is grown from this one, of this level at most, or a part of it, has a property
 pub record SomeGrown (P : Tree → Type 0) (t : Tree) (level : ℕ) : Type 0 where
@@ -65,7 +65,7 @@ pub record SomeGrown (P : Tree → Type 0) (t : Tree) (level : ℕ) : Type 0 whe
 -- of a lower level; grown, the square about (0, 0) of a higher level, up to the least one, or a part of it.
 pub data SomeRoot (top : ℕ) (P : Tree → Type 0) (u : Universe) (n : ℕ) : Type 0 where
   trimmed_root : depth (whole top u) < n → P (whole top u) → SomeRoot top P u n
-  grown_root : (level : ℕ) → n < level → level ≤ least_level u.rule → SomePart P (centred u.cell level) → SomeRoot top P u n
+  grown_root : (level : ℕ) → n < level → level ≤ least_level u.rule → SomePart P (centred_square u.cell level) → SomeRoot top P u n
 
 -- the level of the root that lines give: that of the last node line, 1 where there is none, or that of the whole plane under RLE
 abbrev pub level_of_root : ℕ → List (List ℕ) → ℕ

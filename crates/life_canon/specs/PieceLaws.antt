@@ -60,5 +60,5 @@ pub piece-begins : (a : Option (List ℕ)) (held : List ℕ) → WritesFront a a
 piece-begins a held = record { front = []; written = Appends-nil a; whole = sym (append-nil held) }
 
 -- a sink that hasn't failed
-pub unfailed : {P : Type 0} (n : ℕ) → n ≡ 0 → n ≡ 1 → P
-unfailed n none one = absurd (omega (arith, none, one))
+pub no_failure : {P : Type 0} (n : ℕ) → n ≡ 0 → n ≡ 1 → P
+no_failure n none one = absurd (omega (arith, none, one))

@@ -12,8 +12,8 @@ abbrev pub row_of_four : Tree → ℕ → ℕ
 row_of_four t y = 8 * state_at t 0 y + 4 * state_at t 1 y + 2 * state_at t 2 y + state_at t 3 y
 
 -- the square of level 2 of sixteen bits of a word, of which this one is the lowest
-abbrev pub square_in : ℕ → ℕ → Tree
-square_in word lowest = four (word / 2 ^ lowest % 2 ^ 16)
+abbrev pub square_of_bits : ℕ → ℕ → Tree
+square_of_bits word lowest = four (word / 2 ^ lowest % 2 ^ 16)
 
 -- the rows of two squares of level 2 side by side
 abbrev pub rows_side_by_side : Tree → Tree → List ℕ

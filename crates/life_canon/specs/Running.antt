@@ -9,11 +9,11 @@ use Rattle.life_base.specs.Writing.{WritesPrefix}
 use Rattle.life_base.specs.declared.cell.TheConstants.{MAX_LEVEL}
 use Rattle.life_base.specs.declared.fault.Fault.{Fault}
 use Rattle.life_base.specs.declared.kind.Kind.TheVariants.{Full, ReadFault, WriteFault, InputTooLong}
-use Rattle.life_quad.specs.Store.{Nodes, held}
+use Rattle.life_quad.specs.Store.{Nodes, stored_squares}
 use Rattle.life_canon.specs.Files.{Refuses}
 use Rattle.life_canon.specs.Needs.{LacksFor, LacksForFront}
 use Rattle.life_canon.specs.Room.{AddsFile, HoldsFile, room_for}
-use Rattle.life_canon.specs.Store.{Keeps, IsRead, IsWant}
+use Rattle.life_canon.specs.Store.{Keeps, IsRead, IsShortageOf}
 use Rattle.life_canon.specs.Texts.{IsCanonical}
 use Rattle.life_canon.specs.declared.pattern.Pattern.{Pattern}
 
@@ -42,7 +42,7 @@ pub record Broke (top most : ℕ) (source : SourceRun) (sink : SinkRun) : Type 0
 -- the source failed
 pub data ReadRefuses (top most : ℕ) (store : Nodes) (source : SourceRun) (fault : Fault) : Type 0 where
   by_file : (bytes : List ℕ) → ReadAll most source.before source.after bytes → Refuses top bytes fault → ReadRefuses top most store source fault
-  by_want : IsWant store fault → ReadRefuses top most store source fault
+  by_want : IsShortageOf store fault → ReadRefuses top most store source fault
   by_length : fault ≡ fault_of InputTooLong → CameBeyond most source.before source.after → ReadRefuses top most store source fault
   by_source : fault ≡ fault_of ReadFault → source.failures ≡ 1 → ReadRefuses top most store source fault
 
@@ -65,7 +65,7 @@ pub record IsTightForRead (most : ℕ) (store : Nodes) (source : SourceRun) : Ty
   pub bytes : List ℕ
   pub came : Consumes source.before source.after bytes
   pub within : length bytes ≤ most
-  pub tight : store.limit < length (held store) + room_for (length bytes)
+  pub tight : store.limit < length (stored_squares store) + room_for (length bytes)
 
 -- why a run is refused: nothing came of the input, or its text could not be written
 pub data RunRefuses (top most : ℕ) (store : Nodes) (source : SourceRun) (sink : SinkRun) (fault : Fault) : Type 0 where
@@ -82,7 +82,7 @@ pub record HasRead (top most : ℕ) (store : Nodes) (source : SourceRun) (patter
 pub record HoldsRead (most : ℕ) (store : Nodes) (source : SourceRun) : Type 0 where
   pub bytes : List ℕ
   pub read : ReadAll most source.before source.after bytes
-  pub all : HoldsFile bytes (held store)
+  pub all : HoldsFile bytes (stored_squares store)
 
 -- What a call leaves that reads an input of at most so many bytes into the store: where it succeeds, the store holds every square of the file; a store
 -- that gets full lacks a square which the bytes need that were read, and its limit left less than the room for them; and a failure of the source is

@@ -5,29 +5,26 @@ use Rattle.life_base.specs.declared.cell.TheConstants.{MAX_LEVEL}
 use Rattle.life_base.specs.declared.fault.Fault.{Fault}
 use Rattle.life_mc.specs.Macrocell.{largest_state}
 use Rattle.life_mc.specs.Squares.{HasStatesUpTo}
-use Rattle.life_quad.specs.Keeping.{KeepsSquares, IsWantFault}
-use Rattle.life_quad.specs.Moves.{trimmed}
-use Rattle.life_quad.specs.Store.{Nodes, Knows, IsShared, held, squares, square_of}
+use Rattle.life_quad.specs.Keeping.{KeepsSquares, IsShortageFault}
+use Rattle.life_quad.specs.Moves.{trimmed_square}
+use Rattle.life_quad.specs.Store.{Nodes, Knows, IsShared, stored_squares}
 use Rattle.life_quad.specs.declared.id.Id.{Id}
 use Rattle.life_canon.specs.Universe.{Universe, least_level, whole, square_universe}
 use Rattle.life_canon.specs.Files.{Reads, Refuses}
 use Rattle.life_canon.specs.declared.pattern.Pattern.{Pattern}
+pub use Rattle.life_quad.specs.Store.{content}
 
 -- the Id names a square of the store
 abbrev pub IsKnown : Nodes → Id → Type 0
 IsKnown store id = Knows store id × IsShared store
 
--- the square of an Id
-abbrev pub content : Nodes → Id → Tree
-content store id = square_of (squares store.nodes) id
-
 -- each Id keeps its square, nothing stored is taken away, and the limit stays
 abbrev pub Keeps : Nodes → Nodes → Type 0
-Keeps = KeepsSquares IsKnown content held (λ store. store.limit)
+Keeps = KeepsSquares IsKnown content stored_squares (λ store. store.limit)
 
 -- the store holds its limit, or a growth of memory was refused
-abbrev pub IsWant : Nodes → Fault → Type 0
-IsWant store = IsWantFault (held store) store.limit
+abbrev pub IsShortageOf : Nodes → Fault → Type 0
+IsShortageOf store = IsShortageFault (stored_squares store) store.limit
 
 -- what a pattern in a store says
 abbrev pub universe_in : Nodes → Pattern → Universe
@@ -58,9 +55,9 @@ IsOfFile top store pattern = (bytes : List ℕ) × IsRead top bytes store patter
 pub record IsTrimmed (store : Nodes) (pattern : Pattern) : Type 0 where
   pub known : IsKnown store pattern.root
   pub level : least_level pattern.rule ≤ depth (content store pattern.root)
-  pub trimmed : trimmed (content store pattern.root) (least_level pattern.rule) ≡ content store pattern.root
+  pub trimmed : trimmed_square (content store pattern.root) (least_level pattern.rule) ≡ content store pattern.root
   pub states : HasStatesUpTo (largest_state pattern.rule) (content store pattern.root)
 
 -- why a call on these bytes is refused
 abbrev pub RefusesIn : ℕ → List ℕ → Nodes → Fault → Type 0
-RefusesIn top bytes store fault = Refuses top bytes fault ⊎ IsWant store fault
+RefusesIn top bytes store fault = Refuses top bytes fault ⊎ IsShortageOf store fault

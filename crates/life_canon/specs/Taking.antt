@@ -6,7 +6,7 @@ use Rattle.life_base.specs.Text.{lines_of}
 use Rattle.life_base.specs.Tree.{Tree}
 use Rattle.life_base.specs.declared.cell.TheConstants.{MAX_LEVEL}
 use Rattle.life_base.specs.declared.fault.Fault.{Fault}
-use Rattle.life_mc.specs.Reading.{Accepts}
+use Rattle.life_mc.specs.Reading.{AcceptsMacrocell}
 use Rattle.life_quad.specs.declared.id.Id.{Id}
 use Rattle.life_rle.specs.File.{HasRuns}
 use Rattle.life_rle.specs.Grammar.{IsSomeRle, IsMarked}
@@ -21,10 +21,10 @@ use Rattle.life_canon.specs.declared.front.Front.{Front}
 -- ---- between two lines
 
 -- the lines that were taken: all that came, but for those behind the one that holds `!`
-abbrev pub taken : Progress → List (List ℕ)
-taken progress.Undecided = []
-taken (progress.Rle reader builder runs) = reader.lines
-taken (progress.Macrocell reader ids waiting) = reader.lines
+abbrev pub taken_lines : Progress → List (List ℕ)
+taken_lines progress.Undecided = []
+taken_lines (progress.Rle reader builder runs) = reader.lines
+taken_lines (progress.Macrocell reader ids waiting) = reader.lines
 
 -- a file of a format was begun, its lines can be continued to one, and none was refused
 pub record IsBegun (macrocell : Bool) (Grammar : List (List ℕ) → Type 0) (lines : List (List ℕ)) (refused : Bool) : Type 0 where
@@ -37,7 +37,7 @@ pub record IsBegun (macrocell : Bool) (Grammar : List (List ℕ) → Type 0) (li
 abbrev pub IsOpen : Progress → Type 0
 IsOpen progress.Undecided = Unit {0}
 IsOpen (progress.Rle reader builder runs) = IsBegun false (IsSomeRle MAX_LEVEL) reader.lines reader.refused
-IsOpen (progress.Macrocell reader ids waiting) = IsBegun true (Accepts MAX_LEVEL) reader.lines reader.refused
+IsOpen (progress.Macrocell reader ids waiting) = IsBegun true (AcceptsMacrocell MAX_LEVEL) reader.lines reader.refused
 
 -- `!` has ended the pattern
 abbrev pub IsOver : Progress → Type 0
@@ -46,10 +46,10 @@ IsOver (progress.Rle reader builder runs) = (file : Rle) × IsMarked MAX_LEVEL r
 IsOver (progress.Macrocell reader ids waiting) = ⊥
 
 -- the reader is that of the format that this line begins or goes on with, and no line was refused
-abbrev pub IsReady : List ℕ → Progress → Type 0
-IsReady line progress.Undecided = ⊥
-IsReady line (progress.Rle reader builder runs) = (is_macrocell (reader.lines ++ line ∷ []) ≡ false) × (reader.refused ≡ false)
-IsReady line (progress.Macrocell reader ids waiting) = (is_macrocell (reader.lines ++ line ∷ []) ≡ true) × (reader.refused ≡ false)
+abbrev pub IsReadyToTake : List ℕ → Progress → Type 0
+IsReadyToTake line progress.Undecided = ⊥
+IsReadyToTake line (progress.Rle reader builder runs) = (is_macrocell (reader.lines ++ line ∷ []) ≡ false) × (reader.refused ≡ false)
+IsReadyToTake line (progress.Macrocell reader ids waiting) = (is_macrocell (reader.lines ++ line ∷ []) ≡ true) × (reader.refused ≡ false)
 
 -- the squares that are kept are those of the lines
 abbrev pub StandsFor : (Id → Type 0) → (Id → Tree) → Progress → Type 0
@@ -75,7 +75,7 @@ pub record IsGoing (bytes kept : List ℕ) (ended : ℕ) (lines : List (List ℕ
   pub count : ended ≡ min (length lines) (2 ^ 64 - 1)
 
 -- the lines behind `!` are free, and nothing is kept
-pub record IsFree (bytes kept : List ℕ) (lines : List (List ℕ)) : Type 0 where
+pub record HasFreeLines (bytes kept : List ℕ) (lines : List (List ℕ)) : Type 0 where
   pub free : List (List ℕ)
   pub whole : whole_lines bytes ≡ lines ++ free
   pub none : kept ≡ []
@@ -84,8 +84,8 @@ pub record IsFree (bytes kept : List ℕ) (lines : List (List ℕ)) : Type 0 whe
 pub record IsFront (bytes kept : List ℕ) (ended : ℕ) (progress : Progress) : Type 0 where
   pub short : length kept ≤ 2 ^ 20
   pub begun : IsOpen progress
-  pub going : (IsOver progress → ⊥) → IsGoing bytes kept ended (taken progress)
-  pub over : IsOver progress → IsFree bytes kept (taken progress)
+  pub going : (IsOver progress → ⊥) → IsGoing bytes kept ended (taken_lines progress)
+  pub over : IsOver progress → HasFreeLines bytes kept (taken_lines progress)
 
 -- the same of the value that a reader keeps
 abbrev pub IsFrontOf : Front → Type 0
@@ -94,5 +94,5 @@ IsFrontOf front = IsFront (bytes_of front.pieces.lines) front.kept.items front.e
 -- the end of the input: its lines were taken, but for those behind `!`
 pub record IsEnd (bytes : List ℕ) (ended : ℕ) (progress : Progress) : Type 0 where
   pub begun : IsOpen progress
-  pub going : (IsOver progress → ⊥) → (lines_of bytes ≡ taken progress) × (ended ≡ min (length (taken progress)) (2 ^ 64 - 1))
-  pub over : IsOver progress → (free : List (List ℕ)) × (lines_of bytes ≡ taken progress ++ free)
+  pub going : (IsOver progress → ⊥) → (lines_of bytes ≡ taken_lines progress) × (ended ≡ min (length (taken_lines progress)) (2 ^ 64 - 1))
+  pub over : IsOver progress → (free : List (List ℕ)) × (lines_of bytes ≡ taken_lines progress ++ free)

@@ -7,7 +7,7 @@ use Rattle.life_base.specs.declared.rule.Rule.{Rule}
 use Rattle.life_mc.specs.Cells.{node_lines}
 use Rattle.life_quad.specs.Cells.{IsBefore}
 use Rattle.life_base.specs.declared.bounds.Bounds.{Bounds}
-use Rattle.life_rle.specs.Written.{rle_text, span}
+use Rattle.life_rle.specs.Written.{rle_text, box_side}
 use Rattle.life_canon.specs.Universe.{Universe}
 use Rattle.life_canon.specs.Files.{Reads}
 use Rattle.life_canon.specs.Listing.{canonical_file, canon_text}
@@ -40,11 +40,11 @@ pub record IsRleOf (top most : ℕ) (bytes text : List ℕ) : Type 0 where
   pub is : text ≡ rle_text universe.rule universe.generation cells
 
 -- the bytes are a file with more nonzero cells than this
-abbrev pub HasMoreCells : ℕ → List ℕ → ℕ → Type 0
-HasMoreCells top bytes most = (cells : List Cell) × HasCells top bytes cells × (most < length cells)
+abbrev pub FileHasMoreCells : ℕ → List ℕ → ℕ → Type 0
+FileHasMoreCells top bytes most = (cells : List Cell) × HasCells top bytes cells × (most < length cells)
 
 -- every cell with a state is in the box, and each side of the box has one
-pub record IsLeastBox (cell : ℤ → ℤ → ℕ) (box : Bounds) : Type 0 where
+pub record IsBoundingBox (cell : ℤ → ℤ → ℕ) (box : Bounds) : Type 0 where
   pub inside : (x y : ℤ) → cell x y ≢ 0 → (box.left ≤ℤ x) × (x ≤ℤ box.right) × (box.top ≤ℤ y) × (y ≤ℤ box.bottom)
   pub at_left : (y : ℤ) × (cell box.left y ≢ 0)
   pub at_right : (y : ℤ) × (cell box.right y ≢ 0)
@@ -53,14 +53,14 @@ pub record IsLeastBox (cell : ℤ → ℤ → ℕ) (box : Bounds) : Type 0 where
 
 -- the least box of the cells with a state, or none where every cell has state 0
 abbrev pub IsBoxOf : (ℤ → ℤ → ℕ) → Option Bounds → Type 0
-IsBoxOf cell box = MatchOption box ((x y : ℤ) → cell x y ≡ 0) (IsLeastBox cell)
+IsBoxOf cell box = MatchOption box ((x y : ℤ) → cell x y ≡ 0) (IsBoundingBox cell)
 
 -- the line of the box: its western column, its northern row, and how many columns and rows it has
 abbrev pub box_text : Option Bounds → List ℕ
 box_text None = codes "box none\n"
 box_text (Some box) =
     codes "box " ++ signed_decimal box.left ++ codes " " ++ signed_decimal box.top ++ codes " "
-    ++ decimal (span box.left box.right) ++ codes " " ++ decimal (span box.top box.bottom) ++ codes "\n"
+    ++ decimal (box_side box.left box.right) ++ codes " " ++ decimal (box_side box.top box.bottom) ++ codes "\n"
 
 -- five lines: the rule, the generation, the number of nonzero cells, their box and the number of node lines
 abbrev pub show_text : Rule → ℕ → ℕ → Option Bounds → ℕ → List ℕ
@@ -69,7 +69,7 @@ show_text rule generation cells box nodes =
     ++ box_text box ++ codes "nodes " ++ decimal nodes ++ codes "\n"
 
 -- the bytes are a file, and the text is its five lines
-pub record IsShown (top : ℕ) (bytes text : List ℕ) : Type 0 where
+pub record IsShownText (top : ℕ) (bytes text : List ℕ) : Type 0 where
   pub universe : Universe
   pub reads : Reads top bytes universe
   pub cells : List Cell

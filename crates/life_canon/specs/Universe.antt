@@ -5,9 +5,9 @@ use Rattle.life_base.specs.declared.rule.Rule.{Rule}
 use Rattle.life_base.specs.declared.rule.Rule.TheVariants.{Life, Named}
 use Rattle.life_base.specs.Rules.{IsRule}
 use Rattle.life_mc.specs.Macrocell.{Macrocell, largest_state}
-use Rattle.life_mc.specs.Cells.{cell as macrocell_cell}
-use Rattle.life_rle.specs.Pattern.{Rle, cell as rle_cell}
-use Rattle.life_quad.specs.Moves.{trimmed}
+use Rattle.life_mc.specs.Cells.{macrocell_cell}
+use Rattle.life_rle.specs.Pattern.{Rle, rle_cell}
+use Rattle.life_quad.specs.Moves.{trimmed_square}
 
 -- A rule, a generation, and a state for every pair of whole numbers: column x, row y, which grows downwards.
 pub record Universe : Type 0 where
@@ -59,12 +59,12 @@ corner zero = pos 0
 corner (suc k) = neg_ℤ (pos (2 ^ k))
 
 -- the square of level k in whose middle (0, 0) lies
-unfoldable pub centred : (ℤ → ℤ → ℕ) → ℕ → Tree
-centred cell k = square cell k (corner k) (corner k)
+unfoldable pub centred_square : (ℤ → ℤ → ℕ) → ℕ → Tree
+centred_square cell k = square cell k (corner k) (corner k)
 
 -- the whole plane, up to the greatest level, without its blank borders; never below the least level
 unfoldable pub whole : ℕ → Universe → Tree
-whole top u = trimmed (centred u.cell top) (least_level u.rule)
+whole top u = trimmed_square (centred_square u.cell top) (least_level u.rule)
 
 -- a coordinate of the square of level k in whose middle (0, 0) lies
 abbrev pub IsWithin : ℕ → ℤ → Type 0
@@ -80,3 +80,7 @@ pub record IsOnPlane (top : ℕ) (u : Universe) : Type 0 where
   pub generation : u.generation < 2 ^ 64
   pub states : (x y : ℤ) → u.cell x y ≤ largest_state u.rule
   pub outside : IsBlankOutside top u.cell
+
+-- two patterns are of one generation
+abbrev pub AreOfOneGeneration : Universe → Universe → Type 0
+AreOfOneGeneration u v = u.generation ≡ v.generation

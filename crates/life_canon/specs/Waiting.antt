@@ -4,7 +4,7 @@ use Rattle.life_base.specs.Refusal.{Prefix}
 use Rattle.life_base.specs.Tree.{Tree, depth}
 use Rattle.life_base.specs.declared.cell.TheConstants.{MAX_LEVEL}
 use Rattle.life_mc.specs.Macrocell.{level_of}
-use Rattle.life_mc.specs.Reading.{Accepts, squares_of}
+use Rattle.life_mc.specs.Reading.{AcceptsMacrocell, squares_of}
 use Rattle.life_mc.specs.Squares.{line_tree, tree_of}
 use Rattle.life_mc.specs.declared.line.Line.{Line}
 use Rattle.life_mc.specs.declared.line.Line.TheVariants.{Leaf, Quad}
@@ -34,7 +34,7 @@ pub record IsOfNodeLine (top : ℕ) (lines : List (List ℕ)) (t : Tree) : Type 
   pub behind : List (List ℕ)
   pub square : Line
   pub are : lines ≡ before ++ line ∷ behind
-  pub front : Prefix (Accepts top) (before ++ line ∷ [])
+  pub front : Prefix (AcceptsMacrocell top) (before ++ line ∷ [])
   pub squares : squares_of (before ++ line ∷ []) ≡ squares_of before ++ square ∷ []
   pub tree : t ≡ line_tree (tree_of (squares_of before) (level_of square - 1)) square
 

@@ -11,7 +11,7 @@ use Rattle.life_mc.specs.declared.line.Line.{Line}
 use Rattle.life_quad.specs.declared.id.Id.{Id}
 use Rattle.life_quad.specs.IdNumbers.{NumberRoom, HasNumberRoom}
 use Rattle.life_canon.specs.Closed.{IsClosed}
-use Rattle.life_canon.specs.Listing.{line_of, number_of, with_all, walk}
+use Rattle.life_canon.specs.Listing.{line_of, number_of_quarter, with_all, walk}
 use Rattle.life_canon.specs.Universe.{is_life, least_level}
 use Rattle.life_canon.specs.declared.pattern.Pattern.{Pattern}
 
@@ -62,7 +62,7 @@ pub record MayWalkPattern (knows : Id → Type 0) (content : Id → Tree) (patte
 pub record Walked {A : Type 0} (knows : Id → Type 0) (content : Id → Tree) (took broke : A → A → List Line → Type 0) (rule : Rule) (q : Id)
     (before after : A) (old new : List Id) (result : Result ℕ Kind) : Type 0 where
   pub wrote : OnOk result (TakesWalk took content rule q before after old new)
-  pub number : IfOk result (λ n. n ≡ number_of (map content new) (content q))
+  pub number : IfOk result (λ n. n ≡ number_of_quarter (map content new) (content q))
   pub part : OnErr result (BreaksIn took broke rule before after (map content old) (with_all (map content old) (walk (content q) (least_level rule))))
   pub numbers : OnOk result (All knows new)
   pub closed : OnOk result (IsClosed (least_level rule) (map content new))

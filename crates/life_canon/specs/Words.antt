@@ -22,42 +22,42 @@ pub use Rattle.life_canon.specs.Laws.{BlankOutside, CanonicalIsLeast, CentredSqu
 pub use Rattle.life_canon.specs.Laws.{FormatsDiffer, LengthHidesNoFault, LengthsStay, PatternsFit, PatternsStay, PatternsTellFiles, ReadersStand}
 pub use Rattle.life_canon.specs.Laws.{RefusalsHaveKinds, RleTextsAreFiles, RleTextsKeepPatterns, SquaresAreCentred, SquaresHavePlaces, TextsAreFiles}
 pub use Rattle.life_canon.specs.Laws.{TextsAreFixed, TextsKeepPatterns, TextsTellPatterns, TextsTellUniverses, WiderPlaneKeepsTexts, WiderPlanesKeepFiles}
-pub use Rattle.life_canon.specs.Least.{IsLeast, IsLeastText}
-pub use Rattle.life_canon.specs.Lesser.{Holds, IsLesser, IsLesserText, IsOldHeld, IsOldLesser, IsUpTo, IsWithin, LinesCome}
+pub use Rattle.life_canon.specs.Least.{IsLeastLineCount, IsLeastText}
+pub use Rattle.life_canon.specs.Lesser.{LesserHolds, IsLesser, IsLesserText, IsOldHeld, IsOldLesser, IsUpTo, IsWithinTexts, LinesCome}
 pub use Rattle.life_canon.specs.LesserLaws.{no-lines-come, old-is-lesser}
-pub use Rattle.life_canon.specs.Listing.{canon_text, canonical_file, is_in, is_small, lines_for, listed, number_of, rows_of, square_file, square_text}
+pub use Rattle.life_canon.specs.Listing.{canon_text, canonical_file, is_in, is_small, lines_for, listed_squares, number_of_quarter, rows_of, square_file, square_text}
 pub use Rattle.life_canon.specs.Needs.{LacksForFront, SomeAtEnd, SomeGrown, SomeOfLine, SomeOfLines, SomeOfMacrocell, SomeOfRuns, SomeRoot}
-pub use Rattle.life_canon.specs.PieceLaws.{piece-begins, piece-stops, unfailed}
+pub use Rattle.life_canon.specs.PieceLaws.{piece-begins, piece-stops, no_failure}
 pub use Rattle.life_canon.specs.Pieces.{PieceBreaks, PieceTakes, WritesFront}
 pub use Rattle.life_canon.specs.Room.{AddsLines, FewSquares, FrontsHold, HoldsFile, HoldsFront, room_for, RoomSuffices}
-pub use Rattle.life_canon.specs.Rows.{row_of_four, row_of_two, rows_side_by_side, square_in}
+pub use Rattle.life_canon.specs.Rows.{row_of_four, row_of_two, rows_side_by_side, square_of_bits}
 pub use Rattle.life_canon.specs.Running.{AreWorking, ReadsPattern, RunsCanon}
-pub use Rattle.life_canon.specs.Store.{content, ForEachFile, IsKnown, IsOfFile, IsPatternOf, IsRead, IsTrimmed, IsWant, Keeps, RefusesIn, universe_in}
-pub use Rattle.life_canon.specs.Taking.{bytes_of, IsEnd, IsFrontOf, IsOpen, IsOver, IsReady, StandsFor, taken}
-pub use Rattle.life_canon.specs.Texts.{AreOrdered, box_text, HasMoreCells, IsCanonical, IsOrdered, IsRleOf, IsShown, show_text}
+pub use Rattle.life_canon.specs.Store.{content, ForEachFile, IsKnown, IsOfFile, IsPatternOf, IsRead, IsTrimmed, IsShortageOf, Keeps, RefusesIn, universe_in}
+pub use Rattle.life_canon.specs.Taking.{bytes_of, IsEnd, IsFrontOf, IsOpen, IsOver, IsReadyToTake, StandsFor, taken_lines}
+pub use Rattle.life_canon.specs.Texts.{AreOrdered, box_text, FileHasMoreCells, IsCanonical, IsOrdered, IsRleOf, IsShownText, show_text}
 pub use Rattle.life_canon.specs.Universe.{is_life, least_level, Universe}
 pub use Rattle.life_canon.specs.Waiting.{HasJoined, IsReadyFor, KeepsLines, NamesFirst}
 pub use Rattle.life_canon.specs.Walking.{BreaksOff, HasRoomFrom, MayWalk, MayWalkPattern, RefusesWalk, seen_in, Walked}
 pub use Rattle.life_canon.specs.declared.progress.TheConstants.{MOST_WAITING}
-pub use Rattle.life_mc.specs.Cells.{cell, leaf_cell, node_lines, root_level}
-pub use Rattle.life_mc.specs.Macrocell.{is_quarter, IsSquare, IsValid, largest_state, level_of, Macrocell}
-pub use Rattle.life_mc.specs.Reading.{Accepts, broken, squares_of}
+pub use Rattle.life_mc.specs.Cells.{macrocell_cell, leaf_cell, node_lines, root_level}
+pub use Rattle.life_mc.specs.Macrocell.{is_quarter, IsSquare, IsValidMacrocell, largest_state, level_of, Macrocell}
+pub use Rattle.life_mc.specs.Reading.{AcceptsMacrocell, broken_rule, squares_of}
 pub use Rattle.life_mc.specs.Squares.{HasStatesUpTo, leaf_tree, line_tree, tree_at, tree_of}
-pub use Rattle.life_mc.specs.Writing.{front_text, node_text}
+pub use Rattle.life_mc.specs.Writing.{header_lines_text, node_text}
 pub use Rattle.life_mc.specs.declared.line.Line.{Line as LineValue}
 pub use Rattle.life_mc.specs.declared.line.Line.TheVariants.{Leaf}
-pub use Rattle.life_quad.specs.Cells.{IsLeastBox, population}
+pub use Rattle.life_quad.specs.Cells.{IsBoundingBoxOfTree, population}
 pub use Rattle.life_quad.specs.Grows.{Grows, GrowsOnly}
-pub use Rattle.life_quad.specs.Keeping.{IsWantKind}
+pub use Rattle.life_quad.specs.Keeping.{IsShortageKind}
 pub use Rattle.life_quad.specs.Laws.{TrimmingIgnoresGrowth}
 pub use Rattle.life_quad.specs.Moves.{CanJoin, quad_of, quads_of}
 pub use Rattle.life_quad.specs.Refused.{SomeOf, SomePart}
-pub use Rattle.life_quad.specs.Store.{four, held, Knows, Nodes, two}
+pub use Rattle.life_quad.specs.Store.{four, stored_squares, Knows, Nodes, two}
 pub use Rattle.life_quad.specs.Turning.{turned_tree}
 pub use Rattle.life_rle.specs.Decided.{LacksHeader}
 pub use Rattle.life_rle.specs.File.{HasRuns}
-pub use Rattle.life_rle.specs.Grammar.{Breaks as BreaksRle, IsSomeRle}
-pub use Rattle.life_rle.specs.Written.{span}
+pub use Rattle.life_rle.specs.Grammar.{BreaksRle, IsSomeRle}
+pub use Rattle.life_rle.specs.Written.{box_side}
 pub use Rattle.life_strip.specs.Filling.{IsFilling}
 pub use Rattle.std.specs.Fmt.{signed_decimal}
 pub use Rattle.std.specs.Str.{byte}

@@ -1,7 +1,7 @@
 //! How many node lines and cells a pattern has, counted by its node lines as they come.
 
 ghost use Rattle.std.specs.Prelude.{◌≡◌, ◌==◌, false, ℕ, List, ◌-◌, ◌<◌, ◌≤◌, ◌^◌, [], length, slice_index_or, IfOk, IfErr, refl};
-ghost use Rattle.life_canon.specs.Words.{Memory, depth, largest_state, HasStatesUpTo, leaf_tree, population, CountsLines, line_count, number_count, listed, least_level, IsMemory};
+ghost use Rattle.life_canon.specs.Words.{Memory, depth, largest_state, HasStatesUpTo, leaf_tree, population, CountsLines, line_count, number_count, listed_squares, least_level, IsMemory};
 
 use crate::line_sink::LineSink;
 use crate::node_walk::walk_pattern;
@@ -136,7 +136,7 @@ pub(crate) fn count_all<S: SharedSquares>(
         (S.content squares.now pattern.now.root) }
     requires none { numbers.ids ≡ [] }
     ensures lines { IfOk result (λ counts. counts.lines ≡ length
-        (listed (S.content squares.now pattern.now.root) (least_level pattern.now.rule))) }
+        (listed_squares (S.content squares.now pattern.now.root) (least_level pattern.now.rule))) }
     ensures cells { IfOk result
         (λ counts. counts.cells ≡ population (S.content squares.now pattern.now.root)) }
     ensures kind { IfErr result IsMemory }

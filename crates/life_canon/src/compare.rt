@@ -1,7 +1,7 @@
 //! Two files, compared.
 
 ghost use Rattle.std.specs.Prelude.{◌≡◌, ◌↔◌, ◌⊎◌, IsTrue, IfOk, IfErr, OnOk};
-ghost use Rattle.life_canon.specs.Words.{ReadsBothInto, Accepted, Same, Refuses, IsWant};
+ghost use Rattle.life_canon.specs.Words.{ReadsBothInto, Accepted, Same, Refuses, IsShortageOf};
 
 use crate::files::read;
 use crate::pattern::Pattern;
@@ -29,7 +29,7 @@ pub fn same(alloc: Global, store: &mut Shared, first: &[u8], second: &[u8]) -> R
     ensures answer { IfOk result (λ answer. IsTrue answer ↔ Same MAX_LEVEL first.now second.now) }
     ensures fault { IfErr result (λ fault. Refuses MAX_LEVEL first.now fault
         ⊎ (Accepted MAX_LEVEL first.now × Refuses MAX_LEVEL second.now fault)
-        ⊎ IsWant store.new fault) }
+        ⊎ IsShortageOf store.new fault) }
     ensures reads { ReadsBothInto first.now second.now store.old store.new result }
 {
     let a = read(alloc, store, first)?;

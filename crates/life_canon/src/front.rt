@@ -1,7 +1,7 @@
 //! The prefix of a file that has been read so far, cut into lines.
 
 ghost use Rattle.std.specs.Prelude.{◌≡◌, ◌==◌, ◌⊎◌, ◌++◌, ◌<◌, ◌≤◌, ◌+◌, ◌-◌, ◌^◌, min, codes, true, ℕ, List, [], length, position, Some, None, IfSome, IfOk, IfErr, OnOk};
-ghost use Rattle.life_canon.specs.Words.{byte, Full, Memory, has_no_feed, fault_at, fault_of, Nodes, Stores, StoresFile, StoresLines, RefusesFront, HasBytes, HoldsFile, held, IsFrontIn, IsOpenIn, TakesLine, whole_lines, SomeOfLines, IsKnown, IsRead, IsWant, RefusesIn, content, IsEnd, IsFrontOf, IsOpen, IsOver, StandsFor, bytes_of};
+ghost use Rattle.life_canon.specs.Words.{byte, Full, Memory, has_no_feed, fault_at, fault_of, Nodes, Stores, StoresFile, StoresLines, RefusesFront, HasBytes, HoldsFile, stored_squares, IsFrontIn, IsOpenIn, TakesLine, whole_lines, SomeOfLines, IsKnown, IsRead, IsShortageOf, RefusesIn, content, IsEnd, IsFrontOf, IsOpen, IsOver, StandsFor, bytes_of};
 
 use crate::pattern::Pattern;
 use crate::progress::Progress;
@@ -133,7 +133,7 @@ impl Front {
         ensures bytes { OnOk result
             (HasBytes (end.now ++ codes "\n") store.new self.old self.new) }
         ensures short { length self.new.kept.items ≤ 2 ^ 20 }
-        ensures fault { IfErr result (λ fault. IsWant store.new fault
+        ensures fault { IfErr result (λ fault. IsShortageOf store.new fault
             ⊎ ((rest : List ℕ) → RefusesFront MAX_LEVEL
             (bytes_of self.old.pieces.lines ++ end.now ++ codes "\n" ++ rest) fault)) }
         ensures stores { Stores (fault_of Full) store.old store.new result
@@ -169,7 +169,7 @@ impl Front {
         requires front { IsFrontIn store.old self.old }
         ensures bytes { OnOk result (HasBytes piece.now store.new self.old self.new) }
         ensures short { length self.new.kept.items ≤ 2 ^ 20 }
-        ensures fault { IfErr result (λ fault. IsWant store.new fault
+        ensures fault { IfErr result (λ fault. IsShortageOf store.new fault
             ⊎ RefusesFront MAX_LEVEL (bytes_of self.old.pieces.lines ++ piece.now) fault) }
         ensures stores { StoresLines (whole_lines (bytes_of self.old.pieces.lines ++ piece.now))
             store.old store.new result }
@@ -203,7 +203,8 @@ impl Front {
     pub(crate) fn finish(self, store: &mut Shared) -> Result<Pattern, Fault>
         requires front { IsFrontIn store.old self }
         ensures pattern { IfOk result (IsRead MAX_LEVEL (bytes_of self.pieces.lines) store.new) }
-        ensures all { OnOk result (HoldsFile (bytes_of self.pieces.lines) (held store.new)) }
+        ensures all { OnOk result (HoldsFile (bytes_of self.pieces.lines)
+            (stored_squares store.new)) }
         ensures fault { IfErr result (RefusesIn MAX_LEVEL (bytes_of self.pieces.lines) store.new) }
         ensures stores { StoresFile (bytes_of self.pieces.lines) store.old store.new result }
     {

@@ -1,7 +1,7 @@
 //! The rows of a leaf's cells, each cell looked up once.
 
 ghost use Rattle.std.specs.Prelude.{◌≡◌, ◌+◌, ◌*◌, ◌<◌, ◌∷◌, ◌++◌, [], ℕ, slice_index, IfSome};
-ghost use Rattle.life_canon.specs.Words.{depth, state_at, HasStatesUpTo, rows_of, four, row_of_two, row_of_four, rows_side_by_side, square_in};
+ghost use Rattle.life_canon.specs.Words.{depth, state_at, HasStatesUpTo, rows_of, four, row_of_two, row_of_four, rows_side_by_side, square_of_bits};
 
 use crate::orientation::Orientation;
 use life_lanes::by_rows;
@@ -166,10 +166,11 @@ fn cells_of<S: Squares, O: Orientation>(
     requires sw { S.knows squares.now parts.now.sw }
     requires se { S.knows squares.now parts.now.se }
     ensures { IfSome result
-        (λ cells. (O.seen orientation.now (S.content squares.now parts.now.nw) ≡ square_in cells 48)
-        × (O.seen orientation.now (S.content squares.now parts.now.ne) ≡ square_in cells 32)
-        × (O.seen orientation.now (S.content squares.now parts.now.sw) ≡ square_in cells 16)
-        × (O.seen orientation.now (S.content squares.now parts.now.se) ≡ square_in cells 0)) }
+        (λ cells. (O.seen orientation.now (S.content squares.now parts.now.nw)
+        ≡ square_of_bits cells 48)
+        × (O.seen orientation.now (S.content squares.now parts.now.ne) ≡ square_of_bits cells 32)
+        × (O.seen orientation.now (S.content squares.now parts.now.sw) ≡ square_of_bits cells 16)
+        × (O.seen orientation.now (S.content squares.now parts.now.se) ≡ square_of_bits cells 0)) }
 {
     let nw = orientation.small_cells(squares, parts.nw)?;
     let ne = orientation.small_cells(squares, parts.ne)?;
@@ -183,8 +184,8 @@ fn cells_of<S: Squares, O: Orientation>(
 /// The eight rows of four squares of level 2, two by two, from their cells.
 #[inline(always)]
 fn rows_of_word(cells: u64) -> [u8; 8]
-    ensures { result ≡ rows_side_by_side (square_in cells 48) (square_in cells 32)
-        ++ rows_side_by_side (square_in cells 16) (square_in cells 0) }
+    ensures { result ≡ rows_side_by_side (square_of_bits cells 48) (square_of_bits cells 32)
+        ++ rows_side_by_side (square_of_bits cells 16) (square_of_bits cells 0) }
 {
     by_rows(cells).to_be_bytes()
 }

@@ -1,7 +1,7 @@
 //! The lesser of two texts, of which one comes line by line.
 
 ghost use Rattle.std.specs.Prelude.{◌≡◌, ◌⊎◌, ℕ, List, ◌++◌, ◌≤◌, take, drop, length, OnOk, OnErr, IfOk, IfErr};
-ghost use Rattle.life_canon.specs.Words.{Memory, fault_of, IsTrimmed, IsKnown, content, universe_in, canon_text, front_text, node_text, square_text, seen_in, turned_tree, MayWalkPattern, IsUpTo, IsLesser, IsLesserText, IsOldHeld, Holds, LinesCome, IsOldLesser, IsWithin, no-lines-come, old-is-lesser, IsMemory};
+ghost use Rattle.life_canon.specs.Words.{Memory, fault_of, IsTrimmed, IsKnown, content, universe_in, canon_text, header_lines_text, node_text, square_text, seen_in, turned_tree, MayWalkPattern, IsUpTo, IsLesser, IsLesserText, IsOldHeld, LesserHolds, LinesCome, IsOldLesser, IsWithinTexts, no-lines-come, old-is-lesser, IsMemory};
 ghost use Rattle.life_canon.specs.declared.lesser.Lesser.TheVariants.{Old};
 
 use crate::line_sink::LineSink;
@@ -47,7 +47,7 @@ fn compare(rest: &[u8], piece: &[u8]) -> Lesser
 fn decide(bytes: &mut Vec<u8>, count: usize, end: usize) -> Lesser
     requires count { count ≤ end }
     requires end { end ≤ length bytes.old.items }
-    ensures { Holds (take end bytes.old.items)
+    ensures { LesserHolds (take end bytes.old.items)
         (take count bytes.old.items ++ drop end bytes.old.items) result bytes.new.items }
 {
     let whole = bytes.len();
@@ -71,9 +71,9 @@ fn decide(bytes: &mut Vec<u8>, count: usize, end: usize) -> Lesser
 /// Decides between the old text and the new one, of which a line comes after bytes with which the old text begins.
 fn decide_by_line(bytes: &mut Vec<u8>, count: usize, line: &Line) -> Result<Lesser, Kind>
     requires { count ≤ length bytes.old.items }
-    ensures decided { IfOk result (λ lesser. Holds bytes.old.items
+    ensures decided { IfOk result (λ lesser. LesserHolds bytes.old.items
         (take count bytes.old.items ++ node_text line.now) lesser bytes.new.items) }
-    ensures within { IfOk result (λ lesser. IsWithin lesser bytes.new.items) }
+    ensures within { IfOk result (λ lesser. IsWithinTexts lesser bytes.new.items) }
     ensures kind { IfErr result IsMemory }
 {
     let end = bytes.len();
@@ -90,7 +90,7 @@ struct LesserText {
 }
 
 impl LineSink<()> for LesserText {
-    ghost ready = { λ a. IsWithin a.0.lesser a.0.bytes.items };
+    ghost ready = { λ a. IsWithinTexts a.0.lesser a.0.bytes.items };
 
     ghost took = { λ a b lines. LinesCome a.0.lesser a.0.bytes.items b.0.lesser b.0.bytes.items lines };
 
@@ -117,7 +117,8 @@ impl LineSink<()> for LesserText {
 /// The lesser text, where this is held after a walk that returned this. Of two texts of which one begins with the other, the shorter one is the lesser.
 fn finish(mut text: LesserText, walked: Result<(), Kind>) -> Result<Vec<u8>, Kind>
     requires kind { IfErr walked (λ kind. (kind ≡ Memory) ⊎ (text.lesser ≡ Old)) }
-    ensures lesser { (old new : List ℕ) → OnOk walked (Holds old new text.lesser text.bytes.items)
+    ensures lesser { (old new : List ℕ) → OnOk walked
+        (LesserHolds old new text.lesser text.bytes.items)
         → OnErr walked (IsOldHeld old new text.lesser text.bytes.items)
         → IfOk result (λ lesser. IsLesserText old new lesser.items) }
     ensures kind { IfErr result IsMemory }
@@ -138,9 +139,9 @@ fn finish(mut text: LesserText, walked: Result<(), Kind>) -> Result<Vec<u8>, Kin
 
 /// The old text and the new one, of which the header lines came.
 fn begin(mut best: Vec<u8>, pattern: &Pattern) -> Result<LesserText, Kind>
-    ensures holds { IfOk result (λ text. Holds best.items
-        (front_text pattern.now.rule pattern.now.generation) text.lesser text.bytes.items) }
-    ensures within { IfOk result (λ text. IsWithin text.lesser text.bytes.items) }
+    ensures holds { IfOk result (λ text. LesserHolds best.items
+        (header_lines_text pattern.now.rule pattern.now.generation) text.lesser text.bytes.items) }
+    ensures within { IfOk result (λ text. IsWithinTexts text.lesser text.bytes.items) }
     ensures kind { IfErr result IsMemory }
 {
     let end = best.len();

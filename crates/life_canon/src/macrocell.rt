@@ -3,7 +3,7 @@
 ghost use Rattle.std.proofs.Common.{sym};
 ghost use Rattle.std.proofs.lemmas.List.{append-nil};
 ghost use Rattle.std.specs.Prelude.{◌≡◌, ◌++◌, [], IfOk, IfErr};
-ghost use Rattle.life_canon.specs.Words.{Memory, fault_of, node_lines, square_file, canonical_file, IsLeast, IsTrimmed, universe_in, MayWalkPattern, IsMemory};
+ghost use Rattle.life_canon.specs.Words.{Memory, fault_of, node_lines, square_file, canonical_file, IsLeastLineCount, IsTrimmed, universe_in, MayWalkPattern, IsMemory};
 
 use crate::line_sink::LineSink;
 use crate::node_walk::walk_pattern;
@@ -75,7 +75,7 @@ pub fn number(alloc: Global, store: &Shared, pattern: &Pattern) -> Result<McFile
     ensures file { IfOk result
         (λ file. file ≡ canonical_file MAX_LEVEL (universe_in store.now pattern.now)) }
     ensures least { IfOk result
-        (λ file. IsLeast MAX_LEVEL (universe_in store.now pattern.now) (node_lines file)) }
+        (λ file. IsLeastLineCount MAX_LEVEL (universe_in store.now pattern.now) (node_lines file)) }
     ensures memory { IfErr result (λ fault. fault ≡ fault_of Memory) }
 {
     let numbers = begin_numbers(alloc, store, pattern)?;

@@ -1,7 +1,7 @@
 //! The walk that numbers the squares of a pattern and gives their lines.
 
 ghost use Rattle.std.specs.Prelude.{◌≡◌, ◌==◌, ◌&&◌, ◌⊎◌, ◌≤◌, [], true, false, map, All, OnOk, OnErr, IfErr, MatchOption};
-ghost use Rattle.life_canon.specs.Words.{depth, is_blank_tree, is_life, least_level, is_small, is_in, number_of, listed, lines_for, MayWalk, MayWalkPattern, Walked, RefusesWalk, seen_in};
+ghost use Rattle.life_canon.specs.Words.{depth, is_blank_tree, is_life, least_level, is_small, is_in, number_of_quarter, listed_squares, lines_for, MayWalk, MayWalkPattern, Walked, RefusesWalk, seen_in};
 
 use crate::line_sink::LineSink;
 use crate::orientation::Orientation;
@@ -35,7 +35,7 @@ fn known_number<S: SharedSquares, O: Orientation>(
     ensures number { MatchOption result
         ((1 ≤ depth (O.seen orientation.now (S.content squares.now id)))
         × (is_blank_tree (O.seen orientation.now (S.content squares.now id)) ≡ false))
-        (λ number. number ≡ number_of
+        (λ number. number ≡ number_of_quarter
         (map (seen_in (O.seen orientation.now) (S.content squares.now)) numbers.now.ids)
         (O.seen orientation.now (S.content squares.now id))) }
     ensures there { MatchOption result
@@ -204,11 +204,11 @@ pub(crate) fn walk_pattern<S: SharedSquares, O: Orientation, D, L: LineSink<D>>(
     requires ready { L.ready (lines.old, device.old) }
     ensures took { OnOk result (L.took (lines.old, device.old) (lines.new, device.new)
         (lines_for pattern.now.rule
-        (listed (O.seen orientation.now (S.content squares.now pattern.now.root))
+        (listed_squares (O.seen orientation.now (S.content squares.now pattern.now.root))
         (least_level pattern.now.rule)))) }
     ensures broke { OnErr result (L.broke (lines.old, device.old) (lines.new, device.new)
         (lines_for pattern.now.rule
-        (listed (O.seen orientation.now (S.content squares.now pattern.now.root))
+        (listed_squares (O.seen orientation.now (S.content squares.now pattern.now.root))
         (least_level pattern.now.rule)))) }
     ensures ready { OnOk result (L.ready (lines.new, device.new)) }
     ensures refused { IfErr result (RefusesWalk (L.refuses (lines.new, device.new))

@@ -1,7 +1,7 @@
 //! A piece of a text, which is written before it outgrows its capacity.
 
 ghost use Rattle.std.specs.Prelude.{refl, ◌≡◌, ◌⊎◌, ◌+◌, ◌++◌, ◌≤◌, [], true, vec_len, vec_capacity, OnOk, OnErr};
-ghost use Rattle.life_canon.specs.Words.{WriteFault, WritesPrefix, LeavesSink, node_text, WritesFront, PieceTakes, PieceBreaks, piece-begins, piece-stops, unfailed};
+ghost use Rattle.life_canon.specs.Words.{WriteFault, WritesPrefix, LeavesSink, node_text, WritesFront, PieceTakes, PieceBreaks, piece-begins, piece-stops, no_failure};
 
 use crate::line_sink::LineSink;
 use life_base::{Kind, Sink, write_text};
@@ -70,7 +70,7 @@ impl<W: Sink> LineSink<W> for Piece {
 
     ghost begins = { λ a. record { text = piece-begins (W.contents a.1) a.0.bytes.items; stalled = refl } };
 
-    ghost stops = { λ a ready _ lines more took. record { prefix = piece-stops _ _ _ _ lines took.text more; stalled = unfailed (W.failures a.1) ready.1 } };
+    ghost stops = { λ a ready _ lines more took. record { prefix = piece-stops _ _ _ _ lines took.text more; stalled = no_failure (W.failures a.1) ready.1 } };
 
     #[inline(always)]
     fn take(&mut self, device: &mut W, line: &Line) -> Result<(), Kind> {

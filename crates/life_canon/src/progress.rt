@@ -1,7 +1,7 @@
 //! The lines of a file of either format, put into a store as they come.
 
 ghost use Rattle.std.specs.Prelude.{◌≡◌, ◌↔◌, ◌⊎◌, ◌++◌, ◌∷◌, [], ◌<◌, ◌≤◌, ℤ, Some, IsTrue, false, ℕ, List, IfOk, IfErr, OnOk, max, length, All};
-ghost use Rattle.life_canon.specs.Words.{Full, NoHeader, Prefix, depth, tree_cell, cell, root_level, Macrocell, IsValid, Accepts, squares_of, broken, Nodes, held, Grows, IsWantKind, LacksHeader, HasRuns, BreaksRle, IsSomeRle, IsFilling, IsBuilt, AreNext, Stores, StoresIn, Breaks, Says, is_macrocell, least_level, IsOpenIn, IsKnown, content, IsPatternOf, AreSquaresIn, ForMacrocell, HasGrown, HoldsFile, IsEnd, SomeAtEnd, SomeOfLines, SomeOfMacrocell, SomeOfRuns, SomeRoot, IsOpen, IsOver, IsReady, StandsFor, taken, Universe, CanJoin, HasJoined, IsReadyFor, KeepsLines, quads_of, SomeOf, MOST_WAITING};
+ghost use Rattle.life_canon.specs.Words.{Full, NoHeader, Prefix, depth, tree_cell, macrocell_cell, root_level, Macrocell, IsValidMacrocell, AcceptsMacrocell, squares_of, broken_rule, Nodes, stored_squares, Grows, IsShortageKind, LacksHeader, HasRuns, BreaksRle, IsSomeRle, IsFilling, IsBuilt, AreNext, Stores, StoresIn, Breaks, Says, is_macrocell, least_level, IsOpenIn, IsKnown, content, IsPatternOf, AreSquaresIn, ForMacrocell, HasGrown, HoldsFile, IsEnd, SomeAtEnd, SomeOfLines, SomeOfMacrocell, SomeOfRuns, SomeRoot, IsOpen, IsOver, IsReadyToTake, StandsFor, taken_lines, Universe, CanJoin, HasJoined, IsReadyFor, KeepsLines, quads_of, SomeOf, MOST_WAITING};
 
 use crate::line_squares::{grow_to, line_quarters, names_first};
 use crate::pattern::{Pattern, least_level};
@@ -64,7 +64,7 @@ fn take_rle_line<S: Squares>(
     ensures front { OnOk result (Prefix (IsSomeRle MAX_LEVEL) lines.new.lines) }
     ensures built { OnOk result (IsBuilt (S.knows squares.new) (S.content squares.new)
         (HasRuns MAX_LEVEL lines.new.lines) builder.new) }
-    ensures fault { IfErr result (λ kind. IsWantKind (S.stored squares.new) (S.most squares.new)
+    ensures fault { IfErr result (λ kind. IsShortageKind (S.stored squares.new) (S.most squares.new)
         kind ⊎ BreaksRle MAX_LEVEL lines.old.lines line.now kind) }
     ensures stores { StoresIn S.Squares squares.old squares.new result
         (λ P. SomeOfLines MAX_LEVEL P (lines.old.lines ++ line.now ∷ [])) }
@@ -142,11 +142,11 @@ fn take_macrocell_line<S: Squares>(
     requires most { most ≤ MOST_WAITING }
     ensures lines { OnOk result
         (lines.new ≡ record { lines = lines.old.lines ++ line.now ∷ []; refused = false }) }
-    ensures front { OnOk result (Prefix (Accepts MAX_LEVEL) lines.new.lines) }
+    ensures front { OnOk result (Prefix (AcceptsMacrocell MAX_LEVEL) lines.new.lines) }
     ensures squares { OnOk result (KeepsLines (S.knows squares.new) (S.content squares.new)
         lines.new.lines ids.new.items waiting.new.items) }
-    ensures fault { IfErr result (λ kind. IsWantKind (S.stored squares.new) (S.most squares.new)
-        kind ⊎ (broken MAX_LEVEL lines.old.lines line.now ≡ Some kind)) }
+    ensures fault { IfErr result (λ kind. IsShortageKind (S.stored squares.new) (S.most squares.new)
+        kind ⊎ (broken_rule MAX_LEVEL lines.old.lines line.now ≡ Some kind)) }
     ensures stores { StoresIn S.Squares squares.old squares.new result
         (λ P. SomeOfLines MAX_LEVEL P (lines.old.lines ++ line.now ∷ [])) }
 {
@@ -208,14 +208,15 @@ fn trimmed_pattern<S: Squares>(
 
 /// The square of the last node line, or a blank one.
 fn last_square<S: Squares>(squares: &S, ids: &[Id]) -> Id
-    requires { (file : Macrocell) × IsValid MAX_LEVEL file
+    requires { (file : Macrocell) × IsValidMacrocell MAX_LEVEL file
         × AreSquaresIn S.Squares squares.now file.lines ids.now }
     ensures known { S.knows squares.now result }
     ensures high { 1 ≤ depth (S.content squares.now result) }
     ensures level { ForMacrocell S.Squares squares.now ids.now
         (λ file. depth (S.content squares.now result) ≡ max 1 (root_level file.lines)) }
     ensures cells { ForMacrocell S.Squares squares.now ids.now
-        (λ file. (x y : ℤ) → tree_cell (S.content squares.now result) x y ≡ cell file x y) }
+        (λ file. (x y : ℤ) → tree_cell (S.content squares.now result) x y
+        ≡ macrocell_cell file x y) }
 {
     match ids.last() {
         Some(id) => *id,
@@ -226,8 +227,8 @@ fn last_square<S: Squares>(squares: &S, ids: &[Id]) -> Id
 impl Progress {
     /// The format of a file whose first line this is.
     fn begun(alloc: Global, line: &[u8]) -> Progress
-        ensures ready { IsReady line.now result }
-        ensures lines { taken result ≡ [] }
+        ensures ready { IsReadyToTake line.now result }
+        ensures lines { taken_lines result ≡ [] }
         ensures stands { (store : Nodes) → StandsFor (IsKnown store) (content store) result }
     {
         if begins_with(line, b"[M2]") {
@@ -240,8 +241,8 @@ impl Progress {
     /// Begins the file of the format of a line that is the first.
     fn begin(&mut self, alloc: Global, line: &[u8])
         requires { IsOpen self.old }
-        ensures ready { IsReady line.now self.new }
-        ensures lines { taken self.new ≡ taken self.old }
+        ensures ready { IsReadyToTake line.now self.new }
+        ensures lines { taken_lines self.new ≡ taken_lines self.old }
         ensures stands { (store : Nodes) → StandsFor (IsKnown store) (content store) self.old
             → StandsFor (IsKnown store) (content store) self.new }
     {
@@ -269,12 +270,12 @@ impl Progress {
         line: &[u8],
     ) -> Result<(), Kind>
         requires { IsOpenIn store.old self.old }
-        ensures lines { OnOk result (taken self.new ≡ taken self.old ++ line.now ∷ []) }
+        ensures lines { OnOk result (taken_lines self.new ≡ taken_lines self.old ++ line.now ∷ []) }
         ensures progress { OnOk result (IsOpenIn store.new self.new) }
-        ensures fault { IfErr result (λ kind. IsWantKind (held store.new) store.new.limit kind
-            ⊎ Breaks MAX_LEVEL (taken self.old) line.now kind) }
+        ensures fault { IfErr result (λ kind. IsShortageKind (stored_squares store.new)
+            store.new.limit kind ⊎ Breaks MAX_LEVEL (taken_lines self.old) line.now kind) }
         ensures stores { Stores Full store.old store.new result
-            (λ P. SomeOfLines MAX_LEVEL P (taken self.old ++ line.now ∷ [])) }
+            (λ P. SomeOfLines MAX_LEVEL P (taken_lines self.old ++ line.now ∷ [])) }
     {
         self.begin(alloc, line);
         match self {
@@ -293,15 +294,16 @@ impl Progress {
     pub(crate) fn end(self, store: &mut Shared) -> Result<Pattern, Kind>
         requires { IsOpenIn store.old self }
         ensures pattern { IfOk result (λ pattern. (universe : Universe)
-            × Says MAX_LEVEL (taken self) universe
+            × Says MAX_LEVEL (taken_lines self) universe
             × IsPatternOf MAX_LEVEL (IsKnown store.new) (content store.new) universe pattern) }
         ensures all { OnOk result ((bytes : List ℕ) (ended : ℕ) → IsEnd bytes ended self
-            → HoldsFile bytes (held store.new)) }
-        ensures fault { IfErr result (λ kind. IsWantKind (held store.new) store.new.limit kind
-            ⊎ ((kind ≡ NoHeader) × LacksHeader MAX_LEVEL (taken self)
-            × (is_macrocell (taken self) ≡ false))) }
+            → HoldsFile bytes (stored_squares store.new)) }
+        ensures fault { IfErr result (λ kind. IsShortageKind (stored_squares store.new)
+            store.new.limit kind ⊎ ((kind ≡ NoHeader) × LacksHeader MAX_LEVEL (taken_lines self)
+            × (is_macrocell (taken_lines self) ≡ false))) }
         ensures stores { Stores Full store.old store.new result
-            (λ P. SomeAtEnd MAX_LEVEL P (taken self) ⊎ SomeOfMacrocell MAX_LEVEL P (taken self)) }
+            (λ P. SomeAtEnd MAX_LEVEL P (taken_lines self)
+            ⊎ SomeOfMacrocell MAX_LEVEL P (taken_lines self)) }
     {
         match self {
             Progress::Undecided => Err(Kind::NoHeader),

@@ -1,7 +1,7 @@
 //! A file of either format that comes in pieces.
 
 ghost use Rattle.std.specs.Prelude.{◌≡◌, ◌⊎◌, ◌++◌, [], true, false, IfOk, IfErr, OnOk, OnErr};
-ghost use Rattle.life_canon.specs.Words.{Spent, FaultValue, fault_of, Nodes, FeedsInto, EndsInto, RefusesFront, IsOverAt, Stands, IsRead, IsWant, RefusesIn};
+ghost use Rattle.life_canon.specs.Words.{Spent, FaultValue, fault_of, Nodes, FeedsInto, EndsInto, RefusesFront, IsOverAt, Stands, IsRead, IsShortageOf, RefusesIn};
 
 use crate::front::Front;
 use crate::pattern::Pattern;
@@ -65,7 +65,7 @@ impl Reader {
         ensures front { OnOk result
             ((fault : FaultValue) → RefusesFront MAX_LEVEL self.new.bytes fault → ⊥) }
         ensures fault { self.old.spent ≡ false
-            → IfErr result (λ fault. IsWant store.new fault
+            → IfErr result (λ fault. IsShortageOf store.new fault
             ⊎ RefusesFront MAX_LEVEL (self.old.bytes ++ piece.now) fault) }
         ensures feeds { FeedsInto self.old.bytes piece.now store.old store.new result }
         ensures refused { OnErr result (self.new.spent ≡ true) }

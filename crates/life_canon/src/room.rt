@@ -14,7 +14,7 @@ const LEAST_BYTES: u64 = 8;
 /// When capacity is reserved in a store for the squares of the rest of an input, and for how many: at the rate of the bytes before it. It changes
 /// nothing that can be seen.
 #[derive(Drop)]
-pub(crate) struct Room {
+pub(crate) struct ReservePlan {
     /// How many nodes the store had before the input.
     nodes: usize,
     /// About how many bytes the input has, or 0.
@@ -23,9 +23,9 @@ pub(crate) struct Room {
     next: u64,
 }
 
-impl Room {
-    pub(crate) fn new(store: &Shared, expected: u64) -> Room {
-        Room {
+impl ReservePlan {
+    pub(crate) fn new(store: &Shared, expected: u64) -> ReservePlan {
+        ReservePlan {
             nodes: store.nodes(),
             expected,
             next: SAMPLE,

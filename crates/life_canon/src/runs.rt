@@ -1,13 +1,13 @@
 //! From a source to a sink.
 
 ghost use Rattle.std.specs.Prelude.{◌≡◌, ◌≢◌, ◌⊎◌, ◌+◌, ◌<◌, ◌≤◌, ◌^◌, ℕ, List, length, true, false, IsTrue, ◌↔◌, IfOk, IfErr, OnOk, IfSome, Some, None, Err, ◌++◌};
-ghost use Rattle.life_canon.specs.Words.{source_run, sink_run, fault_of, ReadsPattern, RunsCanon, AreWorking, RefusesFront, Stands, whole_lines, Tree, LacksForFront, AddsLines, HoldsFront, room_for, Keeps, IsWant};
+ghost use Rattle.life_canon.specs.Words.{source_run, sink_run, fault_of, ReadsPattern, RunsCanon, AreWorking, RefusesFront, Stands, whole_lines, Tree, LacksForFront, AddsLines, HoldsFront, room_for, Keeps, IsShortageOf};
 ghost use Rattle.life_canon.specs.ReadWhole.{ReadsWhole};
 
 use crate::pattern::Pattern;
 use crate::piece::PIECE;
 use crate::reader::Reader;
-use crate::room::Room;
+use crate::room::ReservePlan;
 use crate::writer::{begin_text, deliver_squares};
 use life_base::{Fault, Kind, MAX_LEVEL, Sink, Source};
 use life_quad::Shared;
@@ -39,7 +39,7 @@ fn feed_piece(
         × Stands store.new reader.new) }
     ensures refused { IfOk result (λ next. IfSome next (λ fault. (refused ≡ Some fault)
         ⊎ ((refused ≡ None) × RefusesFront MAX_LEVEL (reader.old.bytes ++ piece.now) fault))) }
-    ensures want { IfErr result (IsWant store.new) }
+    ensures want { IfErr result (IsShortageOf store.new) }
     ensures needed { result ≡ Err (fault_of Kind.Full)
         → (refused ≡ None) × LacksForFront MAX_LEVEL (reader.old.bytes ++ piece.now) store.new }
     ensures adds { (bytes : List ℕ) → (refused ≡ None → reader.old.bytes ≡ bytes)
@@ -77,7 +77,7 @@ fn read_by_pieces<R: Source>(
         (source_run R.remaining R.failures source.old source.new)) }
 {
     let mut reader = Reader::new(alloc);
-    let mut room = Room::new(store, source.expected());
+    let mut room = ReservePlan::new(store, source.expected());
     let mut refused = None;
     let mut total = 0u64;
     loop {

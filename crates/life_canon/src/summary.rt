@@ -1,7 +1,7 @@
 //! What a pattern is, in five lines.
 
 ghost use Rattle.std.specs.Prelude.{◌≡◌, ◌++◌, ◌≤◌, codes, decimal, IfOk, IfErr, IfSome, OnOk, MatchOption};
-ghost use Rattle.life_canon.specs.Words.{signed_decimal, fault_of, rule_text, Memory, depth, is_blank_tree, population, IsLeastBox, BoundsValue, span, node_lines, canonical_file, ReadsInto, ForEachFile, RefusesIn, IsOfFile, IsTrimmed, universe_in, content, IsShown, IsOrdered, AreOrdered, box_text, show_text, IsMemory};
+ghost use Rattle.life_canon.specs.Words.{signed_decimal, fault_of, rule_text, Memory, depth, is_blank_tree, population, IsBoundingBoxOfTree, BoundsValue, box_side, node_lines, canonical_file, ReadsInto, ForEachFile, RefusesIn, IsOfFile, IsTrimmed, universe_in, content, IsShownText, IsOrdered, AreOrdered, box_text, show_text, IsMemory};
 ghost use Rattle.std.specs.Prelude.{Option, true};
 
 use crate::cell_counts::{Tally, count_all};
@@ -46,7 +46,7 @@ fn append_coordinate(out: &mut Vec<u8>, number: i64) -> Result<(), Kind>
 /// How many columns or rows lie between two sides, themselves included.
 fn side(low: i64, high: i64) -> u64
     requires { IsOrdered low high }
-    ensures { result ≡ span low high }
+    ensures { result ≡ box_side low high }
 {
     (high - low) as u64 + 1
 }
@@ -99,7 +99,7 @@ fn five_lines(alloc: Global, store: &Shared, pattern: &Pattern) -> Result<Vec<u8
     requires level { 1 ≤ depth (content store.now pattern.now.root) }
     ensures text { IfOk result (λ text. (box : Option BoundsValue)
         × MatchOption box (is_blank_tree (content store.now pattern.now.root) ≡ true)
-        (IsLeastBox (content store.now pattern.now.root))
+        (IsBoundingBoxOfTree (content store.now pattern.now.root))
         × (text.items ≡ show_text pattern.now.rule pattern.now.generation
         (population (content store.now pattern.now.root)) box
         (node_lines (canonical_file MAX_LEVEL (universe_in store.now pattern.now))))) }
@@ -124,7 +124,8 @@ fn five_lines(alloc: Global, store: &Shared, pattern: &Pattern) -> Result<Vec<u8
 pub fn five_lines_of(alloc: Global, store: &Shared, pattern: &Pattern) -> Result<Vec<u8>, Fault>
     requires { IsOfFile MAX_LEVEL store.now pattern.now }
     ensures text { IfOk result
-        (λ text. ForEachFile store.now pattern.now (λ bytes. IsShown MAX_LEVEL bytes text.items)) }
+        (λ text. ForEachFile store.now pattern.now
+        (λ bytes. IsShownText MAX_LEVEL bytes text.items)) }
     ensures memory { IfErr result (λ fault. fault ≡ fault_of Memory) }
 {
     Ok(five_lines(alloc, store, pattern)?)
@@ -137,7 +138,7 @@ pub fn five_lines_of(alloc: Global, store: &Shared, pattern: &Pattern) -> Result
 ///
 /// Those of `canon`. The store keeps what it has as there, and a limit of `14 * length + 264` squares more suffices.
 pub fn show(alloc: Global, store: &mut Shared, bytes: &[u8]) -> Result<Vec<u8>, Fault>
-    ensures text { IfOk result (λ text. IsShown MAX_LEVEL bytes.now text.items) }
+    ensures text { IfOk result (λ text. IsShownText MAX_LEVEL bytes.now text.items) }
     ensures fault { IfErr result (RefusesIn MAX_LEVEL bytes.now store.new) }
     ensures reads { ReadsInto bytes.now store.old store.new result }
 {

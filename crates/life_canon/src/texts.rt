@@ -1,7 +1,7 @@
 //! A file of either format as a text of one form.
 
 ghost use Rattle.std.specs.Prelude.{◌≡◌, ◌⊎◌, ◌^◌, IfOk, IfErr};
-ghost use Rattle.life_canon.specs.Words.{Memory, TooManyCells, fault_of, ReadsInto, Same, IsLeastText, ForEachFile, RefusesIn, IsOfFile, IsCanonical, IsRleOf, HasMoreCells};
+ghost use Rattle.life_canon.specs.Words.{Memory, TooManyCells, fault_of, ReadsInto, Same, IsLeastText, ForEachFile, RefusesIn, IsOfFile, IsCanonical, IsRleOf, FileHasMoreCells};
 
 use crate::files::read;
 use crate::pattern::Pattern;
@@ -44,7 +44,7 @@ pub fn rle_of(alloc: Global, store: &Shared, pattern: &Pattern) -> Result<Vec<u8
         (λ text. ForEachFile store.now pattern.now (λ bytes. Same MAX_LEVEL bytes text.items)) }
     ensures fault { IfErr result (λ fault. (fault ≡ fault_of Memory)
         ⊎ ((fault ≡ fault_of TooManyCells) × ForEachFile store.now pattern.now
-        (λ bytes. HasMoreCells MAX_LEVEL bytes (2 ^ 20)))) }
+        (λ bytes. FileHasMoreCells MAX_LEVEL bytes (2 ^ 20)))) }
 {
     let list = cells(alloc, store, pattern.root, MOST_CELLS)?;
     write_rle(alloc, &pattern.rule, pattern.generation, &list)
@@ -60,7 +60,7 @@ pub fn to_rle(alloc: Global, store: &mut Shared, bytes: &[u8]) -> Result<Vec<u8>
     ensures text { IfOk result (λ text. IsRleOf MAX_LEVEL (2 ^ 20) bytes.now text.items) }
     ensures same { IfOk result (λ text. Same MAX_LEVEL bytes.now text.items) }
     ensures fault { IfErr result (λ fault. RefusesIn MAX_LEVEL bytes.now store.new fault
-        ⊎ ((fault ≡ fault_of TooManyCells) × HasMoreCells MAX_LEVEL bytes.now (2 ^ 20))) }
+        ⊎ ((fault ≡ fault_of TooManyCells) × FileHasMoreCells MAX_LEVEL bytes.now (2 ^ 20))) }
     ensures reads { ReadsInto bytes.now store.old store.new result }
 {
     let pattern = read(alloc, store, bytes)?;

@@ -3,7 +3,7 @@
 ghost use Rattle.std.proofs.Common.{sym};
 ghost use Rattle.std.specs.Prelude.{◌≡◌, ◌++◌, ◌≤◌, [], true, flat_map, vec_capacity, OnOk, IfOk, IfErr};
 ghost use Rattle.std.proofs.lemmas.List.{append-nil};
-ghost use Rattle.life_canon.specs.Words.{Memory, fault_of, WritesText, LeavesSink, depth, Knows, largest_state, HasStatesUpTo, front_text, node_text, least_level, listed, lines_for, canon_text, IsTrimmed, universe_in, content, HasRoomFrom, IsMemory};
+ghost use Rattle.life_canon.specs.Words.{Memory, fault_of, WritesText, LeavesSink, depth, Knows, largest_state, HasStatesUpTo, header_lines_text, node_text, least_level, listed_squares, lines_for, canon_text, IsTrimmed, universe_in, content, HasRoomFrom, IsMemory};
 
 use crate::line_sink::LineSink;
 use crate::node_walk::walk_pattern;
@@ -70,7 +70,7 @@ pub fn text_of(alloc: Global, store: &Shared, pattern: &Pattern) -> Result<Vec<u
 /// The first lines of a pattern's text. Capacity for so many bytes was reserved at once.
 fn front_with_room(alloc: Global, pattern: &Pattern, room: usize) -> Result<Vec<u8>, Kind>
     ensures front { IfOk result
-        (λ front. front.items ≡ front_text pattern.now.rule pattern.now.generation) }
+        (λ front. front.items ≡ header_lines_text pattern.now.rule pattern.now.generation) }
     ensures kind { IfErr result IsMemory }
 {
     let mut front = Vec::with_capacity(alloc, room)?;
@@ -81,7 +81,7 @@ fn front_with_room(alloc: Global, pattern: &Pattern, room: usize) -> Result<Vec<
 /// The same, with space for a piece after them.
 fn begin_front(alloc: Global, pattern: &Pattern) -> Result<Vec<u8>, Kind>
     ensures front { IfOk result
-        (λ front. front.items ≡ front_text pattern.now.rule pattern.now.generation) }
+        (λ front. front.items ≡ header_lines_text pattern.now.rule pattern.now.generation) }
     ensures room { IfOk result (λ front. 65536 ≤ vec_capacity front) }
     ensures kind { IfErr result IsMemory }
 {
@@ -116,7 +116,7 @@ pub(crate) fn begin_text(
     ensures bound { IfOk result (λ p. HasRoomFrom (Knows store.now) (content store.now)
         (least_level pattern.now.rule) p.0.room) }
     ensures front { IfOk result
-        (λ p. p.1.items ≡ front_text pattern.now.rule pattern.now.generation) }
+        (λ p. p.1.items ≡ header_lines_text pattern.now.rule pattern.now.generation) }
     ensures room { IfOk result (λ p. 65536 ≤ vec_capacity p.1) }
     ensures kind { IfErr result IsMemory }
 {
@@ -145,7 +145,8 @@ pub(crate) fn deliver_squares<S: SharedSquares, W: Sink>(
     requires works { W.failures writer.old ≡ 0 }
     ensures text { WritesText (W.contents writer.old) (W.contents writer.new)
         (front.items ++ flat_map node_text (lines_for pattern.now.rule
-        (listed (S.content squares.now pattern.now.root) (least_level pattern.now.rule)))) result }
+        (listed_squares (S.content squares.now pattern.now.root) (least_level pattern.now.rule))))
+        result }
     ensures sink { LeavesSink W.failures W.stalled writer.old writer.new result }
     ensures flushed { OnOk result (W.flushed writer.new ≡ true) }
 {

@@ -66,7 +66,7 @@ module _ (fit : PatternsFit MAX_LEVEL) (unique : FilesAreUnique MAX_LEVEL) (stor
   small_shifted (Ok answer) limit small = λ first second a b large. neither first second a b large
     where
       neither : (first second : List ℕ) → IsRead MAX_LEVEL first store p → IsRead MAX_LEVEL second store q
-          → files.HasLargeForm Moved MAX_LEVEL first ⊎ files.HasLargeForm Moved MAX_LEVEL second → ⊥
+          → files.FileHasLargeForm Moved MAX_LEVEL first ⊎ files.FileHasLargeForm Moved MAX_LEVEL second → ⊥
       neither first second a b (inl it) = small.0 (large_pattern fit store p unique limit first a it)
       neither first second a b (inr it) = small.1 (large_pattern fit store q unique limit second b it)
   small_shifted (Err fault) limit small = tt
@@ -80,7 +80,7 @@ module _ (fit : PatternsFit MAX_LEVEL) (unique : FilesAreUnique MAX_LEVEL) (stor
     where
       neither : (first second : List ℕ) → IsRead MAX_LEVEL first store p → IsRead MAX_LEVEL second store q
           → ¬ HasLargeImage store p × ¬ HasLargeImage store q
-          → files.HasLargeForm Turned MAX_LEVEL first ⊎ files.HasLargeForm Turned MAX_LEVEL second → ⊥
+          → files.FileHasLargeForm Turned MAX_LEVEL first ⊎ files.FileHasLargeForm Turned MAX_LEVEL second → ⊥
       neither first second a b none (inl it) = none.0 (large_turn fit store p unique limit first a it)
       neither first second a b none (inr it) = none.1 (large_turn fit store q unique limit second b it)
   small_turned (Err fault) limit small = tt
@@ -95,7 +95,7 @@ module _ (fit : PatternsFit MAX_LEVEL) (unique : FilesAreUnique MAX_LEVEL) (stor
   unshifted (Err fault) limit (inr large) = inr (λ first second a b. (large.0, either first second a b large.1))
     where
       either : (first second : List ℕ) → IsRead MAX_LEVEL first store p → IsRead MAX_LEVEL second store q → HasLargeForm store p ⊎ HasLargeForm store q
-          → files.HasLargeForm Moved MAX_LEVEL first ⊎ files.HasLargeForm Moved MAX_LEVEL second
+          → files.FileHasLargeForm Moved MAX_LEVEL first ⊎ files.FileHasLargeForm Moved MAX_LEVEL second
       either first second a b (inl it) = inl (large_file fit store p limit first a it)
       either first second a b (inr it) = inr (large_file fit store q limit second b it)
 
@@ -109,7 +109,7 @@ module _ (fit : PatternsFit MAX_LEVEL) (unique : FilesAreUnique MAX_LEVEL) (stor
       inr (λ first second a b. (large.0, (of_one_generation first second a b large.1, either first second a b large.2)))
     where
       either : (first second : List ℕ) → IsRead MAX_LEVEL first store p → IsRead MAX_LEVEL second store q → HasLargeImage store p ⊎ HasLargeImage store q
-          → files.HasLargeForm Turned MAX_LEVEL first ⊎ files.HasLargeForm Turned MAX_LEVEL second
+          → files.FileHasLargeForm Turned MAX_LEVEL first ⊎ files.FileHasLargeForm Turned MAX_LEVEL second
       either first second a b (inl it) = inl (large_image fit store p limit first a it)
       either first second a b (inr it) = inr (large_image fit store q limit second b it)
 

@@ -13,20 +13,20 @@ use Rattle.life_base.specs.declared.kind.Kind.{Kind}
 use Rattle.life_base.specs.declared.kind.Kind.TheVariants.{Full, Memory, TooManyCells, ReadFault, InputTooLong, WriteFault}
 use Rattle.life_base.specs.declared.rule.Rule.{Rule}
 use Rattle.life_quad.specs.Keeping.{AddsOnly}
-use Rattle.life_quad.specs.Store.{Nodes, held}
+use Rattle.life_quad.specs.Store.{Nodes, stored_squares}
 use Rattle.life_canon.specs.Files.{Accepted, Reads, Refuses, is_file_kind}
 use Rattle.life_canon.specs.Laws.{RefusalsHaveKinds}
 use Rattle.life_canon.specs.Needs.{IsNew}
 use Rattle.life_canon.specs.ReadWhole.{ReadsWhole}
-use Rattle.life_canon.specs.Room.{IsOfFile}
+use Rattle.life_canon.specs.Room.{IsSquareOfFile}
 use Rattle.life_canon.specs.Running.{AddsForRead, HasRead, ReadRefuses, ReadsPattern, ReadsSource}
 use Rattle.life_canon.specs.Running as reading
-use Rattle.life_canon.specs.Store.{IsRead, IsWant, content}
-use Rattle.life_canon.specs.Texts.{HasMoreCells, IsRleOf, IsShown}
+use Rattle.life_canon.specs.Store.{IsRead, IsShortageOf, content}
+use Rattle.life_canon.specs.Texts.{FileHasMoreCells, IsRleOf, IsShownText}
 use Rattle.life_canon.specs.Universe.{Universe, whole}
 use Rattle.life_canon.specs.declared.pattern.Pattern.{Pattern}
-use Rattle.life_table.specs.Grammar.{IsFile}
-use Rattle.life_table.specs.Reading.{Refuses as RefusesTable}
+use Rattle.life_table.specs.Grammar.{IsPlainTable}
+use Rattle.life_table.specs.Reading.{RefusesTable}
 use Rattle.life_table.specs.declared.table.Table.{Table}
 use Rattle.command_line.specs.declared.plans.Form.{Form}
 use Rattle.command_line.specs.declared.plans.Form.TheVariants.{Placed, Moved, Turned}
@@ -40,9 +40,9 @@ use Rattle.pattern_sources.specs.Faults.{refusal_of}
 use Rattle.life_cli.specs.Forms.{AreSameIn, HasTooLarge}
 use Rattle.pattern_sources.specs.Forms.{IsTextIn}
 use Rattle.command_line.specs.Plans.{HasSecond}
-use Rattle.life_cli.specs.Jobs.{WritesPlacedText, AreUncompared, by_first, by_second, by_form, by_first_shortage, by_second_shortage, RefusesSame, Compares, made_text, made_status, HasAnswer, TaskMakes, Writes, Worked, BreaksOff, FileRefuses, by_comparing, by_reading, by_writing, by_telling, HasTextByTable, HasNoTextByTable, MadeOf, RefusesStep, HasTable, HasNoTable, table_by_input, table_by_lines, table_by_memory, CanonRefuses, OfFile, TaskRan, TaskRefuses}
+use Rattle.life_cli.specs.Jobs.{WritesPlacedText, AreUncompared, by_first, by_second, by_form, by_first_shortage, by_second_shortage, RefusesSame, Compares, made_text, made_status, HasAnswer, TaskMakes, TaskWrites, Worked, IsWrittenInPart, FileRefuses, by_comparing, by_reading, by_writing, by_telling, HasTextByTable, HasNoTextByTable, MadeOf, RefusesLifeStep, HasTable, HasNoTable, table_by_input, table_by_lines, table_by_memory, CanonRefuses, OfFile, TaskRan, TaskRefuses}
 use Rattle.life_step.specs.Stepped.{IsStepped, IsSteppedBy}
-use Rattle.pattern_sources.specs.Sources.{InputRefuses, by_length, by_source, HasNoText, by_file, by_want, RefusesInForm, AreOfInput, IsTooSmallFor, IsTooSmallToMake, IsWantFor, WantsFor, RefusesMany, HasText, ComesOf}
+use Rattle.pattern_sources.specs.Sources.{InputRefuses, by_length, by_source, HasNoText, by_file, by_want, RefusesInForm, AreOfInput, IsTooSmallFor, IsTooSmallToMake, IsShortageFor, IsCallShortage, RefusesMany, HasText, ComesOf}
 use Rattle.pattern_sources.proofs.SourceLemmas.{holds_more, holds_one}
 use Rattle.life_step.proofs.NeedFacts.{step-lacks}
 
@@ -55,7 +55,7 @@ refused_lines source (Err fault) h = by_want (inl h)
 pub refused_rle : {X : Type 0} (source : SourceRun) (store : Nodes) (pattern : Pattern) (r : Result X Fault)
     → HasRead MAX_LEVEL (2 ^ 30) store source pattern
     → IfErr r (λ fault. (fault ≡ fault_of Memory)
-    ⊎ ((fault ≡ fault_of TooManyCells) × ((b : List ℕ) → IsRead MAX_LEVEL b store pattern → HasMoreCells MAX_LEVEL b (2 ^ 20))))
+    ⊎ ((fault ≡ fault_of TooManyCells) × ((b : List ℕ) → IsRead MAX_LEVEL b store pattern → FileHasMoreCells MAX_LEVEL b (2 ^ 20))))
     → IfErr r (HasNoText RefusesMany source)
 refused_rle source store pattern (Ok x) has h = tt
 refused_rle source store pattern (Err fault) has (inl memory) = by_want (inl memory)
@@ -66,7 +66,7 @@ pub no_file : (base : List Tree) (source : SourceRun) (store : Nodes) (fault : F
     (2 ^ 30) store source fault
     → (fault ≡ fault_of Full → IsTooSmallFor base source store)
     → (fault.kind ≡ ReadFault) ⊎ ((fault.kind ≡ InputTooLong) ⊎ ((fault.kind ≡ Full) ⊎ (fault.kind ≡ Memory)))
-    → InputRefuses source fault ⊎ IsWantFor base source store fault
+    → InputRefuses source fault ⊎ IsShortageFor base source store fault
 no_file base source store fault law (reading.by_file bytes read h) lacks k = absurd (other fault.kind (law (lines_of bytes) fault h).0 k)
   where
     other : (kind : Kind) → is_file_kind kind ≡ true → (kind ≡ ReadFault) ⊎ ((kind ≡ InputTooLong) ⊎ ((kind ≡ Full) ⊎ (kind ≡ Memory))) → ⊥
@@ -80,13 +80,13 @@ no_file base source store fault law (reading.by_source is failed) lacks k = inl 
 
 -- two files aren't compared
 pub no_first_input : (form : Form) (first second : SourceRun) (store : Nodes) (fault : Fault) → store.limit ≡ 2 ^ 31
-    → InputRefuses first fault ⊎ IsWantFor [] first store fault → AreUncompared form first second fault
+    → InputRefuses first fault ⊎ IsShortageFor [] first store fault → AreUncompared form first second fault
 no_first_input form first second store fault limit (inl unread) = by_first unread
 no_first_input form first second store fault limit (inr want) = by_first_shortage (inr (store, limit, want))
 
 pub no_second_input : (form : Form) (first second : SourceRun) (a : List ℕ) (stored : List Tree) (store : Nodes) (fault : Fault)
     → ReadAll (2 ^ 30) first.before first.after a → AreOfInput [] first.before stored → store.limit ≡ 2 ^ 31
-    → InputRefuses second fault ⊎ IsWantFor stored second store fault → AreUncompared form first second fault
+    → InputRefuses second fault ⊎ IsShortageFor stored second store fault → AreUncompared form first second fault
 no_second_input form first second a stored store fault read are limit (inl unread) = by_second a read unread
 no_second_input form first second a stored store fault read are limit (inr want) = by_second_shortage a stored read are (inr (store, limit, want))
 
@@ -154,23 +154,24 @@ module _ (form : Form) (first second : SourceRun) (store : Nodes) (a b : List �
 
 -- Nothing comes of a pattern that isn't stepped. `Of` says of a property that a square has it which the step needs of a root under a rule.
 module _ {X : Type 0} (Of : (Tree → Type 0) → Rule → Tree → Type 0) (refuses : List ℕ → Fault → Type 0) (source : SourceRun) (empty old new : Nodes)
-    (pattern : Pattern) (none : held empty ≡ []) (has : ReadsWhole (2 ^ 30) empty old source pattern) (limit : new.limit ≡ 2 ^ 31)
-    (distinct : AllPairs ◌≢◌ (held new)) (not_blank : (t : Tree) → Contains (held new) t → is_blank_tree t ≡ false)
-    (adds : AddsOnly held (λ P. Of P pattern.rule (content old pattern.root)) old new) where
+    (pattern : Pattern) (none : stored_squares empty ≡ []) (has : ReadsWhole (2 ^ 30) empty old source pattern) (limit : new.limit ≡ 2 ^ 31)
+    (distinct : AllPairs ◌≢◌ (stored_squares new)) (not_blank : (t : Tree) → Contains (stored_squares new) t → is_blank_tree t ≡ false)
+    (adds : AddsOnly stored_squares (λ P. Of P pattern.rule (content old pattern.root)) old new) where
   pub refused_step : (r : Result X Fault)
-      → IfErr r (λ fault. IsWant new fault ⊎ ((bytes : List ℕ) → IsRead MAX_LEVEL bytes old pattern → refuses bytes fault))
+      → IfErr r (λ fault. IsShortageOf new fault ⊎ ((bytes : List ℕ) → IsRead MAX_LEVEL bytes old pattern → refuses bytes fault))
       → (r ≡ Err (fault_of Full) → Of (IsNew new) pattern.rule (content old pattern.root))
       → IfErr r (HasNoText (λ bytes fault. Refuses MAX_LEVEL bytes fault
-      ⊎ (WantsFor (IsOfFile bytes) (λ P. (u : Universe) × Reads MAX_LEVEL bytes u × Of P u.rule (whole MAX_LEVEL u)) fault ⊎ refuses bytes fault)) source)
+      ⊎ (IsCallShortage (IsSquareOfFile bytes) (λ P. (u : Universe) × Reads MAX_LEVEL bytes u × Of P u.rule (whole MAX_LEVEL u)) fault ⊎ refuses bytes fault))
+      source)
   refused_step (Ok x) h needed = tt
   refused_step (Err fault) (inl want) needed =
       let to_file : (P : Tree → Type 0) → Of P pattern.rule (content old pattern.root)
       → (u : Universe) × Reads MAX_LEVEL has.bytes u × Of P u.rule (whole MAX_LEVEL u) = λ P s. step-lacks (Of P) has.bytes old pattern has.is s in
       let too_small : fault ≡ fault_of Full
-      → IsTooSmallToMake (IsOfFile has.bytes) (λ P. (u : Universe) × Reads MAX_LEVEL has.bytes u × Of P u.rule (whole MAX_LEVEL u)) new = λ full. record {
+      → IsTooSmallToMake (IsSquareOfFile has.bytes) (λ P. (u : Universe) × Reads MAX_LEVEL has.bytes u × Of P u.rule (whole MAX_LEVEL u)) new = λ full. record {
         distinct = distinct;
         not_blank = not_blank;
-        needed = holds_more (IsOfFile has.bytes) (λ P. Of P pattern.rule (content old pattern.root))
+        needed = holds_more (IsSquareOfFile has.bytes) (λ P. Of P pattern.rule (content old pattern.root))
             (λ P. (u : Universe) × Reads MAX_LEVEL has.bytes u × Of P u.rule (whole MAX_LEVEL u)) old new
             (holds_one has.bytes empty old none has.adds) to_file adds;
         lacks = to_file (IsNew new) (needed (ap (λ (f : Fault). Err f) full));
@@ -194,14 +195,14 @@ refused_table source bytes (Ok x) read h = tt
 refused_table source bytes (Err fault) read h = of_table source bytes fault read h
 
 pub read_as_table : (source : SourceRun) (bytes : List ℕ) (r : Result Table Fault) → ReadAll (2 ^ 30) source.before source.after bytes
-    → IfOk r (IsFile (lines_of bytes)) → IfOk r (HasTable source)
+    → IfOk r (IsPlainTable (lines_of bytes)) → IfOk r (HasTable source)
 read_as_table source bytes (Ok table) read is = record { bytes = bytes; read = read; is = is }
 read_as_table source bytes (Err fault) read is = tt
 
 -- a text that was made of the first file, and of what was read of the second one
 made_of_file : (gives : List ℕ → List ℕ → Type 0) (task : Task) (first second : SourceRun) (others text : List ℕ)
     → HasText gives first text → (HasSecond task → ReadAll (2 ^ 30) second.before second.after others)
-    → ((bytes : List ℕ) → gives bytes text → Writes task bytes others 0 text) → HasAnswer task first second 0 text
+    → ((bytes : List ℕ) → gives bytes text → TaskWrites task bytes others 0 text) → HasAnswer task first second 0 text
 made_of_file gives task first second others text has read is = record {
   first_bytes = has.bytes;
   second_bytes = others;
@@ -219,7 +220,7 @@ none_failed failures (Some b) works = works
 pub made_of_text : {X : Type 0} (make : X → Made) (items : X → List ℕ) (gives : List ℕ → List ℕ → Type 0) (refuses : List ℕ → Fault → Type 0)
     (task : Task) (first second : SourceRun) (r : Result X Fault) (m : Result Made Refusal)
     → ((x : X) → (made_status (make x) ≡ 0) × (made_text (make x) ≡ items x)) → second.failures ≡ 0 → ¬ HasSecond task
-    → ((bytes text : List ℕ) → gives bytes text → Writes task bytes [] 0 text)
+    → ((bytes text : List ℕ) → gives bytes text → TaskWrites task bytes [] 0 text)
     → ((output : SinkRun) (refusal : Refusal) → OfFile (HasNoText refuses first) refusal → TaskRefuses task first second output refusal)
     → ComesOf items gives refuses first r → IfOk r (λ x. m ≡ Ok (make x)) → IfErr r (λ f. m ≡ Err (refusal_of f)) → MadeOf task first second m
 made_of_text make items gives refuses task first second (Ok x) m is works alone writes refused comes made failed =
@@ -283,12 +284,12 @@ worked task first second output made makes written = record { text = made_text m
 
 -- it could not be written
 broken_text : (gives : List ℕ → List ℕ → Type 0) (refuses : List ℕ → Fault → Type 0) (source : SourceRun) (output : SinkRun) (bytes text : List ℕ)
-    (fault : Fault) → ReadAll (2 ^ 30) source.before source.after bytes → gives bytes text → BreaksOff output text fault
+    (fault : Fault) → ReadAll (2 ^ 30) source.before source.after bytes → gives bytes text → IsWrittenInPart output text fault
     → FileRefuses gives refuses source output fault
 broken_text gives refuses source output bytes text fault read is broken = by_writing text (record { bytes = bytes; read = read; is = is }) broken
 
 unwritten : (task : Task) (first second : SourceRun) (output : SinkRun) (made : Made) (refusal : Refusal) → ¬ WritesPlacedText task
-    → TaskMakes task first second made → OfFile (BreaksOff output (made_text made)) refusal → TaskRefuses task first second output refusal
+    → TaskMakes task first second made → OfFile (IsWrittenInPart output (made_text made)) refusal → TaskRefuses task first second output refusal
 unwritten (Canon Placed) first second output made refusal other makes broken = absurd (other tt)
 unwritten (Canon Moved) first second output made refusal other makes broken =
     (broken.0, broken_text (IsTextIn Moved MAX_LEVEL) (RefusesInForm Moved) first output _ _ refusal.fault makes.first_read makes.writes.1 broken.1)
@@ -299,9 +300,9 @@ unwritten (Convert Rle) first second output made refusal other makes broken =
 unwritten (Convert Mc) first second output made refusal other makes broken = absurd (other tt)
 unwritten (Same form) first second output made refusal other makes broken = (broken.0, by_telling _ _ makes broken.1)
 unwritten Show first second output made refusal other makes broken =
-    (broken.0, broken_text (IsShown MAX_LEVEL) (Refuses MAX_LEVEL) first output _ _ refusal.fault makes.first_read makes.writes.1 broken.1)
+    (broken.0, broken_text (IsShownText MAX_LEVEL) (Refuses MAX_LEVEL) first output _ _ refusal.fault makes.first_read makes.writes.1 broken.1)
 unwritten Step first second output made refusal other makes broken =
-    (broken.0, broken_text IsStepped RefusesStep first output _ _ refusal.fault makes.first_read makes.writes.1 broken.1)
+    (broken.0, broken_text IsStepped RefusesLifeStep first output _ _ refusal.fault makes.first_read makes.writes.1 broken.1)
 unwritten StepTable first second output made refusal other makes broken =
     let table = makes.writes.1.0 in
     let has : HasTable second table = record { bytes = makes.second_bytes; read = makes.second_read tt; is = makes.writes.1.1 } in
@@ -404,7 +405,7 @@ ran_unmade task first second output refusal makes works takes = record {
 
 -- of one whose text could not be written
 pub ran_unwritten : (task : Task) (first second : SourceRun) (output : SinkRun) (made : Made) (refusal : Refusal) → ¬ WritesPlacedText task
-    → MadeOf task first second (Ok made) → OfFile (BreaksOff output (made_text made)) refusal → TaskRan task first second output (Err refusal)
+    → MadeOf task first second (Ok made) → OfFile (IsWrittenInPart output (made_text made)) refusal → TaskRan task first second output (Err refusal)
 ran_unwritten task first second output made refusal other makes broken = record {
   done = tt;
   refused = unwritten task first second output made refusal other makes.ok broken;

@@ -12,19 +12,19 @@ use Rattle.life_base.specs.declared.cell.TheConstants.{MAX_LEVEL}
 use Rattle.life_base.specs.declared.kind.Kind.TheVariants.{Full, Memory, ReadFault, WriteFault}
 use Rattle.life_quad.specs.Store.{Nodes}
 use Rattle.life_canon.specs.Files.{Accepted, Reads, Refuses}
-use Rattle.life_canon.specs.Room.{AddsFile, IsOfFile}
+use Rattle.life_canon.specs.Room.{AddsFile, IsSquareOfFile}
 use Rattle.life_canon.specs.Running.{RunRefuses}
 use Rattle.life_canon.specs.Store.{IsRead}
-use Rattle.life_canon.specs.Texts.{IsCanonical, IsRleOf, IsShown}
+use Rattle.life_canon.specs.Texts.{IsCanonical, IsRleOf, IsShownText}
 use Rattle.life_canon.specs.Universe.{Universe}
 use Rattle.life_canon.specs.declared.pattern.Pattern.{Pattern}
-use Rattle.life_table.specs.Grammar.{IsFile}
-use Rattle.life_table.specs.Reading.{Refuses as RefusesTable}
+use Rattle.life_table.specs.Grammar.{IsPlainTable}
+use Rattle.life_table.specs.Reading.{RefusesTable}
 use Rattle.life_table.specs.declared.table.Table.{Table}
 use Rattle.life_step.specs.Refusals.{LifeRefusal, SomeOfNextFile, SomeOfNextFileBy, TableRefusal}
 use Rattle.life_step.specs.Stepped.{IsStepped, IsSteppedBy}
 use Rattle.life_cli.specs.Forms.{AreSameIn, HasTooLarge}
-use Rattle.pattern_sources.specs.Sources.{AreOfInput, HasNoText, HasText, HoldsNoneBut, InputRefuses, IsTooSmallFor, RefusesInForm, RefusesMany, Wants, WantsFor}
+use Rattle.pattern_sources.specs.Sources.{AreOfInput, HasNoText, HasText, HoldsNoneBut, InputRefuses, IsTooSmallFor, RefusesInForm, RefusesMany, IsSourceShortage, IsCallShortage}
 use Rattle.pattern_sources.specs.Forms.{IsTextIn}
 use Rattle.command_line.specs.Plans.{HasSecond}
 use Rattle.command_line.specs.declared.plans.Form.{Form}
@@ -49,15 +49,15 @@ Compares form first second status text =
     ⊎ ((status ≡ 1) × (¬ AreSameIn form MAX_LEVEL first second) × (text ≡ codes "different\n"))
 
 -- the status and the text of a task on the bytes of its files
-abbrev pub Writes : Task → List ℕ → List ℕ → ℕ → List ℕ → Type 0
-Writes (Canon form) first second status text = (status ≡ 0) × IsTextIn form MAX_LEVEL first text
-Writes (Convert Rle) first second status text = (status ≡ 0) × IsRleOf MAX_LEVEL (2 ^ 20) first text
-Writes (Convert Mc) first second status text = (status ≡ 0) × IsCanonical MAX_LEVEL first text
-Writes (Same form) first second status text =
+abbrev pub TaskWrites : Task → List ℕ → List ℕ → ℕ → List ℕ → Type 0
+TaskWrites (Canon form) first second status text = (status ≡ 0) × IsTextIn form MAX_LEVEL first text
+TaskWrites (Convert Rle) first second status text = (status ≡ 0) × IsRleOf MAX_LEVEL (2 ^ 20) first text
+TaskWrites (Convert Mc) first second status text = (status ≡ 0) × IsCanonical MAX_LEVEL first text
+TaskWrites (Same form) first second status text =
     Accepted MAX_LEVEL first × Accepted MAX_LEVEL second × (¬ HasTooLarge form MAX_LEVEL first second) × Compares form first second status text
-Writes Show first second status text = (status ≡ 0) × IsShown MAX_LEVEL first text
-Writes Step first second status text = (status ≡ 0) × IsStepped first text
-Writes StepTable first second status text = (status ≡ 0) × ((table : Table) × IsFile (lines_of second) table × IsSteppedBy table first text)
+TaskWrites Show first second status text = (status ≡ 0) × IsShownText MAX_LEVEL first text
+TaskWrites Step first second status text = (status ≡ 0) × IsStepped first text
+TaskWrites StepTable first second status text = (status ≡ 0) × ((table : Table) × IsPlainTable (lines_of second) table × IsSteppedBy table first text)
 
 -- the files were read to their ends, and these are the status and the text of the task on their bytes
 pub record HasAnswer (task : Task) (first second : SourceRun) (status : ℕ) (text : List ℕ) : Type 0 where
@@ -65,7 +65,7 @@ pub record HasAnswer (task : Task) (first second : SourceRun) (status : ℕ) (te
   pub second_bytes : List ℕ
   pub first_read : ReadAll (2 ^ 30) first.before first.after first_bytes
   pub second_read : HasSecond task → ReadAll (2 ^ 30) second.before second.after second_bytes
-  pub writes : Writes task first_bytes second_bytes status text
+  pub writes : TaskWrites task first_bytes second_bytes status text
 
 -- the files were read to their ends, and what was written is the text of the task and nothing else
 pub record Worked (task : Task) (status : ℕ) (first second : SourceRun) (output : SinkRun) : Type 0 where
@@ -87,7 +87,7 @@ abbrev pub TaskMakes : Task → (first second : SourceRun) → Made → Type 0
 TaskMakes task first second made = HasAnswer task first second (made_status made) (made_text made)
 
 -- a prefix of the text was written, and the sink failed or took no bytes
-pub record BreaksOff (output : SinkRun) (text : List ℕ) (fault : Fault) : Type 0 where
+pub record IsWrittenInPart (output : SinkRun) (text : List ℕ) (fault : Fault) : Type 0 where
   pub is : fault ≡ fault_of WriteFault
   pub written : WritesPrefix output.before output.after text
   pub cause : (output.failures ≡ 1) ⊎ (output.stalled ≡ true)
@@ -96,7 +96,7 @@ pub record BreaksOff (output : SinkRun) (text : List ℕ) (fault : Fault) : Type
 pub data FileRefuses (gives : List ℕ → List ℕ → Type 0) (refuses : List ℕ → Fault → Type 0) (source : SourceRun) (output : SinkRun)
     (fault : Fault) : Type 0 where
   by_reading : HasNoText refuses source fault → FileRefuses gives refuses source output fault
-  by_writing : (text : List ℕ) → HasText gives source text → BreaksOff output text fault → FileRefuses gives refuses source output fault
+  by_writing : (text : List ℕ) → HasText gives source text → IsWrittenInPart output text fault → FileRefuses gives refuses source output fault
 
 -- All of a file was read, the store has its pattern, and no square was stored since it was `old` but such as the file needs; or this is the fault of
 -- the file.
@@ -109,7 +109,7 @@ pub record IsPatternIn (old store : Nodes) (source : SourceRun) (found : Result 
 
 -- the square is needed to read one of two files
 abbrev pub IsOfEither : (first second : List ℕ) → Tree → Type 0
-IsOfEither first second t = IsOfFile first t ⊎ IsOfFile second t
+IsOfEither first second t = IsSquareOfFile first t ⊎ IsSquareOfFile second t
 
 abbrev pub HoldsTwoFiles : (first second : List ℕ) → Nodes → Type 0
 HoldsTwoFiles first second = HoldsNoneBut (IsOfEither first second)
@@ -128,14 +128,14 @@ pub data AreUncompared (form : Form) (first second : SourceRun) (fault : Fault) 
       → Refuses MAX_LEVEL a fault ⊎ (Accepted MAX_LEVEL a × Refuses MAX_LEVEL b fault) → AreUncompared form first second fault
   by_form : (a b : List ℕ) → ReadAll (2 ^ 30) first.before first.after a → ReadAll (2 ^ 30) second.before second.after b
       → Accepted MAX_LEVEL a → Accepted MAX_LEVEL b → RefusesSame form a b fault → AreUncompared form first second fault
-  by_first_shortage : Wants [] first fault → AreUncompared form first second fault
+  by_first_shortage : IsSourceShortage [] first fault → AreUncompared form first second fault
   by_second_shortage : (a : List ℕ) (stored : List Tree) → ReadAll (2 ^ 30) first.before first.after a → AreOfInput [] first.before stored
-      → Wants stored second fault → AreUncompared form first second fault
+      → IsSourceShortage stored second fault → AreUncompared form first second fault
 
 -- why the comparison of two files is refused: there is none, or its line could not be written
 pub data SameRefuses (form : Form) (first second : SourceRun) (output : SinkRun) (fault : Fault) : Type 0 where
   by_comparing : AreUncompared form first second fault → SameRefuses form first second output fault
-  by_telling : (status : ℕ) (text : List ℕ) → HasAnswer (Same form) first second status text → BreaksOff output text fault
+  by_telling : (status : ℕ) (text : List ℕ) → HasAnswer (Same form) first second status text → IsWrittenInPart output text fault
       → SameRefuses form first second output fault
 
 -- why a run of `run_canon` in a store of 2^31 squares is refused
@@ -145,23 +145,24 @@ CanonRefuses first output fault = (store : Nodes) × (store.limit ≡ 2 ^ 31) ×
 
 -- why bytes aren't stepped under their own rule: they are no file, room or memory is wanted, or they are one whose pattern has no next
 -- generation
-abbrev pub RefusesStep : List ℕ → Fault → Type 0
-RefusesStep bytes fault =
+abbrev pub RefusesLifeStep : List ℕ → Fault → Type 0
+RefusesLifeStep bytes fault =
     Refuses MAX_LEVEL bytes fault
-    ⊎ (WantsFor (IsOfFile bytes) (λ P. SomeOfNextFile P bytes) fault ⊎ ((u : Universe) × Reads MAX_LEVEL bytes u × LifeRefusal MAX_LEVEL u (Some fault)))
+    ⊎ (IsCallShortage (IsSquareOfFile bytes) (λ P. SomeOfNextFile P bytes) fault
+    ⊎ ((u : Universe) × Reads MAX_LEVEL bytes u × LifeRefusal MAX_LEVEL u (Some fault)))
 
 -- the same by a table
 abbrev pub RefusesStepBy : Table → List ℕ → Fault → Type 0
 RefusesStepBy table bytes fault =
     Refuses MAX_LEVEL bytes fault
-    ⊎ (WantsFor (IsOfFile bytes) (λ P. SomeOfNextFileBy P table bytes) fault
+    ⊎ (IsCallShortage (IsSquareOfFile bytes) (λ P. SomeOfNextFileBy P table bytes) fault
     ⊎ ((u : Universe) × Reads MAX_LEVEL bytes u × TableRefusal MAX_LEVEL table u (Some fault)))
 
 -- all of a file was read, and it is this rule table
 pub record HasTable (source : SourceRun) (table : Table) : Type 0 where
   pub bytes : List ℕ
   pub read : ReadAll (2 ^ 30) source.before source.after bytes
-  pub is : IsFile (lines_of bytes) table
+  pub is : IsPlainTable (lines_of bytes) table
 
 -- why a file gives no rule table: it isn't read; all of it was read, and it is none; or memory was refused
 pub data HasNoTable (source : SourceRun) (fault : Fault) : Type 0 where
@@ -197,10 +198,10 @@ TaskRefuses (Canon form) first second output refusal = OfFile (FileRefuses (IsTe
 TaskRefuses (Convert Rle) first second output refusal = OfFile (FileRefuses (IsRleOf MAX_LEVEL (2 ^ 20)) RefusesMany first output) refusal
 TaskRefuses (Convert Mc) first second output refusal = OfFile (CanonRefuses first output) refusal
 TaskRefuses (Same form) first second output refusal = OfFile (SameRefuses form first second output) refusal
-TaskRefuses Show first second output refusal = OfFile (FileRefuses (IsShown MAX_LEVEL) (Refuses MAX_LEVEL) first output) refusal
-TaskRefuses Step first second output refusal = OfFile (FileRefuses IsStepped RefusesStep first output) refusal
+TaskRefuses Show first second output refusal = OfFile (FileRefuses (IsShownText MAX_LEVEL) (Refuses MAX_LEVEL) first output) refusal
+TaskRefuses Step first second output refusal = OfFile (FileRefuses IsStepped RefusesLifeStep first output) refusal
 TaskRefuses StepTable first second output refusal = HasNoTextByTable first second refusal
-    ⊎ OfFile (λ fault. (text : List ℕ) × HasTextByTable first second text × BreaksOff output text fault) refusal
+    ⊎ OfFile (λ fault. (text : List ℕ) × HasTextByTable first second text × IsWrittenInPart output text fault) refusal
 
 -- what comes of a task before anything is written: what it makes of its files, or why it is refused, whatever the output; and where a source
 -- failed, that is reported

@@ -5,17 +5,17 @@ use Rattle.life_base.specs.DeviceState.{device_inner}
 use Rattle.life_base.specs.declared.devices.Device.{Device}
 use Rattle.life_cli.specs.declared.origins.Opened.{Opened}
 use Rattle.command_line.specs.declared.origins.Origin.{Origin}
-use Rattle.command_line.specs.Origins.{Gives}
+use Rattle.command_line.specs.Origins.{OpenerGives}
 use Rattle.command_line.specs.declared.plans.TaskPlan.{TaskPlan}
 
 module _ {F R : Type 0} (step : F → Origin → Result (Opened R) IoError → F → Type 0) where
   -- the call gave what the device reads
   abbrev pub Opens : List ℕ → F → Device R → F → Type 0
-  Opens word before device after = (opened : Opened R) × Gives step word before (Ok opened) after × (device_inner device ≡ opened.input)
+  Opens word before device after = (opened : Opened R) × OpenerGives step word before (Ok opened) after × (device_inner device ≡ opened.input)
 
   -- the call gave nothing to read
   abbrev pub Fails : List ℕ → F → Type 0
-  Fails word before = (error : IoError) × (after : F) × Gives step word before (Err error) after
+  Fails word before = (error : IoError) × (after : F) × OpenerGives step word before (Err error) after
 
   -- the second file, if there is one, was opened
   abbrev pub OpensSecond : Option (List ℕ) → F → Option (Device R) → Type 0

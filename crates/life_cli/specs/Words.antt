@@ -7,19 +7,19 @@ pub use Rattle.life_base.specs.Refusal.{fault_of, OrMemory}
 pub use Rattle.life_canon.specs.Files.{Refuses}
 pub use Rattle.life_canon.specs.ReadWhole.{ReadsWhole}
 pub use Rattle.life_canon.specs.Running.{AreWorking, ReadsPattern, RunsCanon}
-pub use Rattle.life_canon.specs.Store.{content, IsOfFile, IsRead, IsTrimmed, IsWant, Keeps, universe_in}
-pub use Rattle.life_canon.specs.Texts.{IsRleOf, IsShown}
+pub use Rattle.life_canon.specs.Store.{content, IsOfFile, IsRead, IsTrimmed, IsShortageOf, Keeps, universe_in}
+pub use Rattle.life_canon.specs.Texts.{IsRleOf, IsShownText}
 pub use Rattle.life_cli.specs.Forms.{AreSameIn, HasTooLarge}
-pub use Rattle.life_cli.specs.Jobs.{AreUncompared, BreaksOff, CanonRefuses, HasNoTable, HasNoTextByTable, HasTable, HasTextByTable, HoldsTwoFiles, IsPatternIn}
-pub use Rattle.life_cli.specs.Jobs.{made_status, made_text, MadeOf, OfFile, OfTable, RefusesSame, RefusesStep, RefusesStepBy, TaskMakes, TaskRan, TaskRefuses}
+pub use Rattle.life_cli.specs.Jobs.{AreUncompared, IsWrittenInPart, CanonRefuses, HasNoTable, HasNoTextByTable, HasTable, HasTextByTable, HoldsTwoFiles, IsPatternIn}
+pub use Rattle.life_cli.specs.Jobs.{made_status, made_text, MadeOf, OfFile, OfTable, RefusesSame, RefusesLifeStep, RefusesStepBy, TaskMakes, TaskRan, TaskRefuses}
 pub use Rattle.life_cli.specs.Jobs.{Worked, WritesPlacedText}
 pub use Rattle.life_cli.specs.Origins.{FailsToOpen, OpensFiles}
 pub use Rattle.life_cli.specs.Usages.{is_asked, is_out_of_memory, text_line, text_status, usage_line, usage_status, words_line, words_status}
 pub use Rattle.life_quad.specs.Cells.{population}
-pub use Rattle.life_quad.specs.Store.{held}
+pub use Rattle.life_quad.specs.Store.{stored_squares}
 pub use Rattle.life_step.specs.Stepped.{IsStepped, IsSteppedBy}
-pub use Rattle.pattern_sources.specs.Faults.{fault_line, refusal_of, status_of, Tells}
+pub use Rattle.pattern_sources.specs.Faults.{fault_line, refusal_of, status_of, Reports}
 pub use Rattle.pattern_sources.specs.Forms.{IsMovedText, IsTextIn}
-pub use Rattle.pattern_sources.specs.Sources.{AreOfInput, ComesOf, HoldsOneFile, InputRefuses, IsWantFor, RefusesInForm, RefusesMany}
+pub use Rattle.pattern_sources.specs.Sources.{AreOfInput, ComesOf, HoldsOneFile, InputRefuses, IsShortageFor, RefusesInForm, RefusesMany}
 pub use Rattle.pattern_sources.specs.declared.refusals.Refusal.{Refusal}
 pub use Rattle.std.specs.Io.KnownBytes.{Appends}

@@ -1,7 +1,7 @@
 //! The work of a task.
 
 ghost use Rattle.std.specs.Prelude.{◌≡◌, ◌≢◌, ◌⊎◌, ◌<◌, ◌↔◌, ◌^◌, IsSome, IfSome, IfOk, IfErr, OnOk, IsErrAnd, IsTrue, Ok, Err, true, false};
-ghost use Rattle.life_cli.specs.Words.{Appends, SourceRun, source_run, optional_source_run, sink_run, Refusal, Refuses, Keeps, held, AreWorking, ReadsPattern, ReadsWhole, RunsCanon, AreOfInput, IsRleOf, IsShown, fault_line, refusal_of, status_of, Tells, made_status, made_text, MadeOf, TaskMakes, Worked, OfFile, InputRefuses, BreaksOff, ComesOf, AreUncompared, CanonRefuses, IsPatternIn, IsWantFor, TaskRan, TaskRefuses, RefusesMany, HasSecond, WritesPlacedText, task_of};
+ghost use Rattle.life_cli.specs.Words.{Appends, SourceRun, source_run, optional_source_run, sink_run, Refusal, Refuses, Keeps, stored_squares, AreWorking, ReadsPattern, ReadsWhole, RunsCanon, AreOfInput, IsRleOf, IsShownText, fault_line, refusal_of, status_of, Reports, made_status, made_text, MadeOf, TaskMakes, Worked, OfFile, InputRefuses, IsWrittenInPart, ComesOf, AreUncompared, CanonRefuses, IsPatternIn, IsShortageFor, TaskRan, TaskRefuses, RefusesMany, HasSecond, WritesPlacedText, task_of};
 
 use crate::forms::are_same_in;
 use crate::steps::{next_by_table_of, next_of};
@@ -54,7 +54,8 @@ fn write_whole<W: Sink>(writer: &mut W, text: &[u8]) -> Result<(), Refusal>
     ensures ok { OnOk result (Appends (W.contents writer.old) (W.contents writer.new) text.now) }
     ensures flushed { OnOk result (W.flushed writer.new ≡ true) }
     ensures err { IfErr result (OfFile
-        (BreaksOff (sink_run W.contents W.failures W.stalled writer.old writer.new) text.now)) }
+        (IsWrittenInPart (sink_run W.contents W.failures W.stalled writer.old writer.new)
+        text.now)) }
     ensures told { (W.failures writer.new ≡ 1) ⊎ (W.stalled writer.new ≡ true)
         → IsErrAnd result (λ refusal. refusal.fault.kind ≡ Kind.WriteFault) }
 {
@@ -82,7 +83,7 @@ fn five_lines_of_source<A: Source>(
     first: &mut A,
 ) -> Result<Vec<u8>, Fault>
     requires { A.failures first.old ≡ 0 }
-    ensures { ComesOf (λ text. text.items) (IsShown MAX_LEVEL) (Refuses MAX_LEVEL)
+    ensures { ComesOf (λ text. text.items) (IsShownText MAX_LEVEL) (Refuses MAX_LEVEL)
         (source_run A.remaining A.failures first.old first.new) result }
 {
     let mut store = Shared::seeded(alloc, seeds.squares, MOST_SQUARES);
@@ -112,11 +113,13 @@ fn pattern_in<A: Source>(
         (source_run A.remaining A.failures source.old source.new)) }
     ensures err { IfErr result (λ fault. InputRefuses
         (source_run A.remaining A.failures source.old source.new) fault
-        ⊎ IsWantFor (held store.old) (source_run A.remaining A.failures source.old source.new)
+        ⊎ IsShortageFor (stored_squares store.old)
+        (source_run A.remaining A.failures source.old source.new)
         store.new fault) }
     ensures told { A.failures source.new ≡ 1
         → IsErrAnd result (λ fault. fault.kind ≡ Kind.ReadFault) }
-    ensures squares { AreOfInput (held store.old) (A.remaining source.old) (held store.new) }
+    ensures squares { AreOfInput (stored_squares store.old) (A.remaining source.old)
+        (stored_squares store.new) }
     ensures keeps { Keeps store.old store.new }
 {
     refusals_have_kinds();
@@ -321,7 +324,7 @@ pub fn work_seeded<A: Source, B: Source, O: Sink, E: Sink>(
         × IfSome second.new (λ b. B.failures b ≡ 1 → refusal.fault.kind ≡ Kind.ReadFault)
         × ((O.failures out.new ≡ 1) ⊎ (O.stalled out.new ≡ true)
         → refusal.fault.kind ≡ Kind.WriteFault)
-        × Tells (sink_run E.contents E.failures E.stalled err.old err.new) (fault_line refusal) }
+        × Reports (sink_run E.contents E.failures E.stalled err.old err.new) (fault_line refusal) }
     ensures first_told { A.failures first.new ≡ 1 → result ≡ status_of Kind.ReadFault }
     ensures second_told { IfSome second.new
         (λ b. B.failures b ≡ 1 → result ≡ status_of Kind.ReadFault) }
@@ -369,7 +372,7 @@ pub fn work<A: Source, B: Source, O: Sink, E: Sink>(
         × IfSome second.new (λ b. B.failures b ≡ 1 → refusal.fault.kind ≡ Kind.ReadFault)
         × ((O.failures out.new ≡ 1) ⊎ (O.stalled out.new ≡ true)
         → refusal.fault.kind ≡ Kind.WriteFault)
-        × Tells (sink_run E.contents E.failures E.stalled err.old err.new) (fault_line refusal) }
+        × Reports (sink_run E.contents E.failures E.stalled err.old err.new) (fault_line refusal) }
     ensures first_told { A.failures first.new ≡ 1 → result ≡ status_of Kind.ReadFault }
     ensures second_told { IfSome second.new
         (λ b. B.failures b ≡ 1 → result ≡ status_of Kind.ReadFault) }

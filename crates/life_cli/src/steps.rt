@@ -1,7 +1,7 @@
 //! The work of the jobs that step a pattern.
 
 ghost use Rattle.std.specs.Prelude.{◌≡◌, ◌⊎◌, ◌^◌, IfOk, IfErr, IsErrAnd};
-ghost use Rattle.life_cli.specs.Words.{source_run, ReadAll, fault_of, IsStepped, IsSteppedBy, InputRefuses, OfTable, ComesOf, RefusesStep, RefusesStepBy, HasTable, HasNoTable, HasTextByTable, HasNoTextByTable};
+ghost use Rattle.life_cli.specs.Words.{source_run, ReadAll, fault_of, IsStepped, IsSteppedBy, InputRefuses, OfTable, ComesOf, RefusesLifeStep, RefusesStepBy, HasTable, HasNoTable, HasTextByTable, HasNoTextByTable};
 
 use life_base::{Fault, Kind, Source, read_within};
 use life_quad::Shared;
@@ -20,7 +20,7 @@ pub(crate) fn next_of<A: Source>(
     first: &mut A,
 ) -> Result<Vec<u8>, Fault>
     requires { A.failures first.old ≡ 0 }
-    ensures { ComesOf (λ text. text.items) IsStepped RefusesStep
+    ensures { ComesOf (λ text. text.items) IsStepped RefusesLifeStep
         (source_run A.remaining A.failures first.old first.new) result }
 {
     let mut store = Shared::seeded(alloc, seeds.squares, MOST_SQUARES);

@@ -6,7 +6,7 @@ use Rattle.life_base.specs.declared.cell.TheConstants.{MAX_LEVEL}
 use Rattle.life_base.specs.declared.rule.Rule.{Rule}
 use Rattle.life_mc.specs.Macrocell.{largest_state}
 use Rattle.life_mc.specs.Squares.{HasStatesUpTo}
-use Rattle.life_quad.specs.Moves.{trimmed}
+use Rattle.life_quad.specs.Moves.{trimmed_square}
 use Rattle.life_quad.specs.Store.{Nodes}
 use Rattle.life_quad.proofs.LawLemmas.{known_squares_are_full, equal_squares_have_one_id, trimmed_by_cells}
 use Rattle.life_canon.specs.Laws.{TextsTellUniverses}
@@ -30,7 +30,7 @@ stays-trimmed old new p keeps h =
     record {
       known = k.0;
       level = subst (λ (t : Tree). m ≤ depth t) (sym k.1) h.level;
-      trimmed = subst (λ (t : Tree). trimmed t m ≡ t) (sym k.1) h.trimmed;
+      trimmed = subst (λ (t : Tree). trimmed_square t m ≡ t) (sym k.1) h.trimmed;
       states = subst (HasStatesUpTo (largest_state p.rule)) (sym k.1) h.states;
     }
 
@@ -47,7 +47,7 @@ same-roots store x y h k same =
     let s = content store x.root in
     let t = content store y.root in
     let m = least_level x.rule in
-    let trims = subst (λ (r : Rule). trimmed t (least_level r) ≡ t) (sym same.rule) k.trimmed in
+    let trims = subst (λ (r : Rule). trimmed_square t (least_level r) ≡ t) (sym same.rule) k.trimmed in
     let high = subst (λ (r : Rule). least_level r ≤ depth t) (sym same.rule) k.level in
     let equal = (trimmed_by_cells s t m (known_squares_are_full store x.root h.known.0).0 (known_squares_are_full store y.root k.known.0).0
     (least-one x.rule) h.level high).1 same.cells in

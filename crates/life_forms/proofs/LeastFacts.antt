@@ -4,8 +4,8 @@ use Rattle.life_canon.specs.Lesser.{IsUpTo}
 use Rattle.life_canon.specs.Universe.{Universe, IsSame, IsOnPlane}
 use Rattle.life_canon.proofs.OrderFacts.{up-to-itself, up-to-on, up-to-both, either-way}
 use Rattle.life_canon.proofs.Sameness.{same-sym}
-use Rattle.life_forms.specs.Forms.{Tells, IsShift, IsTurned, IsTurnedShift}
-use Rattle.life_forms.specs.Turns.{Turn, turn_of, image, after, back}
+use Rattle.life_forms.specs.Forms.{SeparatesPatterns, IsShift, IsTurned, IsTurnedShift}
+use Rattle.life_forms.specs.Turns.{Turn, turn_of, image, turn_after, inverse_turn}
 use Rattle.life_forms.specs.Laws.{TurnedFormsExist, TurnedFormsAreOnPlane, TurnedTextsTellTurns, TurnedFormsAreFixed}
 use Rattle.life_forms.proofs.TurnFacts.{turns-are-closed, turns-have-inverses, images-keep-shifts, images-stay-on-plane}
 use Rattle.life_forms.proofs.ShiftFacts.{same-refl, still, shift-sym, shift-trans, moved-forms-exist, moved-on-plane, forms-of-shifts, shift-of-forms}
@@ -36,13 +36,14 @@ turn-least f =
 
 -- ---- turned forms
 
-same-texts : (top : ℕ) (text : Universe → List ℕ) → Tells top text → (u v : Universe) → IsOnPlane top u → IsOnPlane top v → IsSame u v → text u ≡ text v
+same-texts : (top : ℕ) (text : Universe → List ℕ) → SeparatesPatterns top text → (u v : Universe) → IsOnPlane top u → IsOnPlane top v → IsSame u v → text u
+    ≡ text v
 same-texts top text tells u v p q same = (tells u v p q).1 same
 
 up-to-same : (a b c : List ℕ) → b ≡ c → IsUpTo a b → IsUpTo a c
 up-to-same a b c e h = subst (λ (t : List ℕ). IsUpTo a t) e h
 
-pub turned-forms-exist : (top : ℕ) (text : Universe → List ℕ) → Tells top text → TurnedFormsExist top text
+pub turned-forms-exist : (top : ℕ) (text : Universe → List ℕ) → SeparatesPatterns top text → TurnedFormsExist top text
 turned-forms-exist top text tells some u plane =
     let stays = λ (t : Turn). images-stay-on-plane top some t u plane in
     let form = λ (t : Turn). moved-forms-exist top (image t u) (stays t) in
@@ -66,23 +67,23 @@ turned-on-plane top text some u v plane turned = moved-on-plane top (image turne
 
 pub turned-shift-sym : (u v : Universe) → IsTurnedShift u v → IsTurnedShift v u
 turned-shift-sym u v s = record {
-  turn = back s.turn;
-  shift = shift-trans _ _ _ (images-keep-shifts (back s.turn) _ _ (shift-sym _ _ s.shift)) (still _ _ (turns-have-inverses s.turn u));
+  turn = inverse_turn s.turn;
+  shift = shift-trans _ _ _ (images-keep-shifts (inverse_turn s.turn) _ _ (shift-sym _ _ s.shift)) (still _ _ (turns-have-inverses s.turn u));
 }
 
 -- what a shift behind a turn takes to v has among its images that of u
-image-too : (u v : Universe) (s : IsTurnedShift u v) (t : Turn) → IsShift (image t u) (image (after (back s.turn) t) v)
+image-too : (u v : Universe) (s : IsTurnedShift u v) (t : Turn) → IsShift (image t u) (image (turn_after (inverse_turn s.turn) t) v)
 image-too u v s t =
     let g = s.turn in
-    let taken = shift-trans _ _ _ (still _ _ (same-sym _ _ (turns-have-inverses g u))) (images-keep-shifts (back g) _ _ s.shift) in
-    shift-trans _ _ _ (images-keep-shifts t _ _ taken) (still _ _ (turns-are-closed (back g) t v))
+    let taken = shift-trans _ _ _ (still _ _ (same-sym _ _ (turns-have-inverses g u))) (images-keep-shifts (inverse_turn g) _ _ s.shift) in
+    shift-trans _ _ _ (images-keep-shifts t _ _ taken) (still _ _ (turns-are-closed (inverse_turn g) t v))
 
 -- so the least text of v is no greater
-below : (top : ℕ) (text : Universe → List ℕ) → Tells top text → 1 ≤ top → (u v x y : Universe) → IsOnPlane top u → IsOnPlane top v
+below : (top : ℕ) (text : Universe → List ℕ) → SeparatesPatterns top text → 1 ≤ top → (u v x y : Universe) → IsOnPlane top u → IsOnPlane top v
     → IsTurned top text u x → IsTurned top text v y → IsTurnedShift u v → IsUpTo (text y) (text x)
 below top text tells some u v x y plane other first second s =
     let there = image-too u v s first.turn in
-    let h = after (back s.turn) first.turn in
+    let h = turn_after (inverse_turn s.turn) first.turn in
     let p = images-stay-on-plane top some first.turn u plane in
     let q = images-stay-on-plane top some h v other in
     let form = moved-forms-exist top (image h v) q in
@@ -92,27 +93,27 @@ below top text tells some u v x y plane other first second s =
     (second.least h form.0 form.1)
 
 -- two forms of one text are those of patterns that a shift behind a turn takes to each other
-shift-of-texts : (top : ℕ) (text : Universe → List ℕ) → Tells top text → 1 ≤ top → (u v x y : Universe) → IsOnPlane top u → IsOnPlane top v
+shift-of-texts : (top : ℕ) (text : Universe → List ℕ) → SeparatesPatterns top text → 1 ≤ top → (u v x y : Universe) → IsOnPlane top u → IsOnPlane top v
     → IsTurned top text u x → IsTurned top text v y → text x ≡ text y → IsTurnedShift u v
 shift-of-texts top text tells some u v x y plane other first second e =
     let same = (tells x y (turned-on-plane top text some u x plane first) (turned-on-plane top text some v y other second)).0 e in
     let g = second.turn in
     record {
-      turn = after first.turn (back g);
+      turn = turn_after first.turn (inverse_turn g);
       shift =
-          shift-trans _ _ _ (still _ _ (same-sym _ _ (turns-are-closed first.turn (back g) u)))
-          (shift-trans _ _ _ (images-keep-shifts (back g) _ _ (shift-of-forms top _ _ x y first.moved second.moved same))
+          shift-trans _ _ _ (still _ _ (same-sym _ _ (turns-are-closed first.turn (inverse_turn g) u)))
+          (shift-trans _ _ _ (images-keep-shifts (inverse_turn g) _ _ (shift-of-forms top _ _ x y first.moved second.moved same))
           (still _ _ (turns-have-inverses g v)));
     }
 
-pub turned-texts : (top : ℕ) (text : Universe → List ℕ) → Tells top text → TurnedTextsTellTurns top text
+pub turned-texts : (top : ℕ) (text : Universe → List ℕ) → SeparatesPatterns top text → TurnedTextsTellTurns top text
 turned-texts top text tells some u v x y plane other first second = (
   shift-of-texts top text tells some u v x y plane other first second,
   λ s. up-to-both _ _ (below top text tells some v u y x other plane second first (turned-shift-sym u v s))
       (below top text tells some u v x y plane other first second s),
 )
 
-pub turned-fixed : (top : ℕ) (text : Universe → List ℕ) → Tells top text → TurnedFormsAreFixed top text
+pub turned-fixed : (top : ℕ) (text : Universe → List ℕ) → SeparatesPatterns top text → TurnedFormsAreFixed top text
 turned-fixed top text tells some u v w plane first second =
     let there = turned-on-plane top text some u v plane first in
     let s : IsTurnedShift u v = record { turn = first.turn; shift = first.moved.shift } in

@@ -10,7 +10,7 @@ use Rattle.life_mc.specs.Macrocell.{largest_state}
 use Rattle.life_base.proofs.Squares.{depth-blank, full-blank, is_blank-blank, same_quads}
 use Rattle.life_base.proofs.Basics.{halves}
 use Rattle.life_quad.specs.Cells as square
-use Rattle.life_quad.specs.Moves.{trimmed}
+use Rattle.life_quad.specs.Moves.{trimmed_square}
 use Rattle.life_quad.specs.Refused.{SomePart}
 use Rattle.life_quad.specs.Store.{Nodes}
 use Rattle.life_quad.specs.declared.id.Id.{Id}
@@ -20,7 +20,7 @@ use Rattle.life_block.proofs.NeedLemmas.{depth-square}
 use Rattle.life_block.proofs.PlaneLemmas.{full-square}
 use Rattle.life_canon.specs.Laws.{SquaresAreCentred}
 use Rattle.life_canon.specs.Store.{IsKnown, IsTrimmed, content}
-use Rattle.life_canon.specs.Universe.{Universe, IsSame, IsBlankOutside, centred, corner, least_level, square_universe, whole}
+use Rattle.life_canon.specs.Universe.{Universe, IsSame, IsBlankOutside, centred_square, corner, least_level, square_universe, whole}
 use Rattle.life_canon.specs.Universe as canon
 use Rattle.life_slide.specs.Pieces.{cells_from, plane_from, root_from}
 use Rattle.life_slide.proofs.MovedLemmas.{cell-below, centre-cells, trim-reach}
@@ -41,18 +41,18 @@ square-same f zero x y = refl
 square-same f (suc k) x y =
     same_quads (square-same f k x y) (square-same f k _ y) (square-same f k x _) (square-same f k _ _)
 
-centred-is : (f : ℤ → ℤ → ℕ) → square_from f 62 (neg_ℤ (pos (2 ^ 61))) (neg_ℤ (pos (2 ^ 61))) ≡ centred f MAX_LEVEL
-unfolding centred corner
+centred-is : (f : ℤ → ℤ → ℕ) → square_from f 62 (neg_ℤ (pos (2 ^ 61))) (neg_ℤ (pos (2 ^ 61))) ≡ centred_square f MAX_LEVEL
+unfolding centred_square corner
 centred-is f = square-same f 62 _ _
 
 module _ (f : ℤ → ℤ → ℕ) (below : (x y : ℤ) → f x y < 256) where
-  pub full-centred : IsFull (centred f MAX_LEVEL)
+  pub full-centred : IsFull (centred_square f MAX_LEVEL)
   full-centred = subst IsFull (centred-is f) (full-square f below 62 _ _)
 
-  pub depth-centred : depth (centred f MAX_LEVEL) ≡ 62
+  pub depth-centred : depth (centred_square f MAX_LEVEL) ≡ 62
   depth-centred = subst (λ t. depth t ≡ 62) (centred-is f) (depth-square f 62 _ _)
 
-  pub cells-centred : IsBlankOutside MAX_LEVEL f → (x y : ℤ) → tree_cell (centred f MAX_LEVEL) x y ≡ f x y
+  pub cells-centred : IsBlankOutside MAX_LEVEL f → (x y : ℤ) → tree_cell (centred_square f MAX_LEVEL) x y ≡ f x y
   unfolding corner
   cells-centred outside x y =
       subst (λ t. tree_cell t x y ≡ f x y) (centred-is f)
@@ -71,7 +71,7 @@ module _ (f : ℤ → ℤ → ℕ) (below : (x y : ℤ) → f x y < 256) where
 -- a square is trimmed as that of the whole plane with its cells
 module _ (t : Tree) (full : IsFull t) (low : depth t ≤ MAX_LEVEL) (m : ℕ) (positive : 1 ≤ m) (high : m ≤ depth t) where
   abbrev plane-of : Tree
-  plane-of = centred (tree_cell t) MAX_LEVEL
+  plane-of = centred_square (tree_cell t) MAX_LEVEL
 
   below : (x y : ℤ) → tree_cell t x y < 256
   below = cell-below t full
@@ -79,7 +79,7 @@ module _ (t : Tree) (full : IsFull t) (low : depth t ≤ MAX_LEVEL) (m : ℕ) (p
   deep : depth plane-of ≡ 62
   deep = depth-centred (tree_cell t) below
 
-  pub trimmed-whole : trimmed t m ≡ trimmed (centred (tree_cell t) MAX_LEVEL) m
+  pub trimmed-whole : trimmed_square t m ≡ trimmed_square (centred_square (tree_cell t) MAX_LEVEL) m
   trimmed-whole =
       (trimmed_by_cells t plane-of m full (full-centred (tree_cell t) below) positive high (omega (arith, deep, low, high))).1
       (λ x y. sym (cells-centred (tree_cell t) below (outside-blank t low) x y))
@@ -112,7 +112,7 @@ back : (z : ℤ) → neg_ℤ (neg_ℤ z) ≡ z
 back z = omega (arith, ints)
 
 -- a box that fits into a quarter of the plane
-module _ (t : Tree) (box : Bounds) (least : square.IsLeastBox t box) (columns : box.right <ℤ (box.left +ℤ pos (2 ^ 61)))
+module _ (t : Tree) (box : Bounds) (least : square.IsBoundingBoxOfTree t box) (columns : box.right <ℤ (box.left +ℤ pos (2 ^ 61)))
     (rows : box.bottom <ℤ (box.top +ℤ pos (2 ^ 61))) (rule : Rule) (generation : ℕ) where
   abbrev u : Universe
   u = square_universe rule generation t
@@ -134,10 +134,10 @@ module _ (t : Tree) (box : Bounds) (least : square.IsLeastBox t box) (columns : 
       (record { rule = refl; generation = refl; cells = λ x y i. tree_cell t (x +ℤ ex i) (y +ℤ ey i) })
 
   pub middle-root : (m : ℕ) (root : Tree) → root ≡ root_from t box.left box.top m → IsMovedRoot u m root
-  middle-root m root is = record { form = form; moved = form-moved; square = is ∙ ap (λ p. trimmed p m) (centred-is _) }
+  middle-root m root is = record { form = form; moved = form-moved; square = is ∙ ap (λ p. trimmed_square p m) (centred-is _) }
 
   pub middle-needed : (P : Tree → Type 0) (m : ℕ) → SomePart P (root_from t box.left box.top m) → SomeOfMovedRoot P u m
-  middle-needed P m h = (form, form-moved, subst (λ p. SomePart P (trimmed p m)) (centred-is _) h)
+  middle-needed P m h = (form, form-moved, subst (λ p. SomePart P (trimmed_square p m)) (centred-is _) h)
 
 -- a side that doesn't fit into half of the plane ends far from its middle
 far-end : (low high : ℤ) → IsInPlace MAX_LEVEL low high → (low +ℤ pos (2 ^ 61)) ≤ℤ high → pos (2 ^ 60) ≤ℤ high
@@ -145,7 +145,7 @@ far-end low high (at_zero first less) long = let e = high-end in absurd (omega (
 far-end low high (at_edge before end) long = let e = high-end in omega (arith, ints, e, end)
 
 -- a box that doesn't
-module _ (t : Tree) (box : Bounds) (least : square.IsLeastBox t box)
+module _ (t : Tree) (box : Bounds) (least : square.IsBoundingBoxOfTree t box)
     (long : ((box.left +ℤ pos (2 ^ 61)) ≤ℤ box.right) ⊎ ((box.top +ℤ pos (2 ^ 61)) ≤ℤ box.bottom)) (full : IsFull t) (low : depth t ≤ MAX_LEVEL) where
   wide-level : (n : ℕ) → n ≤ 62 → 2 ^ 61 < 2 ^ n → n ≡ 62
   wide-level n le more = by (cases_lt n 62)
@@ -184,7 +184,7 @@ module _ (t : Tree) (box : Bounds) (least : square.IsLeastBox t box)
     placed-states x y = cell-below t full _ _
 
     abbrev plane : Tree
-    plane = centred placed.cell MAX_LEVEL
+    plane = centred_square placed.cell MAX_LEVEL
 
     -- a cell in its place
     there : (x y : ℤ) → tree_cell t x y ≢ 0 → tree_cell plane (x +ℤ a) (y +ℤ b) ≢ 0
@@ -194,7 +194,7 @@ module _ (t : Tree) (box : Bounds) (least : square.IsLeastBox t box)
         let ey : (y +ℤ b) +ℤ neg_ℤ b ≡ y = omega (arith, ints) in
         some (sym (λ i. tree_cell t (ex i) (ey i)) ∙ sym cells ∙ e)
 
-    plane-still : ((box.left +ℤ pos (2 ^ 61)) ≤ℤ box.right) ⊎ ((box.top +ℤ pos (2 ^ 61)) ≤ℤ box.bottom) → trimmed plane m ≡ plane
+    plane-still : ((box.left +ℤ pos (2 ^ 61)) ≤ℤ box.right) ⊎ ((box.top +ℤ pos (2 ^ 61)) ≤ℤ box.bottom) → trimmed_square plane m ≡ plane
     plane-still (inl l) =
         let place = (way box (box-of-square t box least)).0 in
         trim-reach plane (full-centred placed.cell placed-states) m positive 61 (depth-centred placed.cell placed-states) _ _ (there _ _ least.at_right.1)
@@ -226,7 +226,7 @@ module _ (t : Tree) (full : IsFull t) (low : depth t ≤ MAX_LEVEL) (rule : Rule
   states : (x y : ℤ) → w.cell x y < 256
   states x y = small _ (shift-up-to 255 (square_universe rule generation t) w is.moved.shift (λ u v. most _ (cell-below t full u v)) x y)
 
-  plane-same : IsSame w (square_universe rule generation (centred w.cell MAX_LEVEL))
+  plane-same : IsSame w (square_universe rule generation (centred_square w.cell MAX_LEVEL))
   plane-same = record {
     rule = sym is.moved.shift.rule;
     generation = sym is.moved.shift.generation;
@@ -235,13 +235,14 @@ module _ (t : Tree) (full : IsFull t) (low : depth t ≤ MAX_LEVEL) (rule : Rule
 
   pub root-moved : IsMoved MAX_LEVEL (square_universe rule generation t) (square_universe rule generation (content store root))
   root-moved =
-      plane-moved store rule generation root (centred w.cell MAX_LEVEL) (square_universe rule generation t) is.square (full-centred w.cell states)
+      plane-moved store rule generation root (centred_square w.cell MAX_LEVEL) (square_universe rule generation t) is.square (full-centred w.cell states)
       (moved-same MAX_LEVEL _ w _ is.moved plane-same)
 
   pub root-trimmed : SquaresAreCentred → IsKnown store root → ((x y : ℤ) → tree_cell t x y ≤ largest_state rule)
       → IsTrimmed store (record { rule = rule; generation = generation; root = root })
   root-trimmed centre known upto =
-      plane-trimmed centre store rule generation root (centred w.cell MAX_LEVEL) known is.square (full-centred w.cell states) (depth-centred w.cell states)
+      plane-trimmed centre store rule generation root (centred_square w.cell MAX_LEVEL) known is.square (full-centred w.cell states)
+      (depth-centred w.cell states)
       (shift-up-to (largest_state rule) (square_universe rule generation t) _ (moved-same MAX_LEVEL _ w _ is.moved plane-same).shift upto)
 
 -- ---- one root
@@ -254,10 +255,10 @@ unfolding whole
 root-of-form t low rule generation root is v moved =
     let u = square_universe rule generation t in
     let same = same-is_one is.form v (forms-of-shifts MAX_LEVEL u u is.form v (outside-blank t low) is.moved moved (still u u (same-refl u))) in
-    is.square ∙ (λ i. trimmed (centred (same i).cell MAX_LEVEL) (least_level rule))
-    ∙ ap (λ r. trimmed (centred v.cell MAX_LEVEL) (least_level r)) moved.shift.rule
+    is.square ∙ (λ i. trimmed_square (centred_square (same i).cell MAX_LEVEL) (least_level rule))
+    ∙ ap (λ r. trimmed_square (centred_square v.cell MAX_LEVEL) (least_level r)) moved.shift.rule
 
 pub form-of-root : (P : Tree → Type 0) (u : Universe) → SomeOfMovedRoot P u (least_level u.rule) → SomeOfMovedForm P u
 unfolding whole
 form-of-root P u (v, moved, some) =
-    (v, moved, subst (λ r. SomePart P (trimmed (centred v.cell MAX_LEVEL) (least_level r))) moved.shift.rule some)
+    (v, moved, subst (λ r. SomePart P (trimmed_square (centred_square v.cell MAX_LEVEL) (least_level r))) moved.shift.rule some)

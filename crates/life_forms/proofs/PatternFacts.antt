@@ -6,13 +6,13 @@ use Rattle.life_base.specs.declared.rule.Rule.{Rule}
 use Rattle.life_base.specs.declared.rule.Rule.TheVariants.{Life, Named}
 use Rattle.life_mc.specs.Macrocell.{largest_state}
 use Rattle.life_mc.specs.Squares.{HasStatesUpTo}
-use Rattle.life_quad.specs.Moves.{trimmed}
+use Rattle.life_quad.specs.Moves.{trimmed_square}
 use Rattle.life_quad.specs.Store.{Nodes}
 use Rattle.life_quad.specs.declared.id.Id.{Id}
 use Rattle.life_quad.proofs.LawLemmas.{trimming_keeps_cells, trimmed_is_fixed, trimming_stops}
 use Rattle.life_canon.specs.Laws.{SquaresAreCentred}
 use Rattle.life_canon.specs.Store.{IsKnown, IsTrimmed, content}
-use Rattle.life_canon.specs.Universe.{Universe, IsSame, square, centred, corner, least_level, square_universe}
+use Rattle.life_canon.specs.Universe.{Universe, IsSame, square, centred_square, corner, least_level, square_universe}
 pub use Rattle.life_canon.proofs.Fits.{least-one, root-high}
 use Rattle.life_forms.specs.Forms.{IsShift, IsMoved}
 use Rattle.life_forms.proofs.ShiftFacts.{still, shift-trans, there-and-back}
@@ -57,7 +57,7 @@ square-up-to most cell h (suc k) x y = (
 
 -- no state of a square is above one that no cell's is above
 states-up-to : SquaresAreCentred → (most : ℕ) (t : Tree) → IsFull t → 1 ≤ depth t → ((x y : ℤ) → tree_cell t x y ≤ most) → HasStatesUpTo most t
-unfolding centred
+unfolding centred_square
 states-up-to centre most t full high h = subst (HasStatesUpTo most) (centre t full high).0
     (square-up-to most (tree_cell t) h (depth t) (corner (depth t)) (corner (depth t)))
 
@@ -74,7 +74,7 @@ least-low (Named name) = omega arith
 
 -- the square of the plane, trimmed, is the root of a pattern
 pub plane-trimmed : SquaresAreCentred → (store : Nodes) (rule : Rule) (generation : ℕ) (root : Id) (t : Tree) → IsKnown store root
-    → content store root ≡ trimmed t (least_level rule) → IsFull t → depth t ≡ MAX_LEVEL → ((x y : ℤ) → tree_cell t x y ≤ largest_state rule)
+    → content store root ≡ trimmed_square t (least_level rule) → IsFull t → depth t ≡ MAX_LEVEL → ((x y : ℤ) → tree_cell t x y ≤ largest_state rule)
     → IsTrimmed store (record { rule = rule; generation = generation; root = root })
 plane-trimmed centre store rule generation root t known is full level states =
     let m = least_level rule in
@@ -82,18 +82,18 @@ plane-trimmed centre store rule generation root t known is full level states =
     let low = least-low rule in
     let fixed = trimmed_is_fixed t m full one in
     let high = (trimming_stops t m full one).0 (omega (arith, level, low)) in
-    let upto = states-up-to centre (largest_state rule) (trimmed t m) fixed.0 (omega (arith, high, one))
+    let upto = states-up-to centre (largest_state rule) (trimmed_square t m) fixed.0 (omega (arith, high, one))
     (λ x y. subst (λ (n : ℕ). n ≤ largest_state rule) (sym (trimming_keeps_cells t m full one x y)) (states x y)) in
     record {
       known = known;
       level = subst (λ (s : Tree). m ≤ depth s) (sym is) high;
-      trimmed = ap (λ (s : Tree). trimmed s m) is ∙ fixed.1 ∙ sym is;
+      trimmed = ap (λ (s : Tree). trimmed_square s m) is ∙ fixed.1 ∙ sym is;
       states = subst (HasStatesUpTo (largest_state rule)) (sym is) upto;
     }
 
 -- it has the cells of the plane
 pub plane-moved : (store : Nodes) (rule : Rule) (generation : ℕ) (root : Id) (t : Tree) (u : Universe)
-    → content store root ≡ trimmed t (least_level rule) → IsFull t
+    → content store root ≡ trimmed_square t (least_level rule) → IsFull t
     → IsMoved MAX_LEVEL u (square_universe rule generation t) → IsMoved MAX_LEVEL u (square_universe rule generation (content store root))
 plane-moved store rule generation root t u is full moved =
     moved-same MAX_LEVEL u _ _ moved (record {

@@ -9,9 +9,9 @@ use Rattle.life_base.specs.declared.rule.Rule.{Rule}
 use Rattle.life_quad.specs.Cells as quad
 use Rattle.life_quad.proofs.LawLemmas.{cells_lie_inside}
 use Rattle.std.proofs.lemmas.Bool.{and_parts}
-use Rattle.life_canon.specs.Texts.{IsLeastBox, IsOrdered, AreCellsOf}
+use Rattle.life_canon.specs.Texts.{IsBoundingBox, IsOrdered, AreCellsOf}
 use Rattle.life_canon.specs.Universe.{Universe, IsSame, IsWithin, IsBlankOutside, corner, square_universe}
-use Rattle.life_forms.specs.Forms.{IsInPlace, edge, IsMoved}
+use Rattle.life_forms.specs.Forms.{IsInPlace, plane_end, IsMoved}
 use Rattle.life_forms.specs.Cells.{IsWay}
 use Rattle.life_forms.proofs.ShiftFacts.{box-shifted, shift-sym, shift-of, shifted, still, shift-trans, in-place-at, moved-seen, has-box, one-box, there-and-back}
 use Rattle.life_canon.proofs.Sameness.{same-sym}
@@ -22,7 +22,7 @@ pub low-end : corner MAX_LEVEL ≡ neg_ℤ (pos (2 ^ 61))
 unfolding corner
 low-end = refl
 
-pub high-end : edge MAX_LEVEL ≡ pos (2 ^ 61)
+pub high-end : plane_end MAX_LEVEL ≡ pos (2 ^ 61)
 unfolding corner
 high-end = refl
 
@@ -64,7 +64,7 @@ blank-cell t e x y = pick _ _ (blank-state t e _ _)
 
 -- ---- boxes of squares
 
-pub box-of-square : (t : Tree) (box : Bounds) → quad.IsLeastBox t box → IsLeastBox (tree_cell t) box
+pub box-of-square : (t : Tree) (box : Bounds) → quad.IsBoundingBoxOfTree t box → IsBoundingBox (tree_cell t) box
 box-of-square t box least = record {
   inside = least.inside;
   at_left = least.at_left;
@@ -79,12 +79,12 @@ ordered low high h a b =
     let e = high-end in
     record { least = omega (arith, ints); order = h; most = omega (arith, ints) }
 
-pub columns-ordered : (t : Tree) (box : Bounds) → depth t ≤ MAX_LEVEL → quad.IsLeastBox t box → IsOrdered box.left box.right
+pub columns-ordered : (t : Tree) (box : Bounds) → depth t ≤ MAX_LEVEL → quad.IsBoundingBoxOfTree t box → IsOrdered box.left box.right
 columns-ordered t box low least =
     let inside = least.inside _ _ least.at_left.1 in
     ordered _ _ inside.1 (lies-within t low _ _ least.at_left.1).0 (lies-within t low _ _ least.at_right.1).0
 
-pub rows-ordered : (t : Tree) (box : Bounds) → depth t ≤ MAX_LEVEL → quad.IsLeastBox t box → IsOrdered box.top box.bottom
+pub rows-ordered : (t : Tree) (box : Bounds) → depth t ≤ MAX_LEVEL → quad.IsBoundingBoxOfTree t box → IsOrdered box.top box.bottom
 rows-ordered t box low least =
     let inside = least.inside _ _ least.at_top.1 in
     ordered _ _ inside.3 (lies-within t low _ _ least.at_top.1).1 (lies-within t low _ _ least.at_bottom.1).1
@@ -97,7 +97,7 @@ ordered-read low high h =
     record { least = omega (arith, ints); order = omega (arith, ints); most = omega (arith, ints) }
 
 -- the way of one least box is that of all
-pub way-of-box : (t : Tree) (found : Bounds) (a b : ℤ) → quad.IsLeastBox t found
+pub way-of-box : (t : Tree) (found : Bounds) (a b : ℤ) → quad.IsBoundingBoxOfTree t found
     → IsInPlace MAX_LEVEL (found.left +ℤ a) (found.right +ℤ a) → IsInPlace MAX_LEVEL (found.top +ℤ b) (found.bottom +ℤ b) → IsWay (tree_cell t) a b
 way-of-box t found a b is columns rows box least =
     let one = one-box _ _ _ (box-of-square t found is) least in (

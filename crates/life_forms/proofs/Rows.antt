@@ -7,16 +7,16 @@ use Rattle.std.specs.Cmp.Lexicographic.{slice_cmp}
 use Rattle.life_base.specs.declared.rule.Rule.TheVariants.{Named}
 use Rattle.life_mc.specs.declared.line.Line.{Line}
 use Rattle.life_mc.specs.declared.line.Line.TheVariants.{Leaf, Quad}
-use Rattle.life_mc.specs.Writing.{mc_text, row_cells}
-use Rattle.life_canon.specs.Universe.{square, corner, centred, whole}
-use Rattle.life_canon.specs.Listing.{listed, rows_of, canonical_file}
+use Rattle.life_mc.specs.Writing.{mc_text, leaf_row_text}
+use Rattle.life_canon.specs.Universe.{square, corner, centred_square, whole}
+use Rattle.life_canon.specs.Listing.{listed_squares, rows_of, canonical_file}
 use Rattle.life_canon.proofs.Spots.{Spot, spot, life, pattern_of, canonical_lines}
-use Rattle.life_forms.specs.Turns.{Turn, turns, turn_of, column_of, row_of, back, after}
-use Rattle.life_forms.specs.Forms.{IsInPlace, at_zero, at_edge, edge}
+use Rattle.life_forms.specs.Turns.{Turn, every_turn, turn_of, turned_column, turned_row, inverse_turn, turn_after}
+use Rattle.life_forms.specs.Forms.{IsInPlace, at_zero, at_edge, plane_end}
 
 -- where a turn puts a cell
 abbrev turned_spot : Turn → Spot → Spot
-turned_spot t s = spot (column_of (back t) s.x s.y) (row_of (back t) s.x s.y) s.state
+turned_spot t s = spot (turned_column (inverse_turn t) s.x s.y) (turned_row (inverse_turn t) s.x s.y) s.state
 
 abbrev shifted_spot : ℤ → ℤ → Spot → Spot
 shifted_spot a b s = spot (s.x +ℤ a) (s.y +ℤ b) s.state
@@ -38,9 +38,9 @@ abbrev glider_at : ℤ → ℤ → List Spot
 glider_at a b =
     map (shifted_spot a b) (spot (pos 1) (pos 0) 1 ∷ spot (pos 2) (pos 1) 1 ∷ spot (pos 0) (pos 2) 1 ∷ spot (pos 1) (pos 2) 1 ∷ spot (pos 2) (pos 2) 1 ∷ [])
 
--- the cells of the eight images, moved, in the order of `turns`
+-- the cells of the eight images, moved, in the order of `every_turn`
 abbrev eight_images : List Spot → List (List Spot)
-eight_images cells = map (λ t. moved_spots (map (turned_spot t) cells)) turns
+eight_images cells = map (λ t. moved_spots (map (turned_spot t) cells)) every_turn
 
 -- far east, at the middle, at the corner and at the edge
 abbrev places : List (ℤ × ℤ)
@@ -57,18 +57,18 @@ row_gliders = refl
 
 -- the eight of an image are the eight by its turn and one more: the same in another order
 row_image_of_a_glider : eight_images (map (turned_spot (turn_of false true false)) (glider_at (pos 0) (pos 0)))
-    ≡ map (λ t. moved_spots (map (turned_spot (after (turn_of false true false) t)) (glider_at (pos 0) (pos 0)))) turns
+    ≡ map (λ t. moved_spots (map (turned_spot (turn_after (turn_of false true false) t)) (glider_at (pos 0) (pos 0)))) every_turn
 row_image_of_a_glider = refl
 
 -- the eight are made by two reflections in turn
-row_turns : turns
-    ≡ turn_of false false false ∷ map (λ t. after t (turn_of false true false)) (turn_of false false false ∷ [])
-    ++ map (λ t. after t (turn_of true false false)) (turn_of false true false ∷ [])
-    ++ map (λ t. after t (turn_of false true false)) (turn_of true true false ∷ [])
-    ++ map (λ t. after t (turn_of true false false)) (turn_of true true true ∷ [])
-    ++ map (λ t. after t (turn_of false true false)) (turn_of false true true ∷ [])
-    ++ map (λ t. after t (turn_of true false false)) (turn_of false false true ∷ [])
-    ++ map (λ t. after t (turn_of false true false)) (turn_of true false true ∷ [])
+row_turns : every_turn
+    ≡ turn_of false false false ∷ map (λ t. turn_after t (turn_of false true false)) (turn_of false false false ∷ [])
+    ++ map (λ t. turn_after t (turn_of true false false)) (turn_of false true false ∷ [])
+    ++ map (λ t. turn_after t (turn_of false true false)) (turn_of true true false ∷ [])
+    ++ map (λ t. turn_after t (turn_of true false false)) (turn_of true true true ∷ [])
+    ++ map (λ t. turn_after t (turn_of false true false)) (turn_of false true true ∷ [])
+    ++ map (λ t. turn_after t (turn_of true false false)) (turn_of false false true ∷ [])
+    ++ map (λ t. turn_after t (turn_of false true false)) (turn_of true false true ∷ [])
 row_turns = refl
 
 -- the lines of an image, moved
@@ -83,8 +83,8 @@ abbrev leaves : List (List Line)
 leaves =
     leaf_of 4 2 14 ∷ leaf_of 4 8 14 ∷ leaf_of 6 10 2 ∷ leaf_of 12 10 8 ∷ leaf_of 14 8 4 ∷ leaf_of 14 2 4 ∷ leaf_of 8 10 12 ∷ leaf_of 2 10 6 ∷ []
 
-row_leaves : map (λ t. image_lines t (glider_at (pos 5) (negsuc 8))) turns ≡ leaves
-unfolding canonical_file whole listed centred corner square rows_of
+row_leaves : map (λ t. image_lines t (glider_at (pos 5) (negsuc 8))) every_turn ≡ leaves
+unfolding canonical_file whole listed_squares centred_square corner square rows_of
 row_leaves = refl
 
 -- the text of a leaf, and the least of texts
@@ -96,24 +96,24 @@ lesser a b = if is_gt (slice_cmp nat_cmp a b) then b else a
 
 -- of the eight texts this one is the least: `....*$....*.*$....**$` behind four empty rows
 row_turned_glider : fold lesser (text_of (leaf_of 4 2 14)) (map text_of leaves) ≡ codes "[M2] (canonical 1)\n#R B3/S23\n$$$$....*$....*.*$....**$$\n"
-unfolding row_cells
+unfolding leaf_row_text
 row_turned_glider = refl
 
 -- nothing is itself
 row_blank : canonical_lines 4 (pattern_of life (moved_spots [])) ≡ []
-unfolding canonical_file whole listed centred corner square rows_of
+unfolding canonical_file whole listed_squares centred_square corner square rows_of
 row_blank = refl
 
 -- under a name: states to 255, from the plane's corner
 row_states : canonical_lines 2 (pattern_of (Named (87 ∷ []))
     (moved_spots (spot (neg_ℤ (pos (2 ^ 61))) (neg_ℤ (pos (2 ^ 61))) 255 ∷ spot (neg_ℤ (pos (2 ^ 61)) +ℤ pos 1)
     (neg_ℤ (pos (2 ^ 61))) 25 ∷ []))) ≡ Quad 1 255 25 0 0 ∷ Quad 2 0 0 0 1 ∷ []
-unfolding canonical_file whole listed centred corner square rows_of
+unfolding canonical_file whole listed_squares centred_square corner square rows_of
 row_states = refl
 
 -- ---- sides on the plane of level 62
 
-edge_is : edge 62 ≡ pos (2 ^ 61)
+edge_is : plane_end 62 ≡ pos (2 ^ 61)
 unfolding corner
 edge_is = refl
 

@@ -6,9 +6,9 @@ use Rattle.life_canon.specs.Universe.{Universe, IsSame, IsBlankOutside, IsWithin
 use Rattle.life_base.specs.declared.bounds.Bounds.{Bounds}
 use Rattle.life_base.specs.declared.rule.Rule.{Rule}
 use Rattle.life_base.specs.Rules.{IsRule}
-use Rattle.life_canon.specs.Texts.{IsLeastBox}
+use Rattle.life_canon.specs.Texts.{IsBoundingBox}
 use Rattle.life_mc.specs.Macrocell.{largest_state}
-use Rattle.life_forms.specs.Forms.{Tells, IsShift, edge, IsInPlace, at_zero, at_edge, IsMovedForm, IsMoved}
+use Rattle.life_forms.specs.Forms.{SeparatesPatterns, IsShift, plane_end, IsInPlace, at_zero, at_edge, IsMovedForm, IsMoved}
 use Rattle.life_forms.specs.Laws.{MovedFormsExist, MovedFormsAreOnPlane, MovedFormsTellShifts, MovedFormsAreFixed, MovedTextsTellShifts}
 use Rattle.life_base.proofs.Basics.{plus_zero, zero_unless}
 
@@ -65,7 +65,7 @@ moved-inside : (box : Bounds) (a b x y : ℤ)
 moved-inside box a b x y (l, r, t, o) = (omega (arith, ints), omega (arith, ints), omega (arith, ints), omega (arith, ints))
 
 -- the box of a shift
-pub box-shifted : (u v : Universe) (s : IsShift u v) (box : Bounds) → IsLeastBox u.cell box → IsLeastBox v.cell (moved_box box s.columns s.rows)
+pub box-shifted : (u v : Universe) (s : IsShift u v) (box : Bounds) → IsBoundingBox u.cell box → IsBoundingBox v.cell (moved_box box s.columns s.rows)
 box-shifted u v s box least = record {
   inside = λ x y some. moved-inside box s.columns s.rows x y
       (least.inside _ _ (λ none. some (sym (ap₂ v.cell (there-and-back x s.columns) (there-and-back y s.rows)) ∙ s.cells _ _ ∙ none)));
@@ -85,7 +85,7 @@ pub record HaveSameSides (a b : Bounds) : Type 0 where
 both-ways : (a b : ℤ) → a ≤ℤ b → b ≤ℤ a → a ≡ b
 both-ways a b h k = omega (arith, ints)
 
-pub one-box : (cell : ℤ → ℤ → ℕ) (a b : Bounds) → IsLeastBox cell a → IsLeastBox cell b → HaveSameSides a b
+pub one-box : (cell : ℤ → ℤ → ℕ) (a b : Bounds) → IsBoundingBox cell a → IsBoundingBox cell b → HaveSameSides a b
 one-box cell a b m n = record {
   left = both-ways _ _ ((m.inside _ _ n.at_left.1).0) ((n.inside _ _ m.at_left.1).0);
   right = both-ways _ _ ((n.inside _ _ m.at_right.1).1) ((m.inside _ _ n.at_right.1).1);
@@ -207,11 +207,11 @@ pub seen : (top : ℕ) (cell : ℤ → ℤ → ℕ) → IsBlankOutside top cell 
 seen top cell outside x y some =
     elim (le-or-lt (corner top) x) [
       | inr h ↦ absurd (some (outside x y (λ w. not-both _ _ w.0.0 h)))
-      | inl a ↦ elim (le-or-lt (edge top) x) [
+      | inl a ↦ elim (le-or-lt (plane_end top) x) [
         | inl h ↦ absurd (some (outside x y (λ w. not-both _ _ h w.0.1)))
         | inr b ↦ elim (le-or-lt (corner top) y) [
           | inr h ↦ absurd (some (outside x y (λ w. not-both _ _ w.1.0 h)))
-          | inl c ↦ elim (le-or-lt (edge top) y) [
+          | inl c ↦ elim (le-or-lt (plane_end top) y) [
             | inl h ↦ absurd (some (outside x y (λ w. not-both _ _ h w.1.1)))
             | inr d ↦ ((a, b), (c, d))
           ]
@@ -256,7 +256,7 @@ not-behind : (p : ℤ → Bool) (low : ℤ) (n : ℕ) (c : ℤ) → IsLast p low
 not-behind p low n c f x e h = elim (le-or-lt x c) [ inl k ↦ k | inr k ↦ absurd (true≢false (sym e ∙ f.behind x k h)) ]
 
 abbrev HasBox : Universe → Type 0
-HasBox u = (box : Bounds) × IsLeastBox u.cell box
+HasBox u = (box : Bounds) × IsBoundingBox u.cell box
 
 box-of : (top : ℕ) (u : Universe) (outside : IsBlankOutside top u.cell) (l r t b : ℤ)
     → IsFirst (column_lives top u.cell) (corner top) (2 ^ top) l → IsLast (column_lives top u.cell) (corner top) (2 ^ top) r
@@ -326,15 +326,16 @@ corner-low zero = omega (arith, ints)
 corner-low (suc k) = omega (arith, ints)
 
 -- how far a side moves into its place
-pub place-of : (top : ℕ) (low high : ℤ) → corner top ≤ℤ low → high <ℤ edge top → (a : ℤ) × IsInPlace top (low +ℤ a) (high +ℤ a)
+pub place-of : (top : ℕ) (low high : ℤ) → corner top ≤ℤ low → high <ℤ plane_end top → (a : ℤ) × IsInPlace top (low +ℤ a) (high +ℤ a)
 place-of top low high h k =
-    elim (le-or-lt (edge top) (high +ℤ neg_ℤ low)) [
+    elim (le-or-lt (plane_end top) (high +ℤ neg_ℤ low)) [
       | inr fits ↦ (neg_ℤ low, at_zero (omega (arith, ints)) (omega (arith, ints)))
-      | inl wide ↦ ((edge top +ℤ negsuc 0) +ℤ neg_ℤ high, at_edge (omega (arith, ints)) (omega (arith, ints)))
+      | inl wide ↦ ((plane_end top +ℤ negsuc 0) +ℤ neg_ℤ high, at_edge (omega (arith, ints)) (omega (arith, ints)))
     ]
 
 -- a side in its place lies on the plane, if it is no longer than the plane
-in-place-within : (top : ℕ) (low high x : ℤ) → IsInPlace top low high → (corner top +ℤ (high +ℤ neg_ℤ low)) <ℤ edge top → low ≤ℤ x → x ≤ℤ high → IsWithin top x
+in-place-within : (top : ℕ) (low high x : ℤ) → IsInPlace top low high → (corner top +ℤ (high +ℤ neg_ℤ low)) <ℤ plane_end top → low ≤ℤ x → x ≤ℤ high
+    → IsWithin top x
 in-place-within top low high x (at_zero e f) fits h k = let c = corner-low top in (omega (arith, ints), omega (arith, ints))
 in-place-within top low high x (at_edge e f) fits h k = (omega (arith, ints), omega (arith, ints))
 
@@ -367,7 +368,7 @@ shift-of u a b = record {
 }
 
 -- a box of the plane has its sides there
-sides-within : (top : ℕ) (u : Universe) → IsBlankOutside top u.cell → (box : Bounds) → IsLeastBox u.cell box
+sides-within : (top : ℕ) (u : Universe) → IsBlankOutside top u.cell → (box : Bounds) → IsBoundingBox u.cell box
     → IsWithin top box.left × IsWithin top box.right × IsWithin top box.top × IsWithin top box.bottom
 sides-within top u outside box least = (
   (seen top u.cell outside _ _ least.at_left.1).0,
@@ -376,7 +377,7 @@ sides-within top u outside box least = (
   (seen top u.cell outside _ _ least.at_bottom.1).1,
 )
 
-moved-form-at : (top : ℕ) (u : Universe) (box : Bounds) → IsLeastBox u.cell box → (a b : ℤ)
+moved-form-at : (top : ℕ) (u : Universe) (box : Bounds) → IsBoundingBox u.cell box → (a b : ℤ)
     → IsInPlace top (box.left +ℤ a) (box.right +ℤ a) → IsInPlace top (box.top +ℤ b) (box.bottom +ℤ b) → IsMoved top u (shifted u a b)
 unfolding shift-of
 moved-form-at top u box least a b columns rows = record {
@@ -408,7 +409,7 @@ moved-forms-exist top u plane = moved-exists top u plane.outside (has-box top u 
 blank-shift : (u v : Universe) → IsShift u v → IsBlank u → IsBlank v
 blank-shift u v s blank x y = sym (ap₂ v.cell (there-and-back x s.columns) (there-and-back y s.rows)) ∙ s.cells _ _ ∙ blank _ _
 
-width-fits : (top : ℕ) (low high a : ℤ) → IsWithin top low → IsWithin top high → (corner top +ℤ ((high +ℤ a) +ℤ neg_ℤ (low +ℤ a))) <ℤ edge top
+width-fits : (top : ℕ) (low high a : ℤ) → IsWithin top low → IsWithin top high → (corner top +ℤ ((high +ℤ a) +ℤ neg_ℤ (low +ℤ a))) <ℤ plane_end top
 width-fits top low high a (b, c) (d, e) = omega (arith, ints)
 
 pub moved-seen : (top : ℕ) (u v : Universe) (moved : IsMoved top u v) → IsBlankOutside top u.cell → IsBlank u ⊎ HasBox u → (x y : ℤ) → v.cell x y ≢ 0
@@ -481,7 +482,7 @@ moved-fixed top u v w plane first second =
     let there = moved-on-plane top u v plane first in
     same-forms top v w first.form second.form second.shift (has-box top v there.outside)
 
-pub moved-texts : (top : ℕ) (text : Universe → List ℕ) → Tells top text → MovedTextsTellShifts top text
+pub moved-texts : (top : ℕ) (text : Universe → List ℕ) → SeparatesPatterns top text → MovedTextsTellShifts top text
 moved-texts top text tells u v x y plane other first second =
     let one = tells x y (moved-on-plane top u x plane first) (moved-on-plane top v y other second) in
     (λ e. shift-of-forms top u v x y first second (one.0 e), λ s. one.1 (forms-of-shifts top u v x y plane.outside first second s))

@@ -11,7 +11,7 @@ use Rattle.life_base.specs.declared.cell.TheConstants.{MAX_LEVEL}
 use Rattle.life_base.specs.declared.rule.Rule.{Rule}
 use Rattle.life_quad.specs.Keeping.{AddsOnly}
 use Rattle.life_quad.specs.Refused.{SomePart}
-use Rattle.life_quad.specs.Store.{Nodes, IsEarlier, IsShared, Knows, content, held, id_of}
+use Rattle.life_quad.specs.Store.{Nodes, IsEarlier, IsShared, Knows, content, stored_squares, id_of}
 use Rattle.life_quad.specs.StoreLaws.{Names, the_state, the_blank, the_node, names}
 use Rattle.life_quad.specs.declared.id.Id.{Id}
 use Rattle.life_canon.specs.Needs.{IsNew}
@@ -23,7 +23,7 @@ use Rattle.life_canon.proofs.Sameness.{same-sym}
 use Rattle.life_canon.proofs.Known.{part-blank}
 use Rattle.life_forms.specs.Forms.{IsShift, IsTurnedShift}
 use Rattle.life_forms.specs.Laws.{ShiftsHaveOneSize, TurnsHaveOneSize}
-use Rattle.life_forms.specs.Turns.{Turn, after, image}
+use Rattle.life_forms.specs.Turns.{Turn, turn_after, image}
 use Rattle.life_forms.specs.Needed.{HasLargerForm, IsMovedRoot, LacksForMoved, NeedsMore, SomeOfMovedForm}
 use Rattle.life_forms.proofs.MovedFacts.{root-of-form}
 use Rattle.life_forms.proofs.ShiftFacts.{shift-sym, shift-trans, still}
@@ -32,12 +32,12 @@ use Rattle.life_forms.proofs.LeastFacts.{turned-shift-sym}
 
 -- what `len` of a store says: it holds each square once, and none that is blank
 pub record HoldsOnce (store : Nodes) : Type 0 where
-  pub distinct : AllPairs ◌≢◌ (held store)
-  pub live : (t : Tree) → Contains (held store) t → is_blank_tree t ≡ false
+  pub distinct : AllPairs ◌≢◌ (stored_squares store)
+  pub live : (t : Tree) → Contains (stored_squares store) t → is_blank_tree t ≡ false
 
 -- all squares that a store holds are needed
 abbrev pub HoldsNeeded : ((Tree → Type 0) → Type 0) → Nodes → Type 0
-HoldsNeeded Needs store = (t : Tree) → Contains (held store) t → Needs (λ u. u ≡ t)
+HoldsNeeded Needs store = (t : Tree) → Contains (stored_squares store) t → Needs (λ u. u ≡ t)
 
 pub no-square : {A : Type 0} (t : Tree) → Contains {X = Tree} [] t → A
 no-square t there = absurd (omega (arith, there.1))
@@ -50,9 +50,9 @@ all-cons P t squares p all (suc k) d lt = all k d (omega (arith, lt))
 
 -- a store at its limit that holds needed squares alone and lacks one
 pub more-than-held : (Needs : (Tree → Type 0) → Type 0) (store : Nodes) → HoldsOnce store → HoldsNeeded Needs store → Found (IsNew store) Needs
-    → length (held store) ≡ store.limit → NeedsMore Needs store.limit
+    → length (stored_squares store) ≡ store.limit → NeedsMore Needs store.limit
 more-than-held Needs store once needed lack full =
-    let squares = held store in
+    let squares = stored_squares store in
     let new : All (λ u. lack.square ≢ u) squares = λ k d lt e.
     lack.holds.1 (subst (Contains squares) (sym e) (All-contains_itself squares k d lt)) in
     let Is = λ (t : Tree). (is_blank_tree t ≡ false) × Needs (λ u. u ≡ t) in
@@ -71,7 +71,7 @@ needs-more Needs Others most f more = (more.0, more.1, λ k d lt. let it = more.
 -- ---- no more than the limit
 
 -- a store that has an Id is within its limit
-pub within : (store : Nodes) → IsShared store → length (held store) ≤ store.limit
+pub within : (store : Nodes) → IsShared store → length (stored_squares store) ≤ store.limit
 within store shared = let same = length-map store.log (λ k. content store (id_of k)) in let len = shared.len in omega (arith, same, len)
 
 -- a list that has all that is needed is longer than what more is needed than
@@ -88,9 +88,9 @@ longer Needs list most all more =
 
 -- all that is needed is held
 pub enough : (Needs : (Tree → Type 0) → Type 0) (store : Nodes) → IsShared store
-    → ((t : Tree) → is_blank_tree t ≡ false → Needs (λ u. u ≡ t) → Contains (held store) t) → ¬ NeedsMore Needs store.limit
+    → ((t : Tree) → is_blank_tree t ≡ false → Needs (λ u. u ≡ t) → Contains (stored_squares store) t) → ¬ NeedsMore Needs store.limit
 enough Needs store shared all more =
-    let long = longer Needs (held store) store.limit all more in
+    let long = longer Needs (stored_squares store) store.limit all more in
     let most = within store shared in
     omega (arith, long, most)
 
@@ -99,18 +99,18 @@ enough Needs store shared all more =
 -- what `len` says of the squares of Ids
 abbrev pub HoldsKnown : Nodes → Type 0
 HoldsKnown store =
-    (id : Id) → Knows store id → is_blank_tree (content store id) ≡ false → 0 < depth (content store id) → Contains (held store) (content store id)
+    (id : Id) → Knows store id → is_blank_tree (content store id) ≡ false → 0 < depth (content store id) → Contains (stored_squares store) (content store id)
 
 -- the square is stored, if it is a part of this one, wherever this one is known
 abbrev IsHeldPart : Nodes → Tree → Tree → Type 0
-IsHeldPart store u t = (id : Id) → Knows store id → content store id ≡ t → SomePart (λ v. v ≡ u) t → Contains (held store) u
+IsHeldPart store u t = (id : Id) → Knows store id → content store id ≡ t → SomePart (λ v. v ≡ u) t → Contains (stored_squares store) u
 
 module _ (store : Nodes) (all : HoldsKnown store) (u : Tree) (live : is_blank_tree u ≡ false) where
   held-quarters : (a b c d : Tree) → IsHeldPart store u a → IsHeldPart store u b → IsHeldPart store u c → IsHeldPart store u d
       → IsHeldPart store u (quad a b c d)
   held-quarters a b c d of_a of_b of_c of_d id known is (inl same) =
       let e : content store id ≡ u = is ∙ same in
-      subst (Contains (held store)) e
+      subst (Contains (stored_squares store)) e
       (all id known (ap is_blank_tree e ∙ live) (subst (λ (t : Tree). 0 < depth t) (sym is) (omega arith)))
   held-quarters a b c d of_a of_b of_c of_d id known is (inr rest) = by (names store id known)
     where
@@ -122,7 +122,7 @@ module _ (store : Nodes) (all : HoldsKnown store) (u : Tree) (live : is_blank_tr
             joined = h.joined;
           }
 
-      by : Names store id → Contains (held store) u
+      by : Names store id → Contains (stored_squares store) u
       by (the_state l e) = absurd (point≢quad (sym e ∙ is))
       by (the_blank k l i e) =
           absurd (true≢false (sym (part-blank (quad a b c d) u (ap is_blank_tree (sym is ∙ e) ∙ is_blank-blank (suc k)) (inr rest)) ∙ live))
@@ -142,7 +142,7 @@ module _ (store : Nodes) (all : HoldsKnown store) (u : Tree) (live : is_blank_tr
 -- ---- what a store holds
 
 -- a store that was empty holds what calls added
-pub from-empty : (Needs : (Tree → Type 0) → Type 0) (old new : Nodes) → held old ≡ [] → AddsOnly held Needs old new → HoldsNeeded Needs new
+pub from-empty : (Needs : (Tree → Type 0) → Type 0) (old new : Nodes) → stored_squares old ≡ [] → AddsOnly stored_squares Needs old new → HoldsNeeded Needs new
 from-empty Needs old new empty adds t there = elim (adds.each t there) [
   | inl before ↦ no-square t (subst (λ (squares : List Tree). Contains squares t) empty before)
   | inr it ↦ it
@@ -154,8 +154,9 @@ pub find-form : (P : Tree → Type 0) (u : Universe) → SomeOfMovedForm P u →
 find-form P u (v, is, s) = found-as (λ Q k. (v, is, k)) (find-part P _ s)
 
 -- a form has more squares than the store that is full of its parts
-pub larger-form : (u : Universe) (old new : Nodes) → held old ≡ [] → HoldsOnce new → AddsOnly held (λ P. SomeOfMovedForm P u) old new → LacksForMoved u new
-    → length (held new) ≡ new.limit → HasLargerForm new.limit u
+pub larger-form : (u : Universe) (old new : Nodes) → stored_squares old ≡ [] → HoldsOnce new → AddsOnly stored_squares (λ P. SomeOfMovedForm P u) old new
+    → LacksForMoved u new
+    → length (stored_squares new) ≡ new.limit → HasLargerForm new.limit u
 larger-form u old new empty once adds lacks full =
     more-than-held (λ P. SomeOfMovedForm P u) new once (from-empty (λ P. SomeOfMovedForm P u) old new empty adds) (find-form (IsNew new) u lacks) full
 
@@ -181,7 +182,7 @@ images-of : (most : ℕ) (u v : Universe) → IsTurnedShift u v → (turn : Turn
     → (other : Turn) × HasLargerForm most (image other u)
 images-of most u v s turn large =
     let there = shift-trans _ _ _ (still _ _ (same-sym _ _ (turns-are-closed s.turn turn u))) (images-keep-shifts turn _ _ s.shift) in
-    (after s.turn turn, shifted-size most _ _ there large)
+    (turn_after s.turn turn, shifted-size most _ _ there large)
 
 pub turns-one-size : TurnsHaveOneSize
 turns-one-size most u v s =

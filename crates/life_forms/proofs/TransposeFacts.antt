@@ -7,7 +7,7 @@ use Rattle.life_base.specs.declared.bounds.Bounds.{Bounds}
 use Rattle.life_base.specs.declared.cell.TheConstants.{MAX_LEVEL}
 use Rattle.life_base.specs.declared.rule.Rule.{Rule}
 use Rattle.life_base.specs.declared.rule.Rule.TheVariants.{Life, Named}
-use Rattle.life_quad.specs.Moves.{trimmed}
+use Rattle.life_quad.specs.Moves.{trimmed_square}
 use Rattle.life_quad.specs.Refused.{SomePart}
 use Rattle.life_quad.specs.Store.{Nodes}
 use Rattle.life_quad.specs.Turning.{turned_tree}
@@ -16,14 +16,14 @@ use Rattle.life_quad.proofs.TurningLemmas.{apart-turned, blank-image, depth-turn
 use Rattle.life_canon.specs.Laws.{SquaresAreCentred, CentredSquaresTellCells}
 use Rattle.life_canon.specs.Listing.{canon_text, canonical_file, square_text}
 use Rattle.life_canon.specs.Store.{content, universe_in, IsTrimmed}
-use Rattle.life_canon.specs.Texts.{IsLeastBox}
-use Rattle.life_canon.specs.Universe.{Universe, centred, least_level, whole}
+use Rattle.life_canon.specs.Texts.{IsBoundingBox}
+use Rattle.life_canon.specs.Universe.{Universe, centred_square, least_level, whole}
 use Rattle.life_canon.specs.declared.pattern.Pattern.{Pattern}
 use Rattle.life_slide.proofs.MovedLemmas.{cell-below}
 use Rattle.life_forms.specs.Forms.{IsMoved}
 use Rattle.life_forms.specs.Images.{AreSmall, IsImageText}
 use Rattle.life_forms.specs.Needed.{HasLargerForm, SomeOfMovedForm}
-use Rattle.life_forms.specs.Turns.{Turn, back, column_of, counted, image, row_of, transpose, turn_of}
+use Rattle.life_forms.specs.Turns.{Turn, inverse_turn, turned_column, counted_coordinate, image, turned_row, transpose, turn_of}
 use Rattle.life_forms.proofs.ImageFacts.{turned-cells, turned-centred}
 use Rattle.life_forms.proofs.MovedFacts.{depth-centred, full-centred, trimmed-whole}
 use Rattle.life_forms.proofs.PatternFacts.{shift-up-to}
@@ -35,7 +35,7 @@ use Rattle.life_forms.proofs.TurnFacts.{images-keep-shifts, placed-back}
 abbrev transposed_box : Bounds → Bounds
 transposed_box box = record { left = box.top; top = box.left; right = box.bottom; bottom = box.right }
 
-box-transposed : (cell : ℤ → ℤ → ℕ) (box : Bounds) → IsLeastBox (λ x y. cell y x) box → IsLeastBox cell (transposed_box box)
+box-transposed : (cell : ℤ → ℤ → ℕ) (box : Bounds) → IsBoundingBox (λ x y. cell y x) box → IsBoundingBox cell (transposed_box box)
 box-transposed cell box least = record {
   inside = λ x y some. let i = least.inside y x some in (i.2, i.3, i.0, i.1);
   at_left = least.at_top;
@@ -54,46 +54,47 @@ transpose-moved top u v moved = record {
 
 module _ (centre : SquaresAreCentred) (tell : CentredSquaresTellCells) where
   cells-of : (turn : Turn) (t : Tree) → IsFull t → 1 ≤ depth t → (x y : ℤ)
-      → tree_cell (turned_tree turn t) x y ≡ tree_cell t (column_of turn x y) (row_of turn x y)
+      → tree_cell (turned_tree turn t) x y ≡ tree_cell t (turned_column turn x y) (turned_row turn x y)
   cells-of turn t full high = turned-cells centre tell turn t (turned_tree turn t) full (full-turned turn t full) high (depth-turned turn t full) refl
 
   -- the image of a square that can't be trimmed can't be trimmed
-  trimmed-turned : (turn : Turn) (t : Tree) (m : ℕ) → IsFull t → 1 ≤ m → m ≤ depth t → trimmed t m ≡ t
-      → trimmed (turned_tree turn t) m ≡ turned_tree turn t
+  trimmed-turned : (turn : Turn) (t : Tree) (m : ℕ) → IsFull t → 1 ≤ m → m ≤ depth t → trimmed_square t m ≡ t
+      → trimmed_square (turned_tree turn t) m ≡ turned_tree turn t
   trimmed-turned turn t m full positive high fixed =
       let i = turned_tree turn t in
       let also : IsFull i = full-turned turn t full in
       let deep : depth i ≡ depth t = depth-turned turn t full in
-      let s = trimmed i m in
+      let s = trimmed_square i m in
       let least : IsFull s = (trimmed_is_fixed i m also positive).0 in
       let stops = trimming_stops i m also positive in
       let from : m ≤ depth s = stops.0 (omega (arith, high, deep)) in
       let keep = trimming_keeps_cells i m also positive in
-      let u = turned_tree (back turn) s in
-      let same : depth u ≡ depth s = depth-turned (back turn) s least in
+      let u = turned_tree (inverse_turn turn) s in
+      let same : depth u ≡ depth s = depth-turned (inverse_turn turn) s least in
       let some : 1 ≤ depth s = omega (arith, positive, from) in
       let cells : (x y : ℤ) → tree_cell u x y ≡ tree_cell t x y = (λ x y.
-      let a = column_of (back turn) x y in
-      let b = row_of (back turn) x y in
+      let a = turned_column (inverse_turn turn) x y in
+      let b = turned_row (inverse_turn turn) x y in
       let p = placed-back turn.exchange turn.columns turn.rows x y in
-      cells-of (back turn) s least some x y ∙ keep a b ∙ cells-of turn t full (omega (arith, positive, high)) a b ∙ ap₂ (tree_cell t) p.0 p.1) in
-      let low : depth (trimmed t m) ≤ depth u =
-      trimmed_is_lowest u t m (full-turned (back turn) s least) full positive (omega (arith, from, same)) high cells in
-      let first : depth (trimmed t m) ≡ depth t = ap depth fixed in
+      cells-of (inverse_turn turn) s least some x y ∙ keep a b ∙ cells-of turn t full (omega (arith, positive, high)) a b ∙ ap₂ (tree_cell t) p.0 p.1) in
+      let low : depth (trimmed_square t m) ≤ depth u =
+      trimmed_is_lowest u t m (full-turned (inverse_turn turn) s least) full positive (omega (arith, from, same)) high cells in
+      let first : depth (trimmed_square t m) ≡ depth t = ap depth fixed in
       let most : depth s ≤ depth i = stops.2 in
       equal_by_plane s i least also (omega (arith, low, first, most, same, deep)) keep
 
   trimmed-of-turned : (turn : Turn) (t : Tree) (m : ℕ) → IsFull t → 1 ≤ m → m ≤ depth t
-      → trimmed (turned_tree turn t) m ≡ turned_tree turn (trimmed t m)
+      → trimmed_square (turned_tree turn t) m ≡ turned_tree turn (trimmed_square t m)
   trimmed-of-turned turn t m full positive high =
-      let r = trimmed t m in
+      let r = trimmed_square t m in
       let fix = trimmed_is_fixed t m full positive in
       let from : m ≤ depth r = (trimming_stops t m full positive).0 high in
       let there : depth (turned_tree turn t) ≡ depth t = depth-turned turn t full in
       let here : depth (turned_tree turn r) ≡ depth r = depth-turned turn r fix.0 in
       (trimmed_by_cells (turned_tree turn t) (turned_tree turn r) m (full-turned turn t full) (full-turned turn r fix.0) positive
       (omega (arith, high, there)) (omega (arith, from, here))).1
-      (λ x y. cells-of turn t full (omega (arith, positive, high)) x y ∙ sym (trimming_keeps_cells t m full positive (column_of turn x y) (row_of turn x y))
+      (λ x y. cells-of turn t full (omega (arith, positive, high)) x y
+      ∙ sym (trimming_keeps_cells t m full positive (turned_column turn x y) (turned_row turn x y))
       ∙ sym (cells-of turn r fix.0 (omega (arith, positive, from)) x y))
       ∙ trimmed-turned turn r m fix.0 positive from fix.1
 
@@ -106,9 +107,9 @@ module _ (centre : SquaresAreCentred) (tell : CentredSquaresTellCells) where
   unfolding whole
   whole-turned turn w states =
       let least = least-levels w.rule in
-      let deep : depth (centred w.cell MAX_LEVEL) ≡ 62 = depth-centred w.cell states in
-      ap (λ (t : Tree). trimmed t (least_level w.rule)) (sym (turned-centred turn w.cell MAX_LEVEL (lit≤ tt)))
-      ∙ trimmed-of-turned turn (centred w.cell MAX_LEVEL) (least_level w.rule) (full-centred w.cell states) least.0 (omega (arith, deep, least.1))
+      let deep : depth (centred_square w.cell MAX_LEVEL) ≡ 62 = depth-centred w.cell states in
+      ap (λ (t : Tree). trimmed_square t (least_level w.rule)) (sym (turned-centred turn w.cell MAX_LEVEL (lit≤ tt)))
+      ∙ trimmed-of-turned turn (centred_square w.cell MAX_LEVEL) (least_level w.rule) (full-centred w.cell states) least.0 (omega (arith, deep, least.1))
 
   -- ---- sizes
 
@@ -160,7 +161,7 @@ module _ (centre : SquaresAreCentred) (tell : CentredSquaresTellCells) where
   small-both most u columns rows states small false = small
   small-both most u columns rows states small true = λ large.
       small (larger-transposed most (image (turn_of false columns rows) u)
-      (λ x y. let low = states (counted columns x) (counted rows y) in omega (arith, low)) large)
+      (λ x y. let low = states (counted_coordinate columns x) (counted_coordinate rows y) in omega (arith, low)) large)
 
   -- ---- texts
 

@@ -6,12 +6,12 @@ use Rattle.life_base.specs.declared.cell.TheConstants.{MAX_LEVEL}
 use Rattle.life_base.specs.declared.fault.Fault.{Fault}
 use Rattle.life_base.specs.declared.kind.Kind.TheVariants.{Full}
 use Rattle.life_quad.specs.Keeping.{AddsOnly}
-use Rattle.life_quad.specs.Moves.{trimmed}
+use Rattle.life_quad.specs.Moves.{trimmed_square}
 use Rattle.life_quad.specs.Refused.{SomePart}
-use Rattle.life_quad.specs.Store.{Nodes, held}
+use Rattle.life_quad.specs.Store.{Nodes, stored_squares}
 use Rattle.life_canon.specs.Needs.{IsNew}
 use Rattle.life_canon.specs.Store.{universe_in}
-use Rattle.life_canon.specs.Universe.{Universe, centred, whole}
+use Rattle.life_canon.specs.Universe.{Universe, centred_square, whole}
 use Rattle.life_canon.specs.declared.pattern.Pattern.{Pattern}
 use Rattle.life_forms.specs.Forms.{IsMoved}
 use Rattle.life_forms.specs.Turns.{Turn, image}
@@ -20,11 +20,11 @@ use Rattle.life_forms.specs.Turns.{Turn, image}
 pub record IsMovedRoot (u : Universe) (least : ℕ) (root : Tree) : Type 0 where
   pub form : Universe
   pub moved : IsMoved MAX_LEVEL u form
-  pub square : root ≡ trimmed (centred form.cell MAX_LEVEL) least
+  pub square : root ≡ trimmed_square (centred_square form.cell MAX_LEVEL) least
 
 -- that root, or a part of it, has a property
 abbrev pub SomeOfMovedRoot : (Tree → Type 0) → Universe → ℕ → Type 0
-SomeOfMovedRoot P u least = (v : Universe) × IsMoved MAX_LEVEL u v × SomePart P (trimmed (centred v.cell MAX_LEVEL) least)
+SomeOfMovedRoot P u least = (v : Universe) × IsMoved MAX_LEVEL u v × SomePart P (trimmed_square (centred_square v.cell MAX_LEVEL) least)
 
 -- the root of the moved form of a pattern, or a part of it, has a property
 abbrev pub SomeOfMovedForm : (Tree → Type 0) → Universe → Type 0
@@ -36,7 +36,7 @@ LacksForMoved u store = SomeOfMovedForm (IsNew store) u
 
 -- a call stores no square but such ones
 abbrev pub AddsMoved : Universe → Nodes → Nodes → Type 0
-AddsMoved u old new = AddsOnly held (λ P. SomeOfMovedForm P u) old new
+AddsMoved u old new = AddsOnly stored_squares (λ P. SomeOfMovedForm P u) old new
 
 -- More different squares are needed than this, and none of them is blank. `Needs` says of a property that a square which is needed has it.
 abbrev pub NeedsMore : ((Tree → Type 0) → Type 0) → ℕ → Type 0

@@ -14,7 +14,7 @@ pub use Rattle.life_forms.specs.Laws.{TurnsAreEight, TurnsAreClosed, TurnsHaveIn
 pub use Rattle.life_forms.specs.Needed.{AddsMoved, HasLargeForm, HasLargeImage, HasLargerForm, IsMovedRoot, LacksForMoved, RefusesTurning, SomeOfMovedForm, SomeOfMovedRoot}
 pub use Rattle.life_forms.specs.Turns.{image, transpose}
 pub use Rattle.life_mc.specs.Macrocell.{largest_state}
-pub use Rattle.life_quad.specs.Cells.{IsLeastBox as IsSquareBox}
-pub use Rattle.life_quad.specs.Keeping.{IsWantKind}
-pub use Rattle.life_quad.specs.Store.{held}
-pub use Rattle.life_slide.specs.Pieces.{IsNear}
+pub use Rattle.life_quad.specs.Cells.{IsBoundingBoxOfTree as IsSquareBox}
+pub use Rattle.life_quad.specs.Keeping.{IsShortageKind}
+pub use Rattle.life_quad.specs.Store.{stored_squares}
+pub use Rattle.life_slide.specs.Pieces.{IsNearMiddle}

@@ -1,7 +1,7 @@
 //! Cells, moved into their place, square by square.
 
 ghost use Rattle.std.specs.Prelude.{◌≡◌, ◌⊎◌, ◌^◌, ◌≤◌, ◌+ℤ◌, ◌≤ℤ◌, ◌<ℤ◌, ℕ, pos, neg_ℤ, true, false, IfOk};
-ghost use Rattle.life_forms.specs.Words.{MAX_LEVEL, Rule, IsOrdered, square_universe, IsInPlace, IsNear, depth, IsSquareBox, IsMovedRoot, SomeOfMovedRoot};
+ghost use Rattle.life_forms.specs.Words.{MAX_LEVEL, Rule, IsOrdered, square_universe, IsInPlace, IsNearMiddle, depth, IsSquareBox, IsMovedRoot, SomeOfMovedRoot};
 ghost use Rattle.life_quad.specs.Grows.{Grows};
 
 use life_base::{Bounds, Kind};
@@ -25,7 +25,7 @@ fn is_short(low: i64, high: i64) -> bool
 fn side_way(low: i64, high: i64) -> i64
     requires { IsOrdered low high }
     ensures place { IsInPlace MAX_LEVEL (low +ℤ result) (high +ℤ result) }
-    ensures near { IsNear MAX_LEVEL (neg_ℤ (pos (2 ^ 61)) +ℤ neg_ℤ result) }
+    ensures near { IsNearMiddle MAX_LEVEL (neg_ℤ (pos (2 ^ 61)) +ℤ neg_ℤ result) }
 {
     if high - low < EDGE {
         0 - low

@@ -1,7 +1,7 @@
 //! Patterns, moved.
 
 ghost use Rattle.std.specs.Prelude.{◌≡◌, ◌≢◌, ◌⊎◌, ◌^◌, ◌≤◌, ℤ, min, Err, IfOk, IfErr, OnOk};
-ghost use Rattle.life_forms.specs.Words.{fault_of, depth, tree_cell, MAX_LEVEL, Full, Memory, OrMemory, largest_state, IsMemory, IsWantKind, held, IsKnown, IsTrimmed, content, universe_in, least_level, square_universe, IsMoved, IsMovedRoot, AddsMoved, LacksForMoved, HasLargerForm, HasLargeForm};
+ghost use Rattle.life_forms.specs.Words.{fault_of, depth, tree_cell, MAX_LEVEL, Full, Memory, OrMemory, largest_state, IsMemory, IsShortageKind, stored_squares, IsKnown, IsTrimmed, content, universe_in, least_level, square_universe, IsMoved, IsMovedRoot, AddsMoved, LacksForMoved, HasLargerForm, HasLargeForm};
 ghost use Rattle.life_canon.specs.Store.{Keeps};
 
 use crate::moves::moved_root;
@@ -55,7 +55,7 @@ pub(crate) fn moved_pattern(
     ensures root { IfOk result (λ moved. IsMovedRoot
         (square_universe rule generation (content from.now square)) (least_level rule)
         (content to.new moved.root)) }
-    ensures refusals { IfErr result (IsWantKind (held to.new) to.new.limit) }
+    ensures refusals { IfErr result (IsShortageKind (stored_squares to.new) to.new.limit) }
     ensures needed { result ≡ Err Full
         → LacksForMoved (square_universe rule generation (content from.now square)) to.new }
     ensures adds { AddsMoved (square_universe rule generation (content from.now square))

@@ -10,9 +10,9 @@ use Rattle.life_base.specs.Text.{begins_with, is_blank, is_digit_text, is_too_lo
 use Rattle.life_base.specs.declared.kind.Kind.{Kind}
 use Rattle.life_base.specs.declared.kind.Kind.TheVariants.{BadNumber, LateHeader, LineTooLong, Timeline, TooLarge}
 use Rattle.life_base.specs.declared.rule.Rule.{Rule}
-use Rattle.life_mc.specs.Accepted.{FilesAreValid, LinesAreValid}
+use Rattle.life_mc.specs.Accepted.{MacrocellsAreValid, LinesAreValid}
 use Rattle.life_mc.specs.Macrocell.{AreSquares, level_of}
-use Rattle.life_mc.specs.Reading.{broken, broken_behind, broken_by_node, generation_in_force, generation_on, is_command, last_or, rule_in_force, rule_on, squares_of}
+use Rattle.life_mc.specs.Reading.{broken_rule, broken_rule_after, broken_by_node, generation_in_force, generation_on, is_letter_command, last_or, rule_in_force, rule_on, squares_of}
 use Rattle.life_mc.specs.declared.line.Line.{Line}
 use Rattle.life_mc.proofs.NodeLines.{passed}
 use Rattle.life_mc.proofs.Valid.{squares_valid}
@@ -20,7 +20,7 @@ use Rattle.life_mc.proofs.Valid.{squares_valid}
 -- ---- the rule
 
 rule_said : (line : List ℕ) (rule : Rule) → rule_on line ≡ Some rule → IsRule rule
-rule_said line rule h = by (is_command 82 line) (rule_of (drop 2 line)) refl h
+rule_said line rule h = by (is_letter_command 82 line) (rule_of (drop 2 line)) refl h
   where
     by : (v : Bool) (r : Result Rule Kind) → rule_of (drop 2 line) ≡ r → cond v (result_ok r) None ≡ Some rule → IsRule rule
     by true (Ok said) e k = let same : said ≡ rule = cc in rule_values (drop 2 line) rule (e ∙ ap Ok same)
@@ -43,7 +43,7 @@ rule_valid (header ∷ lines) = last_rule lines default_rule default_is_rule
 -- ---- the generation
 
 -- a generation line is neither blank nor tells a rule
-no_other : (line : List ℕ) → is_command 71 line ≡ true → (is_blank line ≡ false) × (is_command 82 line ≡ false)
+no_other : (line : List ℕ) → is_letter_command 71 line ≡ true → (is_blank line ≡ false) × (is_letter_command 82 line ≡ false)
 no_other [] h = cc
 no_other (a ∷ []) h = absurd (no (a == 35) (left_of_and _ _ h))
   where
@@ -81,27 +81,29 @@ module _ (top : ℕ) (before : List (List ℕ)) (line : List ℕ) where
   checked false false false true true p q s h = cc
   checked false false false true false p q s h = h
 
-  generation_fits : broken_behind top before line ≡ None → is_command 71 line ≡ true → value_of (trim (drop 2 line)) < 2 ^ 64
+  generation_fits : broken_rule_after top before line ≡ None → is_letter_command 71 line ≡ true → value_of (trim (drop 2 line)) < 2 ^ 64
   generation_fits h g =
       let n = no_other line g in
-      let c : result_err (u64_of (trim (drop 2 line))) ≡ None = checked (is_blank line) (begins_with line (codes "#FRAME")) (is_command 82 line)
-      (is_command 71 line) late n.0 n.1 g h in
+      let c : result_err (u64_of (trim (drop 2 line))) ≡ None = checked (is_blank line) (begins_with line (codes "#FRAME")) (is_letter_command 82 line)
+      (is_letter_command 71 line) late n.0 n.1 g h in
       number_fits (is_digit_text (trim (drop 2 line))) (nat_le (value_of (trim (drop 2 line))) (2 ^ 64 - 1)) (value_of (trim (drop 2 line))) refl c
 
-behind : (top : ℕ) (header : List ℕ) (front : List (List ℕ)) (line : List ℕ) → broken top (header ∷ front) line ≡ None → broken_behind top (header ∷ front) line
+behind : (top : ℕ) (header : List ℕ) (front : List (List ℕ)) (line : List ℕ) → broken_rule top (header ∷ front) line ≡ None
+    → broken_rule_after top (header ∷ front) line
     ≡ None
-unfolding broken
+unfolding broken_rule
 behind top header front line h = passed (is_too_long line) LineTooLong _ h
 
-generation_said : (line : List ℕ) (n : ℕ) → generation_on line ≡ Some n → (is_command 71 line ≡ true → value_of (trim (drop 2 line)) < 2 ^ 64) → n < 2 ^ 64
-generation_said line n h fits = by (is_command 71 line) refl h
+generation_said : (line : List ℕ) (n : ℕ) → generation_on line ≡ Some n → (is_letter_command 71 line ≡ true → value_of (trim (drop 2 line)) < 2 ^ 64)
+    → n < 2 ^ 64
+generation_said line n h fits = by (is_letter_command 71 line) refl h
   where
-    by : (v : Bool) → is_command 71 line ≡ v → cond v (Some (value_of (trim (drop 2 line)))) None ≡ Some n → n < 2 ^ 64
+    by : (v : Bool) → is_letter_command 71 line ≡ v → cond v (Some (value_of (trim (drop 2 line)))) None ≡ Some n → n < 2 ^ 64
     by true e k = let same : value_of (trim (drop 2 line)) ≡ n = cc in omega (arith, fits e, same)
     by false e k = cc
 
 last_generation : (lines : List (List ℕ)) (generation : ℕ) → generation < 2 ^ 64
-    → ((k : ℕ) → k < length lines → is_command 71 (get_or lines k []) ≡ true → value_of (trim (drop 2 (get_or lines k []))) < 2 ^ 64)
+    → ((k : ℕ) → k < length lines → is_letter_command 71 (get_or lines k []) ≡ true → value_of (trim (drop 2 (get_or lines k []))) < 2 ^ 64)
     → last_or generation (filter_map generation_on lines) < 2 ^ 64
 last_generation [] generation h fits = h
 last_generation (line ∷ lines) generation h fits = by (generation_on line) refl (λ g k. last_generation lines g k (λ j l. fits (suc j) (omega arith)))
@@ -111,7 +113,7 @@ last_generation (line ∷ lines) generation h fits = by (generation_on line) ref
     by None e more = more generation h
     by (Some said) e more = more said (generation_said line said e (fits 0 (omega arith)))
 
-generation_valid : (top : ℕ) (lines : List (List ℕ)) → ((k : ℕ) → k < length lines → broken top (take k lines) (get_or lines k []) ≡ None)
+generation_valid : (top : ℕ) (lines : List (List ℕ)) → ((k : ℕ) → k < length lines → broken_rule top (take k lines) (get_or lines k []) ≡ None)
     → generation_in_force lines < 2 ^ 64
 generation_valid top [] u = omega arith
 generation_valid top (header ∷ lines) u =
@@ -133,5 +135,5 @@ lines_are_valid top = λ lines file m.
       squares = subst T (sym m.squares) (subst S (sym m.rule) (squares_valid top lines m.unbroken));
     }
 
-pub files_are_valid : (top : ℕ) → FilesAreValid top
+pub files_are_valid : (top : ℕ) → MacrocellsAreValid top
 files_are_valid top = λ bytes file m. lines_are_valid top (lines_of bytes) file m

@@ -10,7 +10,7 @@ use Rattle.std.proofs.lemmas.Bool.{not-true}
 use Rattle.life_base.specs.Text.{is_whitespace, is_blank, begins_with, trim, trim_start, trim_end, words_of, onto_first, is_digit_text}
 use Rattle.life_base.proofs.NamesRead.{solid}
 use Rattle.life_mc.specs.Grammar.{Begins, IsCommand, Separates}
-use Rattle.life_mc.specs.Reading.{is_command, is_leaf_byte, square_on, square_of}
+use Rattle.life_mc.specs.Reading.{is_letter_command, is_leaf_byte, square_on, square_of_text}
 use Rattle.life_base.proofs.WordEnds.{trimmed_words}
 use Rattle.life_base.proofs.Basics.{right_of_and, left_of_and}
 use Rattle.life_base.proofs.Texts.{blank_front, step_to, blank_words, blank_no_words, take_blank}
@@ -27,16 +27,16 @@ begins front line h = (
 pub begun : (front line : List ℕ) → Begins front line → begins_with line front ≡ true
 begun front line b = (bytes_eq-Decides (take (length front) line) front).1 (ap (take (length front)) b.1 ∙ take-append_seam front b.0)
 
-pub commands : (letter : ℕ) (line : List ℕ) → is_command letter line ≡ true → IsCommand (35 ∷ letter ∷ []) (drop 2 line) line
+pub commands : (letter : ℕ) (line : List ℕ) → is_letter_command letter line ≡ true → IsCommand (35 ∷ letter ∷ []) (drop 2 line) line
 commands letter line h = (
   sym (take-append-drop 2 line) ∙ ap (λ (t : List ℕ). t ++ drop 2 line)
       ((bytes_eq-Decides (take 2 line) (35 ∷ letter ∷ [])).0 (left_of_and (begins_with line (35 ∷ letter ∷ [])) _ h)),
   right_of_and (begins_with line (35 ∷ letter ∷ [])) _ h,
 )
 
-pub commanded : (letter : ℕ) (rest line : List ℕ) → IsCommand (35 ∷ letter ∷ []) rest line → is_command letter line ≡ true
+pub commanded : (letter : ℕ) (rest line : List ℕ) → IsCommand (35 ∷ letter ∷ []) rest line → is_letter_command letter line ≡ true
 commanded letter rest line c =
-    ap (is_command letter) c.0 ∙ ap (λ v. v && is_blank (take 1 rest)) ((bytes_eq-Decides (35 ∷ letter ∷ []) (35 ∷ letter ∷ [])).1 refl) ∙ c.1
+    ap (is_letter_command letter) c.0 ∙ ap (λ v. v && is_blank (take 1 rest)) ((bytes_eq-Decides (35 ∷ letter ∷ []) (35 ∷ letter ∷ [])).1 refl) ∙ c.1
 
 pub behind_command : (letter : ℕ) (rest line : List ℕ) → IsCommand (35 ∷ letter ∷ []) rest line → drop 2 line ≡ rest
 behind_command letter rest line c = ap (drop 2) c.0
@@ -165,5 +165,5 @@ hash_trimmed line h = let b = begins (codes "#") line h in ap (λ l. slice_index
 
 -- and it is no node line
 pub hash_no_square : (line : List ℕ) → begins_with line (codes "#") ≡ true → square_on line ≡ None
-hash_no_square line h = ap (λ v. cond (not (is_blank line) && not v) (square_of (trim line)) None) h
-    ∙ ap (λ v. cond v (square_of (trim line)) None) (and-false (not (is_blank line)))
+hash_no_square line h = ap (λ v. cond (not (is_blank line) && not v) (square_of_text (trim line)) None) h
+    ∙ ap (λ v. cond v (square_of_text (trim line)) None) (and-false (not (is_blank line)))

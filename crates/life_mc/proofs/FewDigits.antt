@@ -10,7 +10,7 @@ use Rattle.std.proofs.lemmas.List.{drop_more}
 use Rattle.std.proofs.lemmas.List.Folds.{list_all_more}
 use Rattle.std.proofs.lemmas.Bool.{and_parts}
 use Rattle.life_mc.proofs.Words.{digit_no_space}
-use Rattle.life_base.specs.Numbers.{capped}
+use Rattle.life_base.specs.Numbers.{capped_number}
 use Rattle.life_base.specs.Text.{is_blank, is_whitespace, is_digit_text, onto_first, value_of, words_of}
 
 -- ---- how large a number is
@@ -137,5 +137,5 @@ pub digit_text_between : (text : List ℕ) (from end : ℕ) → from < end → e
 digit_text_between text from end h l d = some_digits (end - from) (drop from text) (omega (arith, h)) (omega (arith, h, l, length-drop from text)) d
 
 -- a number of the type stands as it is
-pub no_cap : (n : ℕ) (word : List ℕ) → n ≡ value_of word → n < 18446744073709551616 → n ≡ capped (value_of word)
+pub no_cap : (n : ℕ) (word : List ℕ) → n ≡ value_of word → n < 18446744073709551616 → n ≡ capped_number (value_of word)
 no_cap n word e h = omega (arith, e, h)

@@ -12,8 +12,8 @@ use Rattle.life_base.specs.declared.kind.Kind.{Kind}
 use Rattle.life_base.specs.declared.kind.Kind.TheVariants.{BadNumber, TooLarge, Timeline, LateHeader, BadLeaf}
 use Rattle.life_base.specs.declared.rule.Rule.{Rule}
 use Rattle.life_mc.specs.Macrocell.{level_of}
-use Rattle.life_mc.specs.Grammar.{IsCommand, IsComment, IsGenerationLine, IsLeafLine, IsQuarterLine, IsNodeLine, Form, blank_line, comment_line, rule_line, generation_line, node_line, HasForm, form_rule, form_generation, form_square, is_no_command}
-use Rattle.life_mc.specs.Reading.{broken_behind, broken_by_node, broken_by_square, is_command, is_leaf_byte, is_leaf, leaf_bytes, quad_of, square_of, square_on, rule_on, generation_on, squares_of, rule_in_force}
+use Rattle.life_mc.specs.Grammar.{IsCommand, IsMacrocellComment, IsGenerationLine, IsLeafLine, IsQuarterLine, IsNodeLine, Form, blank_line, comment_line, rule_line, generation_line, node_line, HasForm, form_rule, form_generation, form_square, is_no_command}
+use Rattle.life_mc.specs.Reading.{broken_rule_after, broken_by_node, broken_by_square, is_letter_command, is_leaf_byte, is_leaf, leaf_bytes, quad_of_numbers, square_of_text, square_on, rule_on, generation_on, squares_of, rule_in_force}
 use Rattle.life_mc.specs.declared.line.Line.{Line}
 use Rattle.life_mc.specs.declared.line.Line.TheVariants.{Leaf, Quad}
 use Rattle.life_mc.proofs.Around.{begins, begun, commands, commanded, behind_command, blank_trimmed, words_trimmed, separated_words, words_separate, numbers_first, hash_no_numbers, hash_trimmed, digits_solid, hash_no_square}
@@ -32,8 +32,8 @@ no_hash_no_frame line h = false_from_ne_true _ (λ e.
 record Tests (line : List ℕ) (blank frame rule generation hash : Bool) : Type 0 where
   pub is_blank : is_blank line ≡ blank
   pub is_frame : begins_with line (codes "#FRAME") ≡ frame
-  pub is_rule : is_command 82 line ≡ rule
-  pub is_generation : is_command 71 line ≡ generation
+  pub is_rule : is_letter_command 82 line ≡ rule
+  pub is_generation : is_letter_command 71 line ≡ generation
   pub is_hash : begins_with line (codes "#") ≡ hash
 
 -- a line without `#` in front, blank or not
@@ -49,7 +49,7 @@ no_hash_tests line blank b hash = record {
 blank_tests : (line : List ℕ) → is_blank line ≡ true → Tests line true false false false false
 blank_tests line h = no_hash_tests line true h (blank_no_hash line h)
 
-comment_tests : (line : List ℕ) → IsComment line → Tests line false false false false true
+comment_tests : (line : List ℕ) → IsMacrocellComment line → Tests line false false false false true
 comment_tests line h =
     let hash = begun (codes "#") line h.hash in
     record {
@@ -62,7 +62,7 @@ comment_tests line h =
 
 -- a line with a command, whose letter the tests tell apart
 command_tests : (letter : ℕ) (rule generation : Bool) (line rest : List ℕ) → IsCommand (35 ∷ letter ∷ []) rest line
-    → begins_with (35 ∷ letter ∷ rest) (codes "#FRAME") ≡ false → is_command 82 line ≡ rule → is_command 71 line ≡ generation
+    → begins_with (35 ∷ letter ∷ rest) (codes "#FRAME") ≡ false → is_letter_command 82 line ≡ rule → is_letter_command 71 line ≡ generation
     → Tests line false false rule generation true
 command_tests letter rule generation line rest h frame r g =
     let hash = command_is_hash 0 letter line (commanded letter rest line h) in
@@ -75,10 +75,10 @@ command_tests letter rule generation line rest h frame r g =
     }
 
 rule_tests : (line rest : List ℕ) → IsCommand (codes "#R") rest line → Tests line false false true false true
-rule_tests line rest h = command_tests 82 true false line rest h refl (commanded 82 rest line h) (ap (is_command 71) h.0)
+rule_tests line rest h = command_tests 82 true false line rest h refl (commanded 82 rest line h) (ap (is_letter_command 71) h.0)
 
 generation_tests : (line rest : List ℕ) → IsCommand (codes "#G") rest line → Tests line false false false true true
-generation_tests line rest h = command_tests 71 false true line rest h refl (ap (is_command 82) h.0) (commanded 71 rest line h)
+generation_tests line rest h = command_tests 71 false true line rest h refl (ap (is_letter_command 82) h.0) (commanded 71 rest line h)
 
 -- ---- a node line
 
@@ -86,10 +86,10 @@ pub record IsNode (line : List ℕ) (square : Line) : Type 0 where
   pub blank : is_blank line ≡ false
   pub hash : begins_with line (codes "#") ≡ false
   pub no_bad_leaf : (is_leaf_byte (slice_index (trim line) 0) && not (is_leaf (trim line))) ≡ false
-  pub square_is : square_of (trim line) ≡ Some square
+  pub square_is : square_of_text (trim line) ≡ Some square
 
 abbrev chosen : List ℕ → Bool → Bool → Bool → Option Line
-chosen text u v w = cond u (cond v (Some (Leaf (leaf_bytes text))) None) (cond w (quad_of (map value_of (words_of text))) None)
+chosen text u v w = cond u (cond v (Some (Leaf (leaf_bytes text))) None) (cond w (quad_of_numbers (map value_of (words_of text))) None)
 
 leaf_node : (line bytes : List ℕ) → IsLeafLine line bytes → IsNode line (Leaf bytes)
 leaf_node line bytes h =
@@ -118,7 +118,7 @@ quarter_node line level nw ne sw se h =
       hash = false_from_ne_true _ (λ e. true≢false (sym (ap (list_all is_digit_text) words ∙ h.digits) ∙ hash_no_numbers line e));
       no_bad_leaf = ap (λ v. v && not (is_leaf text)) no_leaf;
       square_is = ap (λ u. chosen text u (is_leaf text) (list_all is_digit_text (words_of text))) no_leaf
-          ∙ ap (λ w. chosen text false (is_leaf text) w) digits ∙ ap (λ ws. quad_of (map value_of ws)) same ∙ ap quad_of h.values;
+          ∙ ap (λ w. chosen text false (is_leaf text) w) digits ∙ ap (λ ws. quad_of_numbers (map value_of ws)) same ∙ ap quad_of_numbers h.values;
     }
 
 pub is_node : (line : List ℕ) (square : Line) → IsNodeLine line square → IsNode line square
@@ -132,10 +132,10 @@ pub record Gives (line : List ℕ) (form : Form) : Type 0 where
   pub generation : generation_on line ≡ form_generation form
   pub square : square_on line ≡ form_square form
 
-no_rule_on : (line : List ℕ) → is_command 82 line ≡ false → rule_on line ≡ None
+no_rule_on : (line : List ℕ) → is_letter_command 82 line ≡ false → rule_on line ≡ None
 no_rule_on line h = ap (λ v. cond v (result_ok (rule_of (drop 2 line))) None) h
 
-no_generation_on : (line : List ℕ) → is_command 71 line ≡ false → generation_on line ≡ None
+no_generation_on : (line : List ℕ) → is_letter_command 71 line ≡ false → generation_on line ≡ None
 no_generation_on line h = ap (λ v. cond v (Some (value_of (trim (drop 2 line)))) None) h
 
 number_read : (line : List ℕ) (generation : ℕ) → (h : IsGenerationLine line generation) → trim (drop 2 line) ≡ h.digits
@@ -151,7 +151,7 @@ gives line blank_line h =
     record {
       rule = no_rule_on line t.is_rule;
       generation = no_generation_on line t.is_generation;
-      square = ap (λ v. cond (not v && not (begins_with line (codes "#"))) (square_of (trim line)) None) h;
+      square = ap (λ v. cond (not v && not (begins_with line (codes "#"))) (square_of_text (trim line)) None) h;
     }
 gives line comment_line h =
     let t = comment_tests line h in
@@ -178,8 +178,8 @@ gives line (node_line square) h =
     record {
       rule = no_rule_on line t.is_rule;
       generation = no_generation_on line t.is_generation;
-      square = ap (λ v. cond (not v && not (begins_with line (codes "#"))) (square_of (trim line)) None) n.blank
-          ∙ ap (λ v. cond (not v) (square_of (trim line)) None) n.hash ∙ n.square_is;
+      square = ap (λ v. cond (not v && not (begins_with line (codes "#"))) (square_of_text (trim line)) None) n.blank
+          ∙ ap (λ v. cond (not v) (square_of_text (trim line)) None) n.hash ∙ n.square_is;
     }
 
 -- ---- a line of a form breaks no rule
@@ -190,12 +190,13 @@ chain blank frame rule generation late hash by_rule by_generation by_node =
     (cond ((rule || generation) && late) (Some LateHeader) (cond rule by_rule (cond generation by_generation (cond hash None by_node)))))
 
 by_tests : (line : List ℕ) (b f r g h : Bool) (l : Bool) (x y z : Option Kind) → Tests line b f r g h
-    → chain (is_blank line) (begins_with line (codes "#FRAME")) (is_command 82 line) (is_command 71 line) l (begins_with line (codes "#")) x y z
+    → chain (is_blank line) (begins_with line (codes "#FRAME")) (is_letter_command 82 line) (is_letter_command 71 line) l (begins_with line (codes "#")) x y z
     ≡ chain b f r g l h x y z
 by_tests line b f r g h l x y z t =
-    ap (λ v. chain v (begins_with line (codes "#FRAME")) (is_command 82 line) (is_command 71 line) l (begins_with line (codes "#")) x y z) t.is_blank
-    ∙ ap (λ v. chain b v (is_command 82 line) (is_command 71 line) l (begins_with line (codes "#")) x y z) t.is_frame
-    ∙ ap (λ v. chain b f v (is_command 71 line) l (begins_with line (codes "#")) x y z) t.is_rule
+    ap (λ v. chain v (begins_with line (codes "#FRAME")) (is_letter_command 82 line) (is_letter_command 71 line) l (begins_with line (codes "#")) x y z)
+    t.is_blank
+    ∙ ap (λ v. chain b v (is_letter_command 82 line) (is_letter_command 71 line) l (begins_with line (codes "#")) x y z) t.is_frame
+    ∙ ap (λ v. chain b f v (is_letter_command 71 line) l (begins_with line (codes "#")) x y z) t.is_rule
     ∙ ap (λ v. chain b f r v l (begins_with line (codes "#")) x y z) t.is_generation
     ∙ ap (λ v. chain b f r g l v x y z) t.is_hash
 
@@ -219,7 +220,7 @@ module _ (top : ℕ) (before : List (List ℕ)) (line : List ℕ) where
 
   -- a line that gives no square
   pub parsed_stands : (form : Form) → HasForm line form → form_square form ≡ None → (is_no_command form ≡ false → squares_of before ≡ [])
-      → broken_behind top before line ≡ None
+      → broken_rule_after top before line ≡ None
   parsed_stands blank_line h n k = by_tests line true false false false false late by_rule by_generation by_node (blank_tests line h)
   parsed_stands comment_line h n k = by_tests line false false false false true late by_rule by_generation by_node (comment_tests line h)
   parsed_stands (rule_line rule) h n k =
@@ -235,11 +236,12 @@ module _ (top : ℕ) (before : List (List ℕ)) (line : List ℕ) where
 
   -- a node line
   pub node_stands : (square : Line) → IsNodeLine line square → broken_by_square top (rule_in_force before) (map level_of (squares_of before)) (Some square)
-      ≡ None → broken_behind top before line ≡ None
+      ≡ None → broken_rule_after top before line ≡ None
   node_stands square h b =
       let n = is_node line square h in
       by_tests line false false false false false late by_rule by_generation by_node (no_hash_tests line false n.blank n.hash)
-      ∙ ap (λ v. cond v (Some BadLeaf) (broken_by_square top (rule_in_force before) (map level_of (squares_of before)) (square_of (trim line)))) n.no_bad_leaf
+      ∙ ap (λ v. cond v (Some BadLeaf) (broken_by_square top (rule_in_force before) (map level_of (squares_of before)) (square_of_text (trim line))))
+      n.no_bad_leaf
       ∙ ap (broken_by_square top (rule_in_force before) (map level_of (squares_of before))) n.square_is ∙ b
 
 -- ---- a line that breaks no rule has a form
@@ -288,7 +290,7 @@ leaf_passes true false e h = cc
 leaf_passes false false e h = cc
 
 module _ (top : ℕ) (rule : Rule) (levels : List ℕ) where
-  five_of : (numbers : List ℕ) → broken_by_square top rule levels (quad_of numbers) ≡ None → Five numbers
+  five_of : (numbers : List ℕ) → broken_by_square top rule levels (quad_of_numbers numbers) ≡ None → Five numbers
   five_of [] h = cc
   five_of (a ∷ []) h = cc
   five_of (a ∷ b ∷ []) h = cc
@@ -297,7 +299,7 @@ module _ (top : ℕ) (rule : Rule) (levels : List ℕ) where
   five_of (a ∷ b ∷ c ∷ d ∷ e ∷ []) h = record { level = a; nw = b; ne = c; sw = d; se = e; is = refl }
   five_of (a ∷ b ∷ c ∷ d ∷ e ∷ f ∷ numbers) h = cc
 
-  digits_pass : (v : Bool) (numbers : List ℕ) → broken_by_square top rule levels (cond v (quad_of numbers) None) ≡ None → (v ≡ true) × Five numbers
+  digits_pass : (v : Bool) (numbers : List ℕ) → broken_by_square top rule levels (cond v (quad_of_numbers numbers) None) ≡ None → (v ≡ true) × Five numbers
   digits_pass true numbers h = (refl, five_of numbers h)
   digits_pass false numbers h = cc
 
@@ -323,7 +325,7 @@ not_late false fault h = refl
 
 -- a line that tells a rule or a generation and breaks no rule stands in front of all squares
 pub command_first : (top : ℕ) (before : List (List ℕ)) (line : List ℕ) (form : Form) → HasForm line form → is_no_command form ≡ false
-    → broken_behind top before line ≡ None
+    → broken_rule_after top before line ≡ None
     → nat_lt 0 (length (map level_of (squares_of before))) ≡ false
 command_first top before line blank_line h n e = cc
 command_first top before line comment_line h n e = cc
@@ -335,44 +337,45 @@ command_first top before line (generation_line generation) h n e = not_late (lat
     (sym (by_tests line false false false true true (late top before line) (by_rule top before line) (by_generation top before line) (by_node top before line)
     (generation_tests line h.rest h.is)) ∙ e)
 
-pub form_on : (top : ℕ) (before : List (List ℕ)) (line : List ℕ) → broken_behind top before line ≡ None → (form : Form) × HasForm line form
+pub form_on : (top : ℕ) (before : List (List ℕ)) (line : List ℕ) → broken_rule_after top before line ≡ None → (form : Form) × HasForm line form
 form_on top before line h = elim (split (is_blank line) None _ h) [
   | inl p ↦ (blank_line, p.0)
   | inr p ↦ elim (split (begins_with line (codes "#FRAME")) (Some Timeline) _ p.1) [
     | inl q ↦ absurd (some_none Timeline q.1)
-    | inr q ↦ elim (split ((is_command 82 line || is_command 71 line) && nat_lt 0 (length (map level_of (squares_of before)))) (Some LateHeader) _ q.1) [
-      | inl r ↦ absurd (some_none LateHeader r.1)
-      | inr r ↦ elim (split (is_command 82 line) (result_err (rule_of (drop 2 line))) _ r.1) [
-        | inl s ↦ (let ok = ok_of (rule_of (drop 2 line)) s.1 in (rule_line ok.0, record { text = drop 2 line; is = commands 82 line s.0; says = ok.1 }))
-        | inr s ↦ elim (split (is_command 71 line) (result_err (u64_of (trim (drop 2 line)))) _ s.1) [
-          | inl t ↦ (let text : List ℕ = trim (drop 2 line) in
-              let ok = both_pass (is_digit_text text) (nat_le (value_of text) (2 ^ 64 - 1)) (value_of text) t.1 in
-              let low = leb-true (value_of text) (2 ^ 64 - 1) ok.1 in (
-                generation_line (value_of text),
-                record {
-                  rest = drop 2 line;
-                  digits = text;
-                  is = commands 71 line t.0;
-                  around = trimmed_around (drop 2 line);
-                  number = ok.0;
-                  value = refl;
-                  fits = omega arith;
-                },
-              ))
-          | inr t ↦ elim (split (begins_with line (codes "#")) None _ t.1) [
-            | inl u ↦ (
-              comment_line,
-              record {
-                hash = begins (codes "#") line u.0;
-                no_frame = λ b. true≢false (sym (begun (codes "#FRAME") line b) ∙ q.0);
-                no_rule = λ rest c. true≢false (sym (commanded 82 rest line c) ∙ s.0);
-                no_generation = λ rest c. true≢false (sym (commanded 71 rest line c) ∙ t.0);
-              },
-            )
-            | inr u ↦ (let n = node_on top (rule_in_force before) (map level_of (squares_of before)) line u.1 in (node_line n.0, n.1))
+    | inr q ↦ elim (split ((is_letter_command 82 line || is_letter_command 71 line) && nat_lt 0 (length (map level_of (squares_of before)))) (Some LateHeader) _
+        q.1) [
+          | inl r ↦ absurd (some_none LateHeader r.1)
+          | inr r ↦ elim (split (is_letter_command 82 line) (result_err (rule_of (drop 2 line))) _ r.1) [
+            | inl s ↦ (let ok = ok_of (rule_of (drop 2 line)) s.1 in (rule_line ok.0, record { text = drop 2 line; is = commands 82 line s.0; says = ok.1 }))
+            | inr s ↦ elim (split (is_letter_command 71 line) (result_err (u64_of (trim (drop 2 line)))) _ s.1) [
+              | inl t ↦ (let text : List ℕ = trim (drop 2 line) in
+                  let ok = both_pass (is_digit_text text) (nat_le (value_of text) (2 ^ 64 - 1)) (value_of text) t.1 in
+                  let low = leb-true (value_of text) (2 ^ 64 - 1) ok.1 in (
+                    generation_line (value_of text),
+                    record {
+                      rest = drop 2 line;
+                      digits = text;
+                      is = commands 71 line t.0;
+                      around = trimmed_around (drop 2 line);
+                      number = ok.0;
+                      value = refl;
+                      fits = omega arith;
+                    },
+                  ))
+              | inr t ↦ elim (split (begins_with line (codes "#")) None _ t.1) [
+                | inl u ↦ (
+                  comment_line,
+                  record {
+                    hash = begins (codes "#") line u.0;
+                    no_frame = λ b. true≢false (sym (begun (codes "#FRAME") line b) ∙ q.0);
+                    no_rule = λ rest c. true≢false (sym (commanded 82 rest line c) ∙ s.0);
+                    no_generation = λ rest c. true≢false (sym (commanded 71 rest line c) ∙ t.0);
+                  },
+                )
+                | inr u ↦ (let n = node_on top (rule_in_force before) (map level_of (squares_of before)) line u.1 in (node_line n.0, n.1))
+              ]
+            ]
           ]
         ]
-      ]
-    ]
   ]
 ]

@@ -12,8 +12,8 @@ use Rattle.life_base.specs.declared.kind.Kind.TheVariants.{LineTooLong, NoHeader
 use Rattle.life_base.specs.declared.rule.Rule.{Rule}
 use Rattle.life_base.proofs.Basics.{right_of_and, left_of_and}
 use Rattle.life_mc.specs.Macrocell.{Macrocell, AreSquares, IsSquare, level_of}
-use Rattle.life_mc.specs.Grammar.{IsFile, Form, blank_line, comment_line, rule_line, generation_line, node_line, HasForm, form_rule, form_generation, form_square, is_no_command, are_in_order, GrammarsAgree}
-use Rattle.life_mc.specs.Reading.{AreMacrocell, broken, broken_behind, broken_by_square, last_or, rule_in_force, squares_of, rule_on, generation_on, square_on}
+use Rattle.life_mc.specs.Grammar.{IsPlainMacrocell, Form, blank_line, comment_line, rule_line, generation_line, node_line, HasForm, form_rule, form_generation, form_square, is_no_command, are_in_order, MacrocellGrammarsAgree}
+use Rattle.life_mc.specs.Reading.{AreMacrocell, broken_rule, broken_rule_after, broken_by_square, last_or, rule_in_force, squares_of, rule_on, generation_on, square_on}
 use Rattle.std.specs.Option.{unwrap_or}
 use Rattle.life_mc.specs.declared.line.Line.{Line}
 use Rattle.life_mc.proofs.Around.{begins, begun}
@@ -33,10 +33,10 @@ no_long line h = grind (arith, nat_tests)
 module _ (top : ℕ) where
   abbrev rest_of : List (List ℕ) → List ℕ → Option Kind
   rest_of [] line = cond (begins_with line (codes "[M2]")) None (Some NoHeader)
-  rest_of (header ∷ before) line = broken_behind top (header ∷ before) line
+  rest_of (header ∷ before) line = broken_rule_after top (header ∷ before) line
 
-  broken_is : (before : List (List ℕ)) (line : List ℕ) → broken top before line ≡ cond (is_too_long line) (Some LineTooLong) (rest_of before line)
-  unfolding broken
+  broken_is : (before : List (List ℕ)) (line : List ℕ) → broken_rule top before line ≡ cond (is_too_long line) (Some LineTooLong) (rest_of before line)
+  unfolding broken_rule
   broken_is [] line = refl
   broken_is (header ∷ before) line = refl
 
@@ -44,10 +44,10 @@ module _ (top : ℕ) where
   passed true o h = cc
   passed false o h = (refl, h)
 
-  unbroken_says : (before : List (List ℕ)) (line : List ℕ) → broken top before line ≡ None → (is_too_long line ≡ false) × (rest_of before line ≡ None)
+  unbroken_says : (before : List (List ℕ)) (line : List ℕ) → broken_rule top before line ≡ None → (is_too_long line ≡ false) × (rest_of before line ≡ None)
   unbroken_says before line h = passed (is_too_long line) (rest_of before line) (sym (broken_is before line) ∙ h)
 
-  is_unbroken : (before : List (List ℕ)) (line : List ℕ) → is_too_long line ≡ false → rest_of before line ≡ None → broken top before line ≡ None
+  is_unbroken : (before : List (List ℕ)) (line : List ℕ) → is_too_long line ≡ false → rest_of before line ≡ None → broken_rule top before line ≡ None
   is_unbroken before line l h = broken_is before line ∙ ap (λ v. cond v (Some LineTooLong) (rest_of before line)) l ∙ h
 
   header_begins : (v : Bool) → cond v None (Some NoHeader) ≡ None → v ≡ true
@@ -91,23 +91,24 @@ module _ (top : ℕ) (header : List ℕ) where
   -- each breaks no rule behind those before it
   abbrev Stand : List (List ℕ) → List (List ℕ) → Type 0
   Stand [] before = Unit {0}
-  Stand (line ∷ lines) before = (broken_behind top (header ∷ before) line ≡ None) × Stand lines (before ++ line ∷ [])
+  Stand (line ∷ lines) before = (broken_rule_after top (header ∷ before) line ≡ None) × Stand lines (before ++ line ∷ [])
 
-  stand_from : (lines before : List (List ℕ)) → ((k : ℕ) → k < length lines → broken_behind top (header ∷ (before ++ take k lines)) (get_or lines k []) ≡ None)
+  stand_from : (lines before : List (List ℕ))
+      → ((k : ℕ) → k < length lines → broken_rule_after top (header ∷ (before ++ take k lines)) (get_or lines k []) ≡ None)
       → Stand lines before
   stand_from [] before h = tt
   stand_from (line ∷ lines) before h = (
-    sym (ap (λ ls. broken_behind top (header ∷ ls) line) (append-nil before)) ∙ h 0 (omega arith),
+    sym (ap (λ ls. broken_rule_after top (header ∷ ls) line) (append-nil before)) ∙ h 0 (omega arith),
     stand_from lines (before ++ line ∷ [])
-        (λ k l. ap (λ ls. broken_behind top (header ∷ ls) (get_or lines k [])) (append_assoc before (line ∷ []) (take k lines)) ∙ h (suc k) (omega arith)),
+        (λ k l. ap (λ ls. broken_rule_after top (header ∷ ls) (get_or lines k [])) (append_assoc before (line ∷ []) (take k lines)) ∙ h (suc k) (omega arith)),
   )
 
   stand_at : (lines before : List (List ℕ)) → Stand lines before → (k : ℕ) → k < length lines
-      → broken_behind top (header ∷ (before ++ take k lines)) (get_or lines k []) ≡ None
+      → broken_rule_after top (header ∷ (before ++ take k lines)) (get_or lines k []) ≡ None
   stand_at [] before s k l = absurd (omega arith)
-  stand_at (line ∷ lines) before s zero l = ap (λ ls. broken_behind top (header ∷ ls) line) (append-nil before) ∙ s.0
+  stand_at (line ∷ lines) before s zero l = ap (λ ls. broken_rule_after top (header ∷ ls) line) (append-nil before) ∙ s.0
   stand_at (line ∷ lines) before s (suc k) l =
-      sym (ap (λ ls. broken_behind top (header ∷ ls) (get_or lines k [])) (append_assoc before (line ∷ []) (take k lines)))
+      sym (ap (λ ls. broken_rule_after top (header ∷ ls) (get_or lines k [])) (append_assoc before (line ∷ []) (take k lines)))
       ∙ stand_at lines (before ++ line ∷ []) s.1 k (omega arith)
 
   forms_of : (lines before : List (List ℕ)) → Stand lines before → (forms : List Form) × AllZip HasForm lines forms
@@ -131,7 +132,7 @@ module _ (top : ℕ) (header : List ℕ) where
       → 0 < length (squares (before ++ line ∷ []))
   longer before line o h l = omega (arith, ap length (squares_more before line o h), length-append (squares before) (option_list o))
 
-  no_late : (before : List (List ℕ)) (line : List ℕ) (form : Form) → HasForm line form → broken_behind top (header ∷ before) line ≡ None
+  no_late : (before : List (List ℕ)) (line : List ℕ) (form : Form) → HasForm line form → broken_rule_after top (header ∷ before) line ≡ None
       → 0 < length (squares before) → is_no_command form ≡ true
   no_late before line form h e l = elim (cases_Bool (is_no_command form)) [
     | inl t ↦ t
@@ -237,7 +238,7 @@ module _ (top : ℕ) (header : List ℕ) where
 
   line_stands : (file : Macrocell) (form : Form) (forms : List Form) (before : List (List ℕ)) (line : List ℕ) → HasForm line form
       → AreSquares top file.rule file.lines → Ahead file (form ∷ forms) before
-      → broken_behind top (header ∷ before) line ≡ None
+      → broken_rule_after top (header ∷ before) line ≡ None
   line_stands file blank_line forms before line h v a = parsed_stands top (header ∷ before) line blank_line h refl
       (λ n. first_of_all blank_line forms before n a.order)
   line_stands file comment_line forms before line h v a = parsed_stands top (header ∷ before) line comment_line h refl
@@ -258,7 +259,7 @@ module _ (top : ℕ) (header : List ℕ) where
 -- ---- the two grammars
 
 module _ (top : ℕ) where
-  to_file : (lines : List (List ℕ)) (file : Macrocell) → AreMacrocell top lines file → IsFile top lines file
+  to_file : (lines : List (List ℕ)) (file : Macrocell) → AreMacrocell top lines file → IsPlainMacrocell top lines file
   to_file [] file m = let h = m.header in absurd (omega arith)
   to_file (header ∷ behind) file m =
       let s : Stand top header behind [] = stand_from top header behind []
@@ -284,12 +285,13 @@ module _ (top : ℕ) where
 
   each_unbroken : (header : List ℕ) (behind : List (List ℕ)) → begins_with header (codes "[M2]") ≡ true
       → list_all (λ line. nat_le (length line) (2 ^ 20)) (header ∷ behind) ≡ true → Stand top header behind []
-      → (k : ℕ) → k < length (header ∷ behind) → broken top (take k (header ∷ behind)) (get_or (header ∷ behind) k []) ≡ None
+      → (k : ℕ) → k < length (header ∷ behind) → broken_rule top (take k (header ∷ behind)) (get_or (header ∷ behind) k []) ≡ None
   each_unbroken header behind b h s zero l = is_unbroken top [] header (short_at (header ∷ behind) h 0 l) (ap (λ v. cond v None (Some NoHeader)) b)
   each_unbroken header behind b h s (suc k) l =
       is_unbroken top (header ∷ take k behind) (get_or behind k []) (short_at (header ∷ behind) h (suc k) l) (stand_at top header behind [] s k (omega arith))
 
-  of_parts : (header : List ℕ) (behind : List (List ℕ)) (file : Macrocell) → (f : IsFile top (header ∷ behind) file) → f.header ≡ header → f.behind ≡ behind
+  of_parts : (header : List ℕ) (behind : List (List ℕ)) (file : Macrocell) → (f : IsPlainMacrocell top (header ∷ behind) file) → f.header ≡ header → f.behind
+      ≡ behind
       → AreMacrocell top (header ∷ behind) file
   of_parts header behind file f e g =
       let Z : List (List ℕ) → Type 0 = λ ls. AllZip HasForm ls f.forms in
@@ -309,9 +311,9 @@ module _ (top : ℕ) where
   head_is : (a b : List ℕ) (xs ys : List (List ℕ)) → a ∷ xs ≡ b ∷ ys → (b ≡ a) × (ys ≡ xs)
   head_is a b xs ys h = (cc, cc)
 
-  of_file : (lines : List (List ℕ)) (file : Macrocell) → IsFile top lines file → AreMacrocell top lines file
+  of_file : (lines : List (List ℕ)) (file : Macrocell) → IsPlainMacrocell top lines file → AreMacrocell top lines file
   of_file [] file f = let e = f.is in cc
   of_file (header ∷ behind) file f = let h = head_is header f.header behind f.behind f.is in of_parts header behind file f h.0 h.1
 
-  pub grammars_agree : GrammarsAgree top
+  pub grammars_agree : MacrocellGrammarsAgree top
   grammars_agree lines file = (of_file lines file, to_file lines file)

@@ -13,7 +13,7 @@ use Rattle.life_base.proofs.RuleValues.{named_is}
 use Rattle.life_base.specs.Sets.{DigitSets}
 use Rattle.life_base.specs.Text.{is_empty, is_digit_text, value_of, trim}
 use Rattle.life_base.specs.Numbers.{u64_of}
-use Rattle.life_base.specs.Rules.{rule_of, rule_text, digits_of, counts, has_digit, is_bad_text, counting, IsRule}
+use Rattle.life_base.specs.Rules.{rule_of, rule_text, digits_of, counts, has_digit, is_bad_text, rule_with_sets, IsRule}
 use Rattle.life_base.specs.declared.kind.Kind.TheVariants.{BadNumber, TooLarge}
 use Rattle.life_base.specs.declared.rule.Near.{Near}
 use Rattle.life_base.specs.declared.rule.Near.TheVariants.{Moore, VonNeumann}
@@ -49,11 +49,11 @@ digits_no_feed (d ∷ ds) = and_from _ _ (digit_no_feed d) (digits_no_feed ds)
 set_short : (set : ℕ) → length (digits_of set) ≤ 9
 set_short set = kept_short (has_digit set) counts
 
-moore_short : (sets : DigitSets) → IsShortText (rule_text (counting Moore sets))
+moore_short : (sets : DigitSets) → IsShortText (rule_text (rule_with_sets Moore sets))
 moore_short sets =
     let ds = digits_of sets.births in
     let es = digits_of sets.survivals in
-    let e : rule_text (counting Moore sets) ≡ 66 ∷ (ds ++ 47 ∷ 83 ∷ es) = ap (λ (t : List ℕ). 66 ∷ t) (append_assoc ds (codes "/S") es) in
+    let e : rule_text (rule_with_sets Moore sets) ≡ 66 ∷ (ds ++ 47 ∷ 83 ∷ es) = ap (λ (t : List ℕ). 66 ∷ t) (append_assoc ds (codes "/S") es) in
     subst IsShortText (sym e) (record {
       short = omega (arith, length-append ds (47 ∷ 83 ∷ es), set_short sets.births, set_short sets.survivals);
       feed = list_all-append (λ b. not (b == 10)) ds (47 ∷ 83 ∷ es) ∙ and_from _ _ (digits_no_feed (filter (has_digit sets.births) counts))
@@ -64,9 +64,9 @@ not_bad : (text : List ℕ) → is_bad_text text ≡ false → IsShortText text
 not_bad text h =
     let good = good_text text h in record { short = good.short; feed = all_pass visible (λ b. not (b == 10)) visible_no_feed text good.bytes }
 
-life_short : (sets : DigitSets) (near : Near) → IsRule (counting near sets) → IsShortText (rule_text (counting near sets))
+life_short : (sets : DigitSets) (near : Near) → IsRule (rule_with_sets near sets) → IsShortText (rule_text (rule_with_sets near sets))
 life_short sets Moore h = moore_short sets
-life_short sets VonNeumann h = not_bad (rule_text (counting VonNeumann sets)) (texts_visible (counting VonNeumann sets) h)
+life_short sets VonNeumann h = not_bad (rule_text (rule_with_sets VonNeumann sets)) (texts_visible (rule_with_sets VonNeumann sets) h)
 
 pub rule_short : (rule : Rule) → IsRule rule → IsShortText (rule_text rule)
 rule_short (Life rule) h = life_short rule.sets rule.near h

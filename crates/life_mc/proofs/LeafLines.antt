@@ -8,8 +8,8 @@ use Rattle.life_base.proofs.RuleForms.{around_trim, trimmed_around}
 use Rattle.life_base.proofs.Basics.{right_of_and, left_of_and}
 use Rattle.life_base.specs.Text.{trim, IsAround}
 use Rattle.life_mc.specs.Cells.{leaf_cell}
-use Rattle.life_mc.specs.Grammar.{IsLeafLine, state_in, is_row, is_cell}
-use Rattle.life_mc.specs.Reading.{is_leaf, is_leaf_byte, leaf_bytes, leaf_rows, row_byte, is_at_end}
+use Rattle.life_mc.specs.Grammar.{IsLeafLine, state_in_row, is_row, is_cell}
+use Rattle.life_mc.specs.Reading.{is_leaf, is_leaf_byte, leaf_bytes, leaf_rows, byte_of_row, is_at_end}
 use Rattle.life_mc.specs.Standing.{are_rows, row_bytes}
 use Rattle.life_mc.proofs.Leaves.{leaf_is, leaf_bytes_are, some_rows, none_left}
 use Rattle.life_mc.proofs.ReadBack.{row_ended, cell_no_dollar}
@@ -133,10 +133,11 @@ live row c = slice_index row c == 42
 
 abbrev weighed : List ℕ → ℕ
 weighed row =
-    128 * state_in row 0 + 64 * state_in row 1 + 32 * state_in row 2 + 16 * state_in row 3 + 8 * state_in row 4 + 4 * state_in row 5 + 2 * state_in row 6
-    + state_in row 7
+    128 * state_in_row row 0 + 64 * state_in_row row 1 + 32 * state_in_row row 2 + 16 * state_in_row row 3 + 8 * state_in_row row 4 + 4 * state_in_row row 5
+    + 2 * state_in_row row 6
+    + state_in_row row 7
 
-row_weighed : (row : List ℕ) → row_byte row ≡ weighed row
+row_weighed : (row : List ℕ) → byte_of_row row ≡ weighed row
 row_weighed row = omega (
   arith,
   weigh (live row 0) 128,
@@ -150,7 +151,7 @@ row_weighed row = omega (
 )
 
 abbrev IsStateAt : ℕ → List ℕ → ℕ → Type 0
-IsStateAt byte row x = byte / 2 ^ (7 - x) % 2 ≡ state_in row x
+IsStateAt byte row x = byte / 2 ^ (7 - x) % 2 ≡ state_in_row row x
 
 bits_of_sum : (n a b c d e f g h : ℕ) → n ≡ 128 * a + 64 * b + 32 * c + 16 * d + 8 * e + 4 * f + 2 * g + h → a ≤ 1 → b ≤ 1 → c ≤ 1 → d ≤ 1 → e ≤ 1 → f ≤ 1
     → g ≤ 1 → h ≤ 1
@@ -161,17 +162,19 @@ sum_of_bits : (n : ℕ) → n < 256 → n ≡ 128 * (n / 128 % 2) + 64 * (n / 64
     + 2 * (n / 2 % 2) + n / 1 % 2
 sum_of_bits n h = omega arith
 
-state_at : (row : List ℕ) (x : ℕ) → x < 8 → IsStateAt (row_byte row) row x
+state_at : (row : List ℕ) (x : ℕ) → x < 8 → IsStateAt (byte_of_row row) row x
 state_at row x h =
-    let b = bits_of_sum (row_byte row) (state_in row 0) (state_in row 1) (state_in row 2) (state_in row 3) (state_in row 4) (state_in row 5) (state_in row 6)
-    (state_in row 7) (row_weighed row)
+    let b = bits_of_sum (byte_of_row row) (state_in_row row 0) (state_in_row row 1) (state_in_row row 2) (state_in_row row 3) (state_in_row row 4)
+    (state_in_row row 5) (state_in_row row 6)
+    (state_in_row row 7) (row_weighed row)
     (at_most_one (live row 0)) (at_most_one (live row 1)) (at_most_one (live row 2)) (at_most_one (live row 3))
     (at_most_one (live row 4)) (at_most_one (live row 5)) (at_most_one (live row 6)) (at_most_one (live row 7)) in
     by x h b.0 b.1 b.2 b.3 b.4 b.5 b.6 b.7
   where
-    by : (x : ℕ) → x < 8 → IsStateAt (row_byte row) row 0 → IsStateAt (row_byte row) row 1 → IsStateAt (row_byte row) row 2 → IsStateAt (row_byte row) row 3
-        → IsStateAt (row_byte row) row 4 → IsStateAt (row_byte row) row 5 → IsStateAt (row_byte row) row 6 → IsStateAt (row_byte row) row 7
-        → IsStateAt (row_byte row) row x
+    by : (x : ℕ) → x < 8 → IsStateAt (byte_of_row row) row 0 → IsStateAt (byte_of_row row) row 1 → IsStateAt (byte_of_row row) row 2
+        → IsStateAt (byte_of_row row) row 3
+        → IsStateAt (byte_of_row row) row 4 → IsStateAt (byte_of_row row) row 5 → IsStateAt (byte_of_row row) row 6 → IsStateAt (byte_of_row row) row 7
+        → IsStateAt (byte_of_row row) row x
     by zero h a b c d e f g i = a
     by (suc zero) h a b c d e f g i = b
     by (suc (suc zero)) h a b c d e f g i = c
@@ -182,7 +185,7 @@ state_at row x h =
     by (suc (suc (suc (suc (suc (suc (suc zero))))))) h a b c d e f g i = i
     by (suc (suc (suc (suc (suc (suc (suc (suc x)))))))) h a b c d e f g i = absurd (omega arith)
 
-byte_is : (byte : ℕ) (row : List ℕ) → byte < 256 → ((x : ℕ) → x < 8 → IsStateAt byte row x) → byte ≡ row_byte row
+byte_is : (byte : ℕ) (row : List ℕ) → byte < 256 → ((x : ℕ) → x < 8 → IsStateAt byte row x) → byte ≡ byte_of_row row
 byte_is byte row h s =
     omega (
       arith,
@@ -210,9 +213,9 @@ bytes_are (suc n) (byte ∷ bytes) [] e f s =
     ∙ ap (λ (t : List ℕ). 0 ∷ t) (bytes_are n bytes [] (omega arith) f.1 (λ y l. s (suc y) (omega arith)))
 bytes_are (suc n) (byte ∷ bytes) (row ∷ rows) e f s =
     ap (λ b. b ∷ bytes) (byte_is byte row f.0 (s 0 (omega arith)))
-    ∙ ap (λ (t : List ℕ). row_byte row ∷ t) (bytes_are n bytes rows (omega arith) f.1 (λ y l. s (suc y) (omega arith)))
+    ∙ ap (λ (t : List ℕ). byte_of_row row ∷ t) (bytes_are n bytes rows (omega arith) f.1 (λ y l. s (suc y) (omega arith)))
 
-bytes_at : (n : ℕ) (rows : List (List ℕ)) (y : ℕ) → y < n → slice_index (row_bytes n rows) y ≡ row_byte (slice_index_or rows y [])
+bytes_at : (n : ℕ) (rows : List (List ℕ)) (y : ℕ) → y < n → slice_index (row_bytes n rows) y ≡ byte_of_row (slice_index_or rows y [])
 bytes_at zero rows y h = absurd (omega arith)
 bytes_at (suc n) [] zero h = refl
 bytes_at (suc n) [] (suc y) h = bytes_at n [] y (omega arith)

@@ -4,7 +4,7 @@ use Rattle.std.specs.List.{list_all}
 use Rattle.std.proofs.lemmas.Bool.{lt-leb}
 use mathlib.Core.Bool.{and-false, or-true, or-false}
 use Rattle.life_base.specs.Text.{is_empty, onto_first}
-use Rattle.life_mc.specs.Reading.{is_leaf, is_leaf_byte, leaf_rows, leaf_bytes, row_byte, is_at_end}
+use Rattle.life_mc.specs.Reading.{is_leaf, is_leaf_byte, leaf_rows, leaf_bytes, byte_of_row, is_at_end}
 use Rattle.life_mc.specs.Grammar.{is_cell, is_row}
 use Rattle.life_mc.specs.Standing.{first_row, are_rows, row_bytes}
 
@@ -123,11 +123,11 @@ leaf_is text =
     ap (λ v. v && list_all is_short (leaf_rows text) && is_at_end (drop 8 (leaf_rows text))) (bytes_of_rows text)
     ∙ ap (λ v. v && is_at_end (drop 8 (leaf_rows text))) (both_all (leaf_rows text)) ∙ rows_in 8 (leaf_rows text)
 
-pad : (n m : ℕ) (rows : List (List ℕ)) → n ≤ m → take n (map row_byte rows ++ replicate m 0) ≡ row_bytes n rows
+pad : (n m : ℕ) (rows : List (List ℕ)) → n ≤ m → take n (map byte_of_row rows ++ replicate m 0) ≡ row_bytes n rows
 pad zero m rows h = refl
 pad (suc n) zero rows h = absurd (omega arith)
 pad (suc n) (suc m) [] h = ap (λ (t : List ℕ). 0 ∷ t) (pad n m [] (omega arith))
-pad (suc n) (suc m) (row ∷ rows) h = ap (λ (t : List ℕ). row_byte row ∷ t) (pad n (suc m) rows (omega arith))
+pad (suc n) (suc m) (row ∷ rows) h = ap (λ (t : List ℕ). byte_of_row row ∷ t) (pad n (suc m) rows (omega arith))
 
 pub leaf_bytes_are : (text : List ℕ) → leaf_bytes text ≡ row_bytes 8 (leaf_rows text)
 leaf_bytes_are text = pad 8 8 (leaf_rows text) (omega arith)
@@ -254,14 +254,14 @@ abbrev tail_bytes : List ℕ → List ℕ
 tail_bytes [] = []
 tail_bytes (b ∷ bytes) = bytes
 
-put_last : (k n row : ℕ) (bytes cells : List ℕ) → drop k bytes ≡ replicate (suc n) 0 → row ≡ row_byte cells → take k bytes ++ row_bytes (suc n) (cells ∷ [])
+put_last : (k n row : ℕ) (bytes cells : List ℕ) → drop k bytes ≡ replicate (suc n) 0 → row ≡ byte_of_row cells → take k bytes ++ row_bytes (suc n) (cells ∷ [])
     ≡ set bytes k row
 put_last zero n row [] cells h e = cc
 put_last (suc k) n row [] cells h e = cc
 put_last zero n row (b ∷ bytes) cells h e = ap (λ r. r ∷ row_bytes n []) (sym e) ∙ ap (λ (t : List ℕ). row ∷ t) (blank_left n ∙ sym (ap tail_bytes h))
 put_last (suc k) n row (b ∷ bytes) cells h e = ap (λ (t : List ℕ). b ∷ t) (put_last k n row bytes cells h e)
 
-put_next : (k n row : ℕ) (bytes cells : List ℕ) (more : List (List ℕ)) → k < length bytes → row ≡ row_byte cells
+put_next : (k n row : ℕ) (bytes cells : List ℕ) (more : List (List ℕ)) → k < length bytes → row ≡ byte_of_row cells
     → take k bytes ++ row_bytes (suc n) (cells ∷ more) ≡ take (suc k) (set bytes k row) ++ row_bytes n more
 put_next k n row [] cells more h e = absurd (omega (arith, h))
 put_next zero n row (b ∷ bytes) cells more h e = ap (λ r. r ∷ row_bytes n more) (sym e)
@@ -275,14 +275,14 @@ blank_behind (suc k) n row (b ∷ bytes) h = blank_behind k n row bytes h
 
 -- the byte of the last row is put in, and the rows behind it are empty
 pub put_last_row : (k row : ℕ) (bytes text : List ℕ) → k < 8 → drop k bytes ≡ replicate (8 - k) 0 → length (first_row text) ≡ length text
-    → row ≡ row_byte (first_row text)
+    → row ≡ byte_of_row (first_row text)
     → with_rows k bytes (leaf_rows text) ≡ set bytes k row
 put_last_row k row bytes text h z l e =
     ap (with_rows k bytes) (one_row text l) ∙ ap (λ n. take k bytes ++ row_bytes n (first_row text ∷ [])) (fewer k h)
     ∙ put_last k (8 - (k + 1)) row bytes (first_row text) (z ∙ ap (λ n. replicate n 0) (fewer k h)) e
 
 -- the byte of a row is put in, and more rows come
-pub put_row : (k row : ℕ) (bytes text : List ℕ) → k < 8 → length bytes ≡ 8 → length (first_row text) < length text → row ≡ row_byte (first_row text)
+pub put_row : (k row : ℕ) (bytes text : List ℕ) → k < 8 → length bytes ≡ 8 → length (first_row text) < length text → row ≡ byte_of_row (first_row text)
     → with_rows k bytes (leaf_rows text) ≡ with_rows (k + 1) (set bytes k row) (leaf_rows (drop (length (first_row text) + 1) text))
 put_row k row bytes text h w l e =
     let more = leaf_rows (drop (length (first_row text) + 1) text) in

@@ -11,10 +11,10 @@ use Rattle.life_base.specs.declared.rule.Rule.{Rule}
 use Rattle.life_base.proofs.LineKinds.{is_length_kind, names_line as kinds_name_lines}
 use Rattle.life_base.proofs.RuleKinds.{errs_by, errs_by_cases, rule_errs_by}
 use Rattle.life_base.proofs.Basics.{left_of_and, le_or_lt}
-use Rattle.life_mc.specs.Laws.{LongLinesBreak, RefusalsHaveKinds}
+use Rattle.life_mc.specs.Laws.{LongMacrocellLinesBreak, MacrocellRefusalsHaveKinds}
 use Rattle.life_mc.specs.Macrocell.{is_quarter, level_of}
 use Rattle.std.specs.Result.{result_err}
-use Rattle.life_mc.specs.Reading.{broken, broken_behind, broken_by_node, broken_by_square, is_command, is_leaf_byte, is_leaf, square_of, squares_of, rule_in_force, missing, is_macrocell_kind}
+use Rattle.life_mc.specs.Reading.{broken_rule, broken_rule_after, broken_by_node, broken_by_square, is_letter_command, is_leaf_byte, is_leaf, square_of_text, squares_of, rule_in_force, missing_macrocell_part, is_macrocell_kind}
 use Rattle.life_mc.specs.declared.line.Line.{Line}
 use Rattle.life_mc.specs.declared.line.Line.TheVariants.{Leaf, Quad}
 use Rattle.life_mc.proofs.Stands.{breaks_length}
@@ -58,33 +58,34 @@ in_square top rule levels None = refl
 
 in_node : (top : ℕ) (rule : Rule) (levels text : List ℕ) → short_kind_in (broken_by_node top rule levels text) ≡ true
 in_node top rule levels text =
-    cases (is_leaf_byte (slice_index text 0) && not (is_leaf text)) (Some kinds.BadLeaf) (broken_by_square top rule levels (square_of text)) refl
-    (in_square top rule levels (square_of text))
+    cases (is_leaf_byte (slice_index text 0) && not (is_leaf text)) (Some kinds.BadLeaf) (broken_by_square top rule levels (square_of_text text)) refl
+    (in_square top rule levels (square_of_text text))
 
-behind : (top : ℕ) (front : List (List ℕ)) (line : List ℕ) → short_kind_in (broken_behind top front line) ≡ true
+behind : (top : ℕ) (front : List (List ℕ)) (line : List ℕ) → short_kind_in (broken_rule_after top front line) ≡ true
 behind top front line =
     let node : Option Kind = broken_by_node top (rule_in_force front) (map level_of (squares_of front)) (trim line) in
     let hash : Option Kind = cond (begins_with line (codes "#")) None node in
-    let number : Option Kind = cond (is_command 71 line) (result_err (u64_of (trim (drop 2 line)))) hash in
-    let rule : Option Kind = cond (is_command 82 line) (result_err (rule_of (drop 2 line))) number in
+    let number : Option Kind = cond (is_letter_command 71 line) (result_err (u64_of (trim (drop 2 line)))) hash in
+    let rule : Option Kind = cond (is_letter_command 82 line) (result_err (rule_of (drop 2 line))) number in
     let some : Bool = nat_lt 0 (length (map level_of (squares_of front))) in
-    let late : Option Kind = cond ((is_command 82 line || is_command 71 line) && some) (Some kinds.LateHeader) rule in
+    let late : Option Kind = cond ((is_letter_command 82 line || is_letter_command 71 line) && some) (Some kinds.LateHeader) rule in
     let frame : Option Kind = cond (begins_with line (codes "#FRAME")) (Some kinds.Timeline) late in
     cases (is_blank line) None frame refl
     (cases (begins_with line (codes "#FRAME")) (Some kinds.Timeline) late refl
-    (cases ((is_command 82 line || is_command 71 line) && some) (Some kinds.LateHeader) rule refl
-    (cases (is_command 82 line) (result_err (rule_of (drop 2 line))) number
+    (cases ((is_letter_command 82 line || is_letter_command 71 line) && some) (Some kinds.LateHeader) rule refl
+    (cases (is_letter_command 82 line) (result_err (rule_of (drop 2 line))) number
     (in_error (rule_of (drop 2 line)) (rule_errs_by is_short_kind refl refl refl refl (drop 2 line)))
-    (cases (is_command 71 line) (result_err (u64_of (trim (drop 2 line)))) hash (in_error (u64_of (trim (drop 2 line))) (number_errs (trim (drop 2 line))))
+    (cases (is_letter_command 71 line) (result_err (u64_of (trim (drop 2 line)))) hash
+    (in_error (u64_of (trim (drop 2 line))) (number_errs (trim (drop 2 line))))
     (cases (begins_with line (codes "#")) None node refl (in_node top (rule_in_force front) (map level_of (squares_of front)) (trim line)))))))
 
 -- the rule that a line breaks which isn't too long
 abbrev broken_short : ℕ → List (List ℕ) → List ℕ → Option Kind
-broken_short top front line = cond (is_empty front) (cond (begins_with line (codes "[M2]")) None (Some kinds.NoHeader)) (broken_behind top front line)
+broken_short top front line = cond (is_empty front) (cond (begins_with line (codes "[M2]")) None (Some kinds.NoHeader)) (broken_rule_after top front line)
 
 short_in : (top : ℕ) (front : List (List ℕ)) (line : List ℕ) → short_kind_in (broken_short top front line) ≡ true
 short_in top front line =
-    cases (is_empty front) (cond (begins_with line (codes "[M2]")) None (Some kinds.NoHeader)) (broken_behind top front line)
+    cases (is_empty front) (cond (begins_with line (codes "[M2]")) None (Some kinds.NoHeader)) (broken_rule_after top front line)
     (cases (begins_with line (codes "[M2]")) None (Some kinds.NoHeader) refl refl)
     (behind top front line)
 
@@ -94,19 +95,19 @@ by_length : (v : Bool) (o : Option Kind) (kind : Kind) → short_kind_in o ≡ t
 by_length true o kind h e = inl (refl, cc)
 by_length false o kind h e = inr (ap short_kind_in (sym e) ∙ h)
 
-how_broken : (top : ℕ) (front : List (List ℕ)) (line : List ℕ) (kind : Kind) → broken top front line ≡ Some kind
+how_broken : (top : ℕ) (front : List (List ℕ)) (line : List ℕ) (kind : Kind) → broken_rule top front line ≡ Some kind
     → ((is_too_long line ≡ true) × (kind ≡ kinds.LineTooLong)) ⊎ (is_short_kind kind ≡ true)
-unfolding broken
+unfolding broken_rule
 how_broken top front line kind e = by_length (is_too_long line) (broken_short top front line) kind (short_in top front line) e
 
 -- a line breaks a rule with a kind of the format
-pub broken_kind : (top : ℕ) (front : List (List ℕ)) (line : List ℕ) (kind : Kind) → broken top front line ≡ Some kind → is_macrocell_kind kind ≡ true
+pub broken_kind : (top : ℕ) (front : List (List ℕ)) (line : List ℕ) (kind : Kind) → broken_rule top front line ≡ Some kind → is_macrocell_kind kind ≡ true
 broken_kind top front line kind e = elim (how_broken top front line kind e) [
   | inl m ↦ ap is_macrocell_kind m.1
   | inr s ↦ left_of_and (is_macrocell_kind kind) (not (is_length_kind kind)) s
 ]
 
-pub long_lines_break : (top : ℕ) → LongLinesBreak top
+pub long_lines_break : (top : ℕ) → LongMacrocellLinesBreak top
 long_lines_break top front line = (
   λ e. elim (how_broken top front line kinds.LineTooLong e) [
     | inl m ↦ omega (arith, ltb-true (2 ^ 20) (length line) m.0)
@@ -115,12 +116,12 @@ long_lines_break top front line = (
   breaks_length top front line,
 )
 
-missing_kind : (lines : List (List ℕ)) (kind : Kind) → missing lines ≡ Some kind → is_macrocell_kind kind ≡ true
+missing_kind : (lines : List (List ℕ)) (kind : Kind) → missing_macrocell_part lines ≡ Some kind → is_macrocell_kind kind ≡ true
 missing_kind [] kind e = sym (ap kind_in e)
 missing_kind (line ∷ lines) kind e = cc
 
 -- lines that are no file are refused with a kind of the format
-pub refusals_have_kinds : (top : ℕ) → RefusalsHaveKinds top
+pub refusals_have_kinds : (top : ℕ) → MacrocellRefusalsHaveKinds top
 refusals_have_kinds top lines fault r = elim (le_or_lt r.n (length lines)) [
   | inl within ↦ broken_kind top (take (r.n - 1) lines) (slice_index_or lines (r.n - 1) []) fault.kind (r.at_line within)
   | inr beyond ↦ missing_kind lines fault.kind (r.at_end beyond)

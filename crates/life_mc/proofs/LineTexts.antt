@@ -13,7 +13,7 @@ use Rattle.life_base.proofs.RoundTrip.{none_passes}
 use Rattle.life_base.proofs.Texts.{not_blank, start_stays}
 use Rattle.life_base.proofs.Basics.{right_of_and, left_of_and}
 use Rattle.life_base.specs.Text.{is_whitespace, is_blank, is_empty, begins_with, is_digit_text, value_of, words_of, without_last, trim, trim_start}
-use Rattle.life_mc.specs.Reading.{is_leaf, is_leaf_byte, leaf_bytes, square_of, quad_of}
+use Rattle.life_mc.specs.Reading.{is_leaf, is_leaf_byte, leaf_bytes, square_of_text, quad_of_numbers}
 use Rattle.life_mc.specs.Writing.{row_text, line_text}
 use Rattle.life_mc.specs.declared.line.Line.{Line}
 use Rattle.life_mc.specs.declared.line.Line.TheVariants.{Leaf, Quad}
@@ -27,7 +27,7 @@ pub record IsTextOf (square : Line) (text : List ℕ) : Type 0 where
   pub hash : begins_with text (codes "#") ≡ false
   pub trimmed : trim text ≡ text
   pub no_bad_leaf : (is_leaf_byte (slice_index text 0) && not (is_leaf text)) ≡ false
-  pub says : square_of text ≡ Some square
+  pub says : square_of_text text ≡ Some square
 
 no_hash : (b : ℕ) (text : List ℕ) → (b == 35) ≡ false → begins_with (b ∷ text) (codes "#") ≡ false
 no_hash b text h = ap (λ v. v && true) h
@@ -205,8 +205,8 @@ module _ (a b c d e : List ℕ) (level nw ne sw se : ℕ) (p : Spells a level) (
   five_square : list_all is_digit_text (words_of text) ≡ true
   five_square = ap (list_all is_digit_text) five_words ∙ rw (p.digits, q.digits, r.digits, s.digits, t.digits) refl
 
-  five_values : quad_of (map value_of (words_of text)) ≡ Some (Quad level nw ne sw se)
-  five_values = ap (λ ws. quad_of (map value_of ws)) five_words ∙ rw (p.value, q.value, r.value, s.value, t.value) refl
+  five_values : quad_of_numbers (map value_of (words_of text)) ≡ Some (Quad level nw ne sw se)
+  five_values = ap (λ ws. quad_of_numbers (map value_of ws)) five_words ∙ rw (p.value, q.value, r.value, s.value, t.value) refl
 
   quad_of_five : IsTextOf (Quad level nw ne sw se) text
   quad_of_five =
@@ -220,8 +220,8 @@ module _ (a b c d e : List ℕ) (level nw ne sw se : ℕ) (p : Spells a level) (
         no_bad_leaf = ap (λ v. v && not (is_leaf text)) n.3;
         says =
             ap (λ v. cond v (cond (is_leaf text) (Some (Leaf (leaf_bytes text))) None)
-            (cond (list_all is_digit_text (words_of text)) (quad_of (map value_of (words_of text))) None)) n.3
-            ∙ ap (λ v. cond v (quad_of (map value_of (words_of text))) None) five_square ∙ five_values;
+            (cond (list_all is_digit_text (words_of text)) (quad_of_numbers (map value_of (words_of text))) None)) n.3
+            ∙ ap (λ v. cond v (quad_of_numbers (map value_of (words_of text))) None) five_square ∙ five_values;
       }
 
 regroup : (a b c d e : List ℕ) → a ++ codes " " ++ b ++ codes " " ++ c ++ codes " " ++ d ++ codes " " ++ e ≡ five a b c d e

@@ -6,27 +6,27 @@ use Rattle.life_base.specs.Refusal.{Prefix}
 use Rattle.life_base.specs.Text.{numbered_from}
 use Rattle.life_base.specs.declared.fault.Fault.{Fault}
 use Rattle.life_base.proofs.NumberedLines.{texts}
-use Rattle.life_mc.specs.Grammar.{IsFile}
-use Rattle.life_mc.specs.Laws.{AreUnbroken}
+use Rattle.life_mc.specs.Grammar.{IsPlainMacrocell}
+use Rattle.life_mc.specs.Laws.{IsUnbrokenMacrocell}
 use Rattle.life_mc.specs.Macrocell.{Macrocell}
-use Rattle.life_mc.specs.Reading.{Accepts, Refuses, broken, square_behind, square_on, squares_of}
+use Rattle.life_mc.specs.Reading.{AcceptsMacrocell, RefusesMacrocell, broken_rule, square_after, square_on, squares_of}
 use Rattle.life_mc.specs.Standing.{Standing, StandsAfter}
 use Rattle.life_mc.proofs.ByLines.{by_lines, accepted}
 use Rattle.life_mc.proofs.Grammars.{grammars_agree}
 use Rattle.life_mc.proofs.ReadLines.{refused_at, some_lines}
 
 -- the squares of the lines so far, with that of one line more
-pub squares_taken : (before : List (List ℕ)) (line : List ℕ) → squares_of (before ++ line ∷ []) ≡ squares_of before ++ cons_option (square_behind before line)
+pub squares_taken : (before : List (List ℕ)) (line : List ℕ) → squares_of (before ++ line ∷ []) ≡ squares_of before ++ cons_option (square_after before line)
     []
 squares_taken [] line = refl
 squares_taken (header ∷ before) line = filter_map-append square_on before (line ∷ [])
 
 module _ (top : ℕ) (lines : List (List ℕ)) (state : Standing) (s : StandsAfter top lines state) where
-  pub stands_front : Prefix (Accepts top) lines
+  pub stands_front : Prefix (AcceptsMacrocell top) lines
   stands_front = (by_lines top).complete lines s.unbroken
 
   -- once a line came, the lines are a file
-  pub file_said : state.started ≡ true → (file : Macrocell) × IsFile top lines file × (state.rule ≡ file.rule) × (state.generation ≡ file.generation)
+  pub file_said : state.started ≡ true → (file : Macrocell) × IsPlainMacrocell top lines file × (state.rule ≡ file.rule) × (state.generation ≡ file.generation)
   file_said e =
       let m = accepted top lines (some_lines lines (sym s.started ∙ e)) s.unbroken in
       (m.0, (grammars_agree top lines m.0).1 m.1, s.rule ∙ sym m.1.rule, s.generation ∙ sym m.1.generation)
@@ -34,17 +34,18 @@ module _ (top : ℕ) (lines : List (List ℕ)) (state : Standing) (s : StandsAft
 -- why an input is refused of which this line breaks a rule
 pub refused_here : (top : ℕ) (lines : List (List ℕ)) (before : List (ℕ × List ℕ)) (k : ℕ) (line : List ℕ) (rest : List (ℕ × List ℕ)) (front : List (List ℕ))
     (fault : Fault)
-    → before ++ (k, line) ∷ rest ≡ numbered_from 1 lines → front ≡ texts before → AreUnbroken top front → broken top front line ≡ Some fault.kind
+    → before ++ (k, line) ∷ rest ≡ numbered_from 1 lines → front ≡ texts before → IsUnbrokenMacrocell top front → broken_rule top front line ≡ Some fault.kind
     → fault.place.line ≡ k
-    → Refuses top lines fault
+    → RefusesMacrocell top lines fault
 refused_here top lines before k line rest front fault e f u b l =
-    let P : List (List ℕ) → Type 0 = λ ls. broken top ls line ≡ Some fault.kind in
-    refused_at top lines before k line rest fault e (subst (AreUnbroken top) f u) (subst P f b) l
+    let P : List (List ℕ) → Type 0 = λ ls. broken_rule top ls line ≡ Some fault.kind in
+    refused_at top lines before k line rest fault e (subst (IsUnbrokenMacrocell top) f u) (subst P f b) l
 
 -- the file of the lines that has this rule, this generation and these squares
-pub file_of : (top : ℕ) (lines : List (List ℕ)) (said file : Macrocell) → IsFile top lines said → file.rule ≡ said.rule → file.generation ≡ said.generation
+pub file_of : (top : ℕ) (lines : List (List ℕ)) (said file : Macrocell) → IsPlainMacrocell top lines said → file.rule ≡ said.rule → file.generation
+    ≡ said.generation
     → file.lines ≡ squares_of lines
-    → IsFile top lines file
+    → IsPlainMacrocell top lines file
 file_of top lines said file f r g s =
     let m = (grammars_agree top lines said).0 f in
     (grammars_agree top lines file).1 (record { header = m.header; unbroken = m.unbroken; rule = r ∙ m.rule; generation = g ∙ m.generation; squares = s })

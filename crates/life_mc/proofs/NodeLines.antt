@@ -13,7 +13,7 @@ use Rattle.life_base.specs.declared.rule.Rule.{Rule}
 use Rattle.life_mc.specs.Macrocell.{level_of}
 use Rattle.life_mc.specs.Accepted.{NodeLinesCounted}
 use Rattle.std.specs.Result.{result_err}
-use Rattle.life_mc.specs.Reading.{broken, broken_behind, broken_by_node, broken_by_square, is_command, is_leaf, is_leaf_byte, is_node_line, rule_in_force, square_of, square_on, squares_of}
+use Rattle.life_mc.specs.Reading.{broken_rule, broken_rule_after, broken_by_node, broken_by_square, is_letter_command, is_leaf, is_leaf_byte, is_node_line, rule_in_force, square_of_text, square_on, squares_of}
 use Rattle.life_mc.specs.declared.line.Line.{Line}
 use Rattle.life_mc.proofs.TextBack.{no_mark}
 
@@ -40,10 +40,10 @@ module _ (top : ℕ) (header : List ℕ) (front : List (List ℕ)) (line : List 
   hash : begins_with line (codes "#") ≡ false
   hash = not-true (begins_with line (codes "#")) (right_of_and (not (is_blank line)) _ n)
 
-  judged : broken_behind top before line ≡ broken_by_node top (rule_in_force before) (map level_of (squares_of before)) (trim line)
+  judged : broken_rule_after top before line ≡ broken_by_node top (rule_in_force before) (map level_of (squares_of before)) (trim line)
   judged =
       let m = no_mark line hash blank in
-      cascade (is_blank line) (begins_with line (codes "#FRAME")) (is_command 82 line) (is_command 71 line)
+      cascade (is_blank line) (begins_with line (codes "#FRAME")) (is_letter_command 82 line) (is_letter_command 71 line)
       (nat_lt 0 (length (map level_of (squares_of before)))) (begins_with line (codes "#")) blank m.0 m.1 m.2 hash
     where
       cascade : (b f r g l m : Bool) → b ≡ false → f ≡ false → r ≡ false → g ≡ false → m ≡ false
@@ -53,15 +53,15 @@ module _ (top : ℕ) (header : List ℕ) (front : List (List ℕ)) (line : List 
           ≡ broken_by_node top (rule_in_force before) (map level_of (squares_of before)) (trim line)
       cascade b f r g l m p q s u w = rw (p, q, s, u, w) refl
 
-  behind : broken top before line ≡ None → broken_behind top before line ≡ None
-  unfolding broken
+  behind : broken_rule top before line ≡ None → broken_rule_after top before line ≡ None
+  unfolding broken_rule
   behind h = passed (is_too_long line) LineTooLong _ h
 
-  square_there : broken top before line ≡ None → IsThere (square_on line)
+  square_there : broken_rule top before line ≡ None → IsThere (square_on line)
   square_there h =
       let t = there_by top (rule_in_force before) (map level_of (squares_of before)) (is_leaf_byte (slice_index (trim line) 0) && not (is_leaf (trim line)))
-      (square_of (trim line)) (sym judged ∙ behind h) in
-      (t.0, ap (λ v. cond v (square_of (trim line)) None) n ∙ t.1)
+      (square_of_text (trim line)) (sym judged ∙ behind h) in
+      (t.0, ap (λ v. cond v (square_of_text (trim line)) None) n ∙ t.1)
 
 -- as many squares as node lines, where each of these has a square
 one_more : (v : Bool) (o : Option Line) (squares : List Line) → (v ≡ true → IsThere o) → (v ≡ false → o ≡ None)
@@ -81,11 +81,11 @@ counted : (lines : List (List ℕ)) → ((k : ℕ) → k < length lines → is_n
     → length (filter_map square_on lines) ≡ count_by is_node_line lines
 counted [] h = refl
 counted (line ∷ lines) h =
-    one_more (is_node_line line) (square_on line) (filter_map square_on lines) (h 0 (omega arith)) (λ e. ap (λ v. cond v (square_of (trim line)) None) e)
+    one_more (is_node_line line) (square_on line) (filter_map square_on lines) (h 0 (omega arith)) (λ e. ap (λ v. cond v (square_of_text (trim line)) None) e)
     ∙ ap (λ m. cond (is_node_line line) 1 0 + m) (counted lines (λ k l e. h (suc k) (omega arith) e))
     ∙ sym (sum_by-cons (λ l. cond (is_node_line l) 1 0) line lines)
 
-behind_header : (top : ℕ) (lines : List (List ℕ)) → 0 < length lines → ((k : ℕ) → k < length lines → broken top (take k lines) (get_or lines k []) ≡ None)
+behind_header : (top : ℕ) (lines : List (List ℕ)) → 0 < length lines → ((k : ℕ) → k < length lines → broken_rule top (take k lines) (get_or lines k []) ≡ None)
     → length (squares_of lines) ≡ count_by is_node_line (drop 1 lines)
 behind_header top [] some h = absurd (omega arith)
 behind_header top (header ∷ lines) some h = counted lines (λ k l n. square_there top header (take k lines) (get_or lines k []) n (h (suc k) (omega arith)))

@@ -4,7 +4,7 @@ use Rattle.std.proofs.lemmas.Bool.Decides.{nat_tests}
 use Rattle.std.proofs.lemmas.Int.{ints}
 use Rattle.std.proofs.Math.Pow.{pow_mono}
 use Rattle.life_base.specs.declared.rule.Rule.{Rule}
-use Rattle.life_mc.specs.Accepted.{IsOutside, IsBlankOutside}
+use Rattle.life_mc.specs.Accepted.{IsOutsideMacrocellPlane, MacrocellsAreBlankOutside}
 use Rattle.life_mc.specs.Cells.{cell_from, cell_of, root_level}
 use Rattle.life_mc.specs.Macrocell.{AreSquares, IsSquare, level_of}
 use Rattle.life_mc.specs.declared.line.Line.{Line}
@@ -45,13 +45,14 @@ module _ (lines : List Line) (level half edge : ℕ) (l : half ≤ edge) (w : 2 
 abbrev Either : ℕ → ℤ → ℤ → Type 0
 Either edge x y = ((x <ℤ neg_ℤ (pos edge)) ⊎ (pos edge ≤ℤ x)) ⊎ ((y <ℤ neg_ℤ (pos edge)) ⊎ (pos edge ≤ℤ y))
 
-sides : (top : ℕ) (x y : ℤ) → IsOutside top x y → Either (2 ^ (top - 1)) x y
+sides : (top : ℕ) (x y : ℤ) → IsOutsideMacrocellPlane top x y → Either (2 ^ (top - 1)) x y
 sides top x y (inl o) = inl (inl o)
 sides top x y (inr (inl o)) = inl (inr o)
 sides top x y (inr (inr (inl o))) = inr (inl o)
 sides top x y (inr (inr (inr o))) = inr (inr o)
 
-blank : (top : ℕ) → 3 ≤ top → (rule : Rule) (lines : List Line) → AreSquares top rule lines → (x y : ℤ) → IsOutside top x y → cell_of lines x y ≡ 0
+blank : (top : ℕ) → 3 ≤ top → (rule : Rule) (lines : List Line) → AreSquares top rule lines → (x y : ℤ) → IsOutsideMacrocellPlane top x y → cell_of lines x y
+    ≡ 0
 blank top h rule [] valid x y o = refl
 blank top h rule (line ∷ lines) valid x y o =
     let r = root_at line lines in
@@ -66,5 +67,5 @@ blank top h rule (line ∷ lines) valid x y o =
     whole : (n : ℕ) → 1 ≤ n → 2 ^ n ≡ 2 ^ (n - 1) + 2 ^ (n - 1)
     whole n s = let e : suc (n - 1) ≡ n = omega arith in ap (λ m. 2 ^ m) (sym e) ∙ double (n - 1)
 
-pub blank_outside : (top : ℕ) → 3 ≤ top → IsBlankOutside top
+pub blank_outside : (top : ℕ) → 3 ≤ top → MacrocellsAreBlankOutside top
 blank_outside top h = λ file x y v o. blank top h file.rule file.lines v.squares x y o

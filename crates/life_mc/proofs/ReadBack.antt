@@ -4,8 +4,8 @@ use Rattle.std.specs.List.{list_all, AllByRecursion, onto_first as onto_first_by
 use Rattle.std.proofs.lemmas.Bool.Decides.{nat_tests}
 use Rattle.std.proofs.lemmas.Bool.{not-true}
 use Rattle.life_base.specs.Text.{without_last, words_of}
-use Rattle.life_mc.specs.Reading.{row_byte, leaf_rows, is_leaf, leaf_bytes}
-use Rattle.life_mc.specs.Writing.{row_cells, row_text}
+use Rattle.life_mc.specs.Reading.{byte_of_row, leaf_rows, is_leaf, leaf_bytes}
+use Rattle.life_mc.specs.Writing.{leaf_row_text, row_text}
 use Rattle.life_mc.specs.Grammar.{is_cell, is_row}
 use Rattle.life_mc.specs.Standing.{are_rows, row_bytes}
 use Rattle.life_mc.proofs.Leaves.{leaf_is, leaf_bytes_are}
@@ -19,21 +19,21 @@ has_no_feed text = list_all (λ b. not (b == 10)) text
 
 -- the cells of a row that are written
 abbrev pub written : ℕ → List ℕ
-written row = without_last (λ b. b == 46) (row_cells row)
+written row = without_last (λ b. b == 46) (leaf_row_text row)
 
 abbrev row_test : ℕ → Bool
-row_test row = (row_byte (written row) == row) && is_row (written row)
+row_test row = (byte_of_row (written row) == row) && is_row (written row)
 
 each_row : all_below 256 row_test ≡ true
-unfolding row_cells
+unfolding leaf_row_text
 each_row = refl
 
 -- a row's text says the row
-pub row_again : (row : ℕ) → row < 256 → row_byte (written row) ≡ row
+pub row_again : (row : ℕ) → row < 256 → byte_of_row (written row) ≡ row
 row_again row h = eqb-true _ _ (left_of_and _ _ (all_below_at 256 row_test row each_row h))
 
 pub row_is_row : (row : ℕ) → row < 256 → is_row (written row) ≡ true
-row_is_row row h = right_of_and (row_byte (written row) == row) _ (all_below_at 256 row_test row each_row h)
+row_is_row row h = right_of_and (byte_of_row (written row) == row) _ (all_below_at 256 row_test row each_row h)
 
 -- cells, ended by `$`, are the first row
 pub row_ended : (cells rest : List ℕ) → list_all (λ b. not (b == 36)) cells ≡ true → leaf_rows (cells ++ 36 ∷ rest) ≡ cells ∷ leaf_rows rest

@@ -8,7 +8,7 @@ use Rattle.life_base.specs.declared.fault.Fault.{Fault}
 use Rattle.life_base.proofs.NumberedLines as numbered_lines
 use Rattle.life_base.proofs.NumberedLines.{texts}
 use Rattle.life_base.proofs.Refusals.{UnbrokenBelow, refusal_at_end}
-use Rattle.life_mc.specs.Reading.{Accepts, Refuses, broken, missing, squares_of, square_on, square_behind}
+use Rattle.life_mc.specs.Reading.{AcceptsMacrocell, RefusesMacrocell, broken_rule, missing_macrocell_part, squares_of, square_on, square_after}
 use Rattle.life_mc.specs.declared.line.Line.{Line}
 use Rattle.life_mc.proofs.ByLines.{by_lines}
 
@@ -18,13 +18,13 @@ none_on line h = rw h refl
 one_on : (line : List ℕ) (square : Line) → square_on line ≡ Some square → filter_map square_on (line ∷ []) ≡ square ∷ []
 one_on line square h = rw h refl
 
-pub squares_none : (before : List (List ℕ)) (line : List ℕ) → square_behind before line ≡ None → squares_of (before ++ line ∷ []) ≡ squares_of before
+pub squares_none : (before : List (List ℕ)) (line : List ℕ) → square_after before line ≡ None → squares_of (before ++ line ∷ []) ≡ squares_of before
 squares_none [] line h = refl
 squares_none (header ∷ before) line h =
     filter_map-append square_on before (line ∷ []) ∙ ap (λ (t : List Line). filter_map square_on before ++ t) (none_on line h)
     ∙ append-nil (filter_map square_on before)
 
-pub squares_some : (before : List (List ℕ)) (line : List ℕ) (square : Line) → square_behind before line ≡ Some square
+pub squares_some : (before : List (List ℕ)) (line : List ℕ) (square : Line) → square_after before line ≡ Some square
     → squares_of (before ++ line ∷ []) ≡ squares_of before ++ square ∷ []
 squares_some [] line square h = cc
 squares_some (header ∷ before) line square h =
@@ -41,11 +41,12 @@ some_lines (line ∷ lines) h = omega arith
 
 -- why a file is refused whose lines are read with their numbers, where this line breaks a rule and none before it
 pub refused_at : (top : ℕ) → (lines : List (List ℕ)) (before : List (ℕ × List ℕ)) (k : ℕ) (line : List ℕ) (rest : List (ℕ × List ℕ)) (fault : Fault)
-    → before ++ (k, line) ∷ rest ≡ numbered_from 1 lines → UnbrokenBelow (Accepts top) (broken top) missing (texts before) (length (texts before))
-    → broken top (texts before) line ≡ Some fault.kind → fault.place.line ≡ k → Refuses top lines fault
-refused_at top = numbered_lines.refused_at (Accepts top) (broken top) missing (by_lines top)
+    → before ++ (k, line) ∷ rest ≡ numbered_from 1 lines
+    → UnbrokenBelow (AcceptsMacrocell top) (broken_rule top) missing_macrocell_part (texts before) (length (texts before))
+    → broken_rule top (texts before) line ≡ Some fault.kind → fault.place.line ≡ k → RefusesMacrocell top lines fault
+refused_at top = numbered_lines.refused_at (AcceptsMacrocell top) (broken_rule top) missing_macrocell_part (by_lines top)
 
 -- why a file without lines is refused
-pub no_lines : (top : ℕ) → Refuses top [] (fault_at 1 NoHeader)
-no_lines top = refusal_at_end (Accepts top) (broken top) missing (by_lines top) [] NoHeader (λ k h. absurd (omega arith))
+pub no_lines : (top : ℕ) → RefusesMacrocell top [] (fault_at 1 NoHeader)
+no_lines top = refusal_at_end (AcceptsMacrocell top) (broken_rule top) missing_macrocell_part (by_lines top) [] NoHeader (λ k h. absurd (omega arith))
     (λ g. let h : 0 < length (let e : List (List ℕ) = [] in e) = g.1.header in absurd (omega arith)) refl

@@ -5,14 +5,14 @@ use Rattle.std.specs.Int.{to_le_bytes}
 use Rattle.std.specs.List.{range_with_len}
 use Rattle.std.proofs.lemmas.List.FromFn.{get_or-map-range_with_len}
 use Rattle.life_mc.specs.declared.line_writing.TheConstants.{ROW_WORDS}
-use Rattle.life_mc.specs.Writing.{row_cells, row_text}
+use Rattle.life_mc.specs.Writing.{leaf_row_text, row_text}
 
 -- the cells up to the last live one in the table, and the end of the row
 abbrev pub in_table : ℕ → List ℕ
 in_table row = take (length (row_text row) - 1) (to_le_bytes w64 (slice_index ROW_WORDS row)) ++ codes "$"
 
 texts : map in_table (range_with_len 0 256) ≡ map row_text (range_with_len 0 256)
-unfolding row_cells
+unfolding leaf_row_text
 texts = refl
 
 -- the cells that are not written, and the text
@@ -20,7 +20,7 @@ abbrev whole : ℕ → ℕ
 whole row = count_trailing_zeros 32 (bit_or row 256) + length (row_text row)
 
 wholes : map whole (range_with_len 0 256) ≡ map (λ _. 9) (range_with_len 0 256)
-unfolding row_cells count_trailing_zeros
+unfolding leaf_row_text count_trailing_zeros
 wholes = refl
 
 pub text_in_table : (row : ℕ) → row < 256 → in_table row ≡ row_text row

@@ -8,7 +8,7 @@ use Rattle.life_mc.specs.Macrocell.{Macrocell}
 use Rattle.life_mc.specs.Cells.{node_lines}
 use Rattle.life_mc.specs.Reading.{squares_of, rule_in_force, generation_in_force}
 use Rattle.life_mc.specs.Squares.{tree_of, root_tree}
-use Rattle.life_mc.specs.Writing.{mc_text, row_cells}
+use Rattle.life_mc.specs.Writing.{mc_text, leaf_row_text}
 use Rattle.life_mc.specs.declared.line.Line.{Line}
 use Rattle.life_mc.specs.declared.line.Line.TheVariants.{Leaf, Quad}
 
@@ -77,11 +77,11 @@ abbrev file_of : List ℕ → Macrocell
 file_of bytes = record { rule = rule_in_force (lines_of bytes); generation = generation_in_force (lines_of bytes); lines = squares_of (lines_of bytes) }
 
 glider_back : squares_of (lines_of (mc_text (record { rule = rule_in_force []; generation = 0; lines = glider }))) ≡ glider
-unfolding rule_of life_sets four_sets digits row_cells
+unfolding rule_of life_sets four_sets digits leaf_row_text
 glider_back = refl
 
 states_back : file_of (mc_text (file_of (codes "[M2]\n#R Foo\n#G 007\n1 0 0 0 255\n2 0 0 1 0"))) ≡ file_of (codes "[M2]\n#R Foo\n#G 7\n1 0 0 0 255\n2 0 0 1 0")
-unfolding rule_of life_sets four_sets digits row_cells
+unfolding rule_of life_sets four_sets digits leaf_row_text
 states_back = refl
 
 -- ---- node lines

@@ -4,8 +4,8 @@ use Rattle.std.specs.List.{list_all, slice_get}
 use Rattle.std.proofs.Math.Nat.{mod-eq_of_lt, mod-eq-sub-mod}
 use Rattle.life_base.specs.Tree.{Tree, point, quad, depth, blank, state_at, IsFull, tree_cell}
 use Rattle.life_base.specs.declared.rule.Rule.{Rule}
-use Rattle.life_mc.specs.Macrocell.{AreSquares, IsSquare, level_of, numbered, is_quarter, is_level, largest_state}
-use Rattle.life_mc.specs.Cells.{cell, cell_in, cell_from, leaf_cell, quarter_at, root_level}
+use Rattle.life_mc.specs.Macrocell.{AreSquares, IsSquare, level_of, item_of_number, is_quarter, is_level, largest_state}
+use Rattle.life_mc.specs.Cells.{macrocell_cell, cell_in_node, cell_from, leaf_cell, quarter_at, root_level}
 use Rattle.life_mc.specs.Squares.{tree_at, leaf_tree, line_tree, tree_of, root_tree, HasStatesUpTo, StandsForSquare, LinesStandForSquares}
 use Rattle.life_mc.specs.declared.line.Line.{Line}
 use Rattle.life_mc.specs.declared.line.Line.TheVariants.{Leaf, Quad}
@@ -209,7 +209,7 @@ cell_by lines k o x y = elim o [
   | None ↦ 0
   | Some line ↦ elim line [
     | Leaf rows ↦ leaf_cell rows x y
-    | Quad level nw ne sw se ↦ cell_in lines k (quarter_at (2 ^ k) x y nw ne sw se) (x % 2 ^ k) (y % 2 ^ k)
+    | Quad level nw ne sw se ↦ cell_in_node lines k (quarter_at (2 ^ k) x y nw ne sw se) (x % 2 ^ k) (y % 2 ^ k)
   ]
 ]
 
@@ -223,7 +223,7 @@ module _ (top : ℕ) (rule : Rule) (lines : List Line) (valid : AreSquares top r
 
   -- the number shows its cells, and the lines behind that of the number don't matter
   record IsSound (k number : ℕ) : Type 0 where
-    shows : Shows most k (tree_of lines k number) (cell_in lines k number)
+    shows : Shows most k (tree_of lines k number) (cell_in_node lines k number)
     front : (m : ℕ) → (0 < k → number ≤ m) → tree_of (take m lines) k number ≡ tree_of lines k number
 
   -- a line of level k + 1, from what its quarters stand for
@@ -249,7 +249,7 @@ module _ (top : ℕ) (rule : Rule) (lines : List Line) (valid : AreSquares top r
       let se = below d q.3 in
       let Q : Option Line → Type 0 = λ o. Shows most (suc k) (tree_by lines k o) (cell_by lines k o) in
       record {
-        shows = subst Q (sym g) (quad_shows most k (tree_of lines k) (cell_in lines k) a b c d nw.0.shows ne.0.shows sw.0.shows se.0.shows);
+        shows = subst Q (sym g) (quad_shows most k (tree_of lines k) (cell_in_node lines k) a b c d nw.0.shows ne.0.shows sw.0.shows se.0.shows);
         front = λ m some.
             let l : i < m = omega (arith, some (omega arith)) in
             ap (tree_by (take m lines) k) (get_take lines m i l ∙ g)
@@ -277,7 +277,7 @@ module _ (top : ℕ) (rule : Rule) (lines : List Line) (valid : AreSquares top r
     by_front = s.front number (λ h. omega arith);
   }
 
-  each_stands : (number : ℕ) (line : Line) → numbered lines number ≡ Some line → StandsForSquare rule lines (level_of line) number
+  each_stands : (number : ℕ) (line : Line) → item_of_number lines number ≡ Some line → StandsForSquare rule lines (level_of line) number
   each_stands zero line g = cc
   each_stands (suc i) line g = stands (level_of line) (suc i) (sound_at i line g (level_of line) refl)
 
@@ -297,7 +297,7 @@ at_depth tree x y d =
     let h = pos (2 ^ (d - 1)) in
     cond (int_le (neg_ℤ h) x && int_lt x h && int_le (neg_ℤ h) y && int_lt y h) (state_at tree (unsigned_abs (x +ℤ h)) (unsigned_abs (y +ℤ h))) 0
 
-module _ (most level : ℕ) (some : 1 ≤ level) (tree : Tree) (lines : List Line) (t : Shows most level tree (cell_in lines level (length lines))) where
+module _ (most level : ℕ) (some : 1 ≤ level) (tree : Tree) (lines : List Line) (t : Shows most level tree (cell_in_node lines level (length lines))) where
   abbrev half : ℕ
   half = 2 ^ (level - 1)
 
@@ -325,7 +325,7 @@ module _ (most level : ℕ) (some : 1 ≤ level) (tree : Tree) (lines : List Lin
   from_corner x y (pos c) (pos r) e f =
       let v : within x ≡ nat_lt c (2 ^ level) = in_span x half c e ∙ ap (nat_lt c) (sym whole) in
       let w : within y ≡ nat_lt r (2 ^ level) = in_span y half r f ∙ ap (nat_lt r) (sym whole) in
-      same_when (nat_lt c (2 ^ level)) (nat_lt r (2 ^ level)) (cell_in lines level (length lines) c r) (state_at tree c r)
+      same_when (nat_lt c (2 ^ level)) (nat_lt r (2 ^ level)) (cell_in_node lines level (length lines) c r) (state_at tree c r)
       (λ p q. sym (t.same c r (ltb-true c (2 ^ level) p) (ltb-true r (2 ^ level) q)))
       ∙ ap (λ u. when u (nat_lt r (2 ^ level)) (state_at tree c r)) (sym v) ∙ ap (λ u. when (within x) u (state_at tree c r)) (sym w)
   from_corner x y (pos c) (negsuc r) e f = no_second (within x) (within y) _ (out_of_span y half r f)
@@ -343,10 +343,10 @@ either true n = refl
 either false n = refl
 
 plane : (top : ℕ) (rule : Rule) (generation : ℕ) (lines : List Line) → AreSquares top rule lines → (x y : ℤ)
-    → cell (record { rule = rule; generation = generation; lines = lines }) x y ≡ tree_cell (root_tree lines) x y
+    → macrocell_cell (record { rule = rule; generation = generation; lines = lines }) x y ≡ tree_cell (root_tree lines) x y
 plane top rule generation [] valid x y =
     let h = pos (2 ^ (0 - 1)) in
-    let none : cell (record { rule = rule; generation = generation; lines = [] }) x y ≡ 0 = refl in
+    let none : macrocell_cell (record { rule = rule; generation = generation; lines = [] }) x y ≡ 0 = refl in
     none ∙ sym (either (int_le (neg_ℤ h) x && int_lt x h && int_le (neg_ℤ h) y && int_lt y h) 0)
 plane top rule generation (line ∷ lines) valid x y =
     let r = root_at line lines in

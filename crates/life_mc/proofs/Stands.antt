@@ -14,7 +14,7 @@ use Rattle.life_base.specs.declared.kind.Kind.{Kind}
 use Rattle.life_base.specs.declared.kind.Kind.TheVariants.{LineTooLong, NoHeader, BadNumber, TooLarge, BadLevel, StateRange, BadChild}
 use Rattle.life_base.specs.declared.rule.Rule.{Rule}
 use Rattle.life_mc.specs.Macrocell.{level_of, IsSquare, is_quarter}
-use Rattle.life_mc.specs.Reading.{broken, broken_behind, is_command, rule_in_force, generation_in_force, squares_of, square_behind, square_on, rule_on, generation_on, last_or, broken_after, broken_by_square}
+use Rattle.life_mc.specs.Reading.{broken_rule, broken_rule_after, is_letter_command, rule_in_force, generation_in_force, squares_of, square_after, square_on, rule_on, generation_on, last_or, broken_after, broken_by_square}
 use Rattle.life_mc.specs.Grammar.{form_rule, form_generation, form_square}
 use Rattle.std.specs.Option.{unwrap_or}
 use Rattle.life_mc.specs.Standing.{Standing, StandsAfter, IsParsed, form_of, level_in}
@@ -48,14 +48,14 @@ generation_read text r e =
 
 module _ (top : ℕ) (lines : List (List ℕ)) (line : List ℕ) where
   abbrev rest : Option Kind
-  rest = cond (is_empty lines) (cond (begins_with line (codes "[M2]")) None (Some NoHeader)) (broken_behind top lines line)
+  rest = cond (is_empty lines) (cond (begins_with line (codes "[M2]")) None (Some NoHeader)) (broken_rule_after top lines line)
 
-  pub breaks_length : 2 ^ 20 < length line → broken top lines line ≡ Some LineTooLong
-  unfolding broken
+  pub breaks_length : 2 ^ 20 < length line → broken_rule top lines line ≡ Some LineTooLong
+  unfolding broken_rule
   breaks_length h = ap (λ v. cond v (Some LineTooLong) rest) (too_long line h)
 
-  short : length line ≤ 2 ^ 20 → broken top lines line ≡ rest
-  unfolding broken
+  short : length line ≤ 2 ^ 20 → broken_rule top lines line ≡ rest
+  unfolding broken_rule
   short h = ap (λ v. cond v (Some LineTooLong) rest) (not_too_long line h)
 
 not-not : (v w : Bool) → v ≡ not w → v ≡ false → w ≡ true
@@ -74,31 +74,32 @@ module _ (top : ℕ) (lines : List (List ℕ)) (line : List ℕ) (old : Standing
   before_header : old.started ≡ false → lines ≡ []
   before_header f = nothing lines (not-not old.started (is_empty lines) s.started f)
 
-  pub breaks_header : old.started ≡ false → begins_with line (codes "[M2]") ≡ false → broken top lines line ≡ Some NoHeader
+  pub breaks_header : old.started ≡ false → begins_with line (codes "[M2]") ≡ false → broken_rule top lines line ≡ Some NoHeader
   breaks_header f b =
-      short top lines line h ∙ ap (λ v. cond v (cond (begins_with line (codes "[M2]")) None (Some NoHeader)) (broken_behind top lines line))
+      short top lines line h ∙ ap (λ v. cond v (cond (begins_with line (codes "[M2]")) None (Some NoHeader)) (broken_rule_after top lines line))
       (not-not old.started (is_empty lines) s.started f)
       ∙ ap (λ v. cond v None (Some NoHeader)) b
 
-  is_header : old.started ≡ false → begins_with line (codes "[M2]") ≡ true → broken top lines line ≡ None
+  is_header : old.started ≡ false → begins_with line (codes "[M2]") ≡ true → broken_rule top lines line ≡ None
   is_header f b =
-      short top lines line h ∙ ap (λ v. cond v (cond (begins_with line (codes "[M2]")) None (Some NoHeader)) (broken_behind top lines line))
+      short top lines line h ∙ ap (λ v. cond v (cond (begins_with line (codes "[M2]")) None (Some NoHeader)) (broken_rule_after top lines line))
       (not-not old.started (is_empty lines) s.started f)
       ∙ ap (λ v. cond v None (Some NoHeader)) b
 
   -- behind the header what is kept decides
-  pub broken_is : old.started ≡ true → broken top lines line ≡ broken_after top old.rule old.levels line
+  pub broken_is : old.started ≡ true → broken_rule top lines line ≡ broken_after top old.rule old.levels line
   broken_is t =
-      short top lines line h ∙ ap (λ v. cond v (cond (begins_with line (codes "[M2]")) None (Some NoHeader)) (broken_behind top lines line))
+      short top lines line h ∙ ap (λ v. cond v (cond (begins_with line (codes "[M2]")) None (Some NoHeader)) (broken_rule_after top lines line))
       (not-true old.started (is_empty lines) s.started t)
       ∙ ap (λ r. broken_after top r (map level_of (squares_of lines)) line) (sym s.rule)
       ∙ ap (λ ls. broken_after top old.rule ls line) (sym s.levels)
 
 -- ---- one line more
 
-unbroken_more : (top : ℕ) (lines : List (List ℕ)) (line : List ℕ) → ((k : ℕ) → k < length lines → broken top (take k lines) (slice_index_or lines k []) ≡ None)
-    → broken top lines line ≡ None
-    → (k : ℕ) → k < length (lines ++ line ∷ []) → broken top (take k (lines ++ line ∷ [])) (slice_index_or (lines ++ line ∷ []) k []) ≡ None
+unbroken_more : (top : ℕ) (lines : List (List ℕ)) (line : List ℕ)
+    → ((k : ℕ) → k < length lines → broken_rule top (take k lines) (slice_index_or lines k []) ≡ None)
+    → broken_rule top lines line ≡ None
+    → (k : ℕ) → k < length (lines ++ line ∷ []) → broken_rule top (take k (lines ++ line ∷ [])) (slice_index_or (lines ++ line ∷ []) k []) ≡ None
 unbroken_more top lines line u b k l = elim (below_or_at k (length lines) (omega (arith, length-append lines (line ∷ [])))) [
   | inl m ↦ (let e : take k (lines ++ line ∷ []) ≡ take k lines = take-append-le k lines (line ∷ []) (omega arith) in
       let f : get_or (lines ++ line ∷ []) k [] ≡ get_or lines k [] = get_or-append lines (line ∷ []) [] k m in
@@ -139,11 +140,11 @@ generation_more : (lines : List (List ℕ)) (line : List ℕ) (o : Option ℕ) �
 generation_more [] line o h e = cc
 generation_more (header ∷ lines) line o h e = one_more generation_on 0 lines line o e
 
-square_here : (lines : List (List ℕ)) (line : List ℕ) → is_empty lines ≡ false → square_behind lines line ≡ square_on line
+square_here : (lines : List (List ℕ)) (line : List ℕ) → is_empty lines ≡ false → square_after lines line ≡ square_on line
 square_here [] line h = cc
 square_here (header ∷ lines) line h = refl
 
-levels_more : (lines : List (List ℕ)) (line : List ℕ) (o : Option Line) → square_behind lines line ≡ o
+levels_more : (lines : List (List ℕ)) (line : List ℕ) (o : Option Line) → square_after lines line ≡ o
     → map level_of (squares_of (lines ++ line ∷ [])) ≡ map level_of (squares_of lines) ++ level_in o
 levels_more lines line None h = ap (map level_of) (squares_none lines line h) ∙ sym (append-nil (map level_of (squares_of lines)))
 levels_more lines line (Some square) h = ap (map level_of) (squares_some lines line square h) ∙ map-append level_of (squares_of lines) (square ∷ [])
@@ -156,10 +157,10 @@ module _ (top : ℕ) (lines : List (List ℕ)) (line : List ℕ) (old new : Stan
   -- the header
   pub stands_first : old.started ≡ false → begins_with line (codes "[M2]") ≡ true → new.started ≡ true → new.rule ≡ old.rule → new.generation ≡ old.generation
       → new.levels ≡ old.levels
-      → (None ≡ square_behind lines line) × StandsAfter top (lines ++ line ∷ []) new
+      → (None ≡ square_after lines line) × StandsAfter top (lines ++ line ∷ []) new
   stands_first f b st r g l =
       let none = before_header top lines line old s h f in (
-        sym (ap (λ ls. square_behind ls line) none),
+        sym (ap (λ ls. square_after ls line) none),
         record {
           unbroken = unbroken_more top lines line s.unbroken (is_header top lines line old s h f b);
           started = st ∙ some_lines lines line;
@@ -173,11 +174,11 @@ module _ (top : ℕ) (lines : List (List ℕ)) (line : List ℕ) (old new : Stan
   pub stands_next : (parsed : ParsedLine) → let form = form_of parsed in
       old.started ≡ true → broken_after top old.rule old.levels line ≡ None → IsParsed line parsed
       → new.started ≡ old.started → new.rule ≡ unwrap_or (form_rule form) old.rule → new.generation ≡ unwrap_or (form_generation form) old.generation
-      → new.levels ≡ old.levels ++ level_in (form_square form) → (form_square form ≡ square_behind lines line) × StandsAfter top (lines ++ line ∷ []) new
+      → new.levels ≡ old.levels ++ level_in (form_square form) → (form_square form ≡ square_after lines line) × StandsAfter top (lines ++ line ∷ []) new
   stands_next parsed t b tells st r g l =
       let form = form_of parsed in
       let some : is_empty lines ≡ false = not-true old.started (is_empty lines) s.started t in
-      let here : square_behind lines line ≡ form_square form = square_here lines line some ∙ tells.2 in (
+      let here : square_after lines line ≡ form_square form = square_here lines line some ∙ tells.2 in (
         sym here,
         record {
           unbroken = unbroken_more top lines line s.unbroken (broken_is top lines line old s h t ∙ b);
@@ -191,23 +192,23 @@ module _ (top : ℕ) (lines : List (List ℕ)) (line : List ℕ) (old new : Stan
 -- ---- a rule line or a generation line
 
 pub rule_breaks : (top : ℕ) (rule : Rule) (levels : List ℕ) (line : List ℕ) → is_blank line ≡ false → begins_with line (codes "#FRAME") ≡ false
-    → is_command 82 line ≡ true → nat_lt 0 (length levels) ≡ false → broken_after top rule levels line ≡ result_err (rule_of (drop 2 line))
+    → is_letter_command 82 line ≡ true → nat_lt 0 (length levels) ≡ false → broken_after top rule levels line ≡ result_err (rule_of (drop 2 line))
 rule_breaks top rule levels line b f r l = rw (b, f, r, l) refl
 
 pub generation_breaks : (top : ℕ) (rule : Rule) (levels : List ℕ) (line : List ℕ) → is_blank line ≡ false → begins_with line (codes "#FRAME") ≡ false
-    → is_command 82 line ≡ false
-    → is_command 71 line ≡ true → nat_lt 0 (length levels) ≡ false → broken_after top rule levels line ≡ result_err (u64_of (trim (drop 2 line)))
+    → is_letter_command 82 line ≡ false
+    → is_letter_command 71 line ≡ true → nat_lt 0 (length levels) ≡ false → broken_after top rule levels line ≡ result_err (u64_of (trim (drop 2 line)))
 generation_breaks top rule levels line b f r g l = rw (b, f, r, g, l) refl
 
-pub rule_parsed_so : (line : List ℕ) (rule : Rule) → is_command 82 line ≡ true → rule_of (drop 2 line) ≡ Ok rule
+pub rule_parsed_so : (line : List ℕ) (rule : Rule) → is_letter_command 82 line ≡ true → rule_of (drop 2 line) ≡ Ok rule
     → (rule_on line ≡ Some rule) × (generation_on line ≡ None) × (square_on line ≡ None)
 rule_parsed_so line rule r e = (
   ap (λ v. cond v (result_ok (rule_of (drop 2 line))) None) r ∙ ap result_ok e,
-  ap (λ (l : List ℕ). cond (is_command 71 l) (Some (value_of (trim (drop 2 line)))) None) (commands 82 line r).0,
+  ap (λ (l : List ℕ). cond (is_letter_command 71 l) (Some (value_of (trim (drop 2 line)))) None) (commands 82 line r).0,
   hash_no_square line (command_is_hash 0 82 line r),
 )
 
-pub generation_parsed_so : (line : List ℕ) (n : ℕ) → is_command 82 line ≡ false → is_command 71 line ≡ true → n ≡ value_of (trim (drop 2 line))
+pub generation_parsed_so : (line : List ℕ) (n : ℕ) → is_letter_command 82 line ≡ false → is_letter_command 71 line ≡ true → n ≡ value_of (trim (drop 2 line))
     → (rule_on line ≡ None) × (generation_on line ≡ Some n) × (square_on line ≡ None)
 generation_parsed_so line n r g e = (
   ap (λ v. cond v (result_ok (rule_of (drop 2 line))) None) r,

@@ -10,8 +10,8 @@ use Rattle.life_base.specs.Numbers.{u64_of}
 use Rattle.life_base.specs.Rules.{rule_of, rule_text, default_rule, IsRule}
 use Rattle.life_base.specs.declared.kind.Kind.TheVariants.{Timeline, LateHeader, BadLeaf}
 use Rattle.life_base.specs.declared.rule.Rule.{Rule}
-use Rattle.life_mc.specs.Macrocell.{Macrocell, AreSquares, IsSquare, IsValid, level_of, is_quarter, is_child, is_level, largest_state}
-use Rattle.life_mc.specs.Reading.{IsMacrocell, broken_by_node, broken_by_square, is_command, squares_of, square_of, broken_after}
+use Rattle.life_mc.specs.Macrocell.{Macrocell, AreSquares, IsSquare, IsValidMacrocell, level_of, is_quarter, is_child, is_level, largest_state}
+use Rattle.life_mc.specs.Reading.{IsMacrocell, broken_by_node, broken_by_square, is_letter_command, squares_of, square_of_text, broken_after}
 use Rattle.life_mc.specs.Standing.{Standing, StandsAfter, IsParsed}
 use Rattle.life_mc.specs.Writing.{mc_text, line_text, TextsReadBack}
 use Rattle.life_mc.specs.declared.line.Line.{Line}
@@ -62,7 +62,7 @@ module _ (rule : Rule) (levels : List ℕ) (few : length levels < 10 ^ 64) where
 
 -- a line that doesn't begin with `#` is neither `#FRAME` nor a command
 pub no_mark : (line : List ℕ) → begins_with line (codes "#") ≡ false → is_blank line ≡ false
-    → (begins_with line (codes "#FRAME") ≡ false) × (is_command 82 line ≡ false) × (is_command 71 line ≡ false)
+    → (begins_with line (codes "#FRAME") ≡ false) × (is_letter_command 82 line ≡ false) × (is_letter_command 71 line ≡ false)
 no_mark [] h b = cc
 no_mark (c ∷ line) h b =
     let e : (c == 35) ≡ false = sym (and-true (c == 35)) ∙ h in (
@@ -72,11 +72,11 @@ no_mark (c ∷ line) h b =
     )
 
 module _ (top : ℕ) (rule : Rule) (levels : List ℕ) (line : Line) (text : List ℕ) (t : IsTextOf line text) where
-  mark : (begins_with text (codes "#FRAME") ≡ false) × (is_command 82 text ≡ false) × (is_command 71 text ≡ false)
+  mark : (begins_with text (codes "#FRAME") ≡ false) × (is_letter_command 82 text ≡ false) × (is_letter_command 71 text ≡ false)
   mark = no_mark text t.hash t.blank
 
-  says : square_of (trim text) ≡ Some line
-  says = ap square_of t.trimmed ∙ t.says
+  says : square_of_text (trim text) ≡ Some line
+  says = ap square_of_text t.trimmed ∙ t.says
 
   node_parsed : IsParsed text (NodeLine line)
   node_parsed = (
@@ -85,15 +85,15 @@ module _ (top : ℕ) (rule : Rule) (levels : List ℕ) (line : Line) (text : Lis
     by (is_blank text) (begins_with text (codes "#")) t.blank t.hash ∙ says,
   )
     where
-      by : (v w : Bool) → v ≡ false → w ≡ false → cond (not v && not w) (square_of (trim text)) None ≡ square_of (trim text)
+      by : (v w : Bool) → v ≡ false → w ≡ false → cond (not v && not w) (square_of_text (trim text)) None ≡ square_of_text (trim text)
       by v w p q = rw (p, q) refl
 
   node_stands : IsSquare top rule levels line → broken_after top rule levels text ≡ None
   node_stands h =
-      cascade (is_blank text) (begins_with text (codes "#FRAME")) (is_command 82 text) (is_command 71 text) (nat_lt 0 (length levels))
+      cascade (is_blank text) (begins_with text (codes "#FRAME")) (is_letter_command 82 text) (is_letter_command 71 text) (nat_lt 0 (length levels))
       (begins_with text (codes "#")) t.blank mark.0 mark.1 mark.2 t.hash
       ∙ ap (broken_by_node top rule levels) t.trimmed
-      ∙ ap (λ v. cond v (Some BadLeaf) (broken_by_square top rule levels (square_of text))) t.no_bad_leaf
+      ∙ ap (λ v. cond v (Some BadLeaf) (broken_by_square top rule levels (square_of_text text))) t.no_bad_leaf
       ∙ ap (broken_by_square top rule levels) t.says ∙ square_ok top rule levels line h
     where
       cascade : (b f r g l m : Bool) → b ≡ false → f ≡ false → r ≡ false → g ≡ false → m ≡ false
@@ -213,7 +213,7 @@ generation_ended : (text rest : List ℕ) → has_no_feed text ≡ true → line
     ∷ lines_of rest
 generation_ended text rest h = ap lines_of (append_assoc (codes "#G " ++ text) (codes "\n") rest) ∙ first_of_lines (codes "#G " ++ text) rest h
 
-module _ (top : ℕ) (low : top < 10 ^ 64) (file : Macrocell) (v : IsValid top file) (few : length file.lines < 10 ^ 64) where
+module _ (top : ℕ) (low : top < 10 ^ 64) (file : Macrocell) (v : IsValidMacrocell top file) (few : length file.lines < 10 ^ 64) where
   abbrev nodes : List ℕ
   nodes = flat_map (λ line. line_text line ++ codes "\n") file.lines
 

@@ -15,7 +15,7 @@ use Rattle.life_base.specs.declared.rule.Rule.{Rule}
 use Rattle.life_base.proofs.Refusals.{UnbrokenBelow}
 use Rattle.life_base.proofs.Basics.{right_of_and, left_of_and, cond_le}
 use Rattle.life_mc.specs.Macrocell.{AreSquares, IsSquare, level_of, is_quarter}
-use Rattle.life_mc.specs.Reading.{Accepts, broken, broken_behind, broken_by_node, broken_by_square, missing, squares_of, square_on, square_of, rule_in_force, rule_on, last_or, is_command, is_node_line, is_leaf_byte, is_leaf, leaf_bytes, leaf_rows, row_byte, quad_of}
+use Rattle.life_mc.specs.Reading.{AcceptsMacrocell, broken_rule, broken_rule_after, broken_by_node, broken_by_square, missing_macrocell_part, squares_of, square_on, square_of_text, rule_in_force, rule_on, last_or, is_letter_command, is_node_line, is_leaf_byte, is_leaf, leaf_bytes, leaf_rows, byte_of_row, quad_of_numbers}
 use Rattle.life_mc.specs.declared.line.Line.{Line}
 use Rattle.life_mc.specs.declared.line.Line.TheVariants.{Leaf, Quad}
 use Rattle.life_mc.proofs.ReadLines.{squares_none, squares_some}
@@ -37,12 +37,12 @@ module _ (top : ℕ) where
 
   -- ---- the first byte of a command
 
-  pub command_is_hash : (c : ℕ) (line : List ℕ) → is_command c line ≡ true → begins_with line (codes "#") ≡ true
+  pub command_is_hash : (c : ℕ) (line : List ℕ) → is_letter_command c line ≡ true → begins_with line (codes "#") ≡ true
   command_is_hash c [] h = cc
   command_is_hash c (a ∷ []) h = let k : (a == 35) ≡ true = left_of_and _ _ (left_of_and _ _ h) in true_true _ k
   command_is_hash c (a ∷ b ∷ rest) h = let k : (a == 35) ≡ true = left_of_and _ _ (left_of_and _ _ h) in true_true _ k
 
-  pub no_command : (c : ℕ) (line : List ℕ) → begins_with line (codes "#") ≡ false → is_command c line ≡ false
+  pub no_command : (c : ℕ) (line : List ℕ) → begins_with line (codes "#") ≡ false → is_letter_command c line ≡ false
   no_command c line h = false_from_ne_true _ (λ k. let t = command_is_hash c line k in cc)
 
   pub hash_not_blank : (line : List ℕ) → begins_with line (codes "#") ≡ true → is_blank line ≡ false
@@ -55,31 +55,32 @@ module _ (top : ℕ) where
     abbrev before : List (List ℕ)
     before = header ∷ lines
 
-    behind : (line : List ℕ) → broken top before line ≡ None → broken_behind top before line ≡ None
-    unfolding broken
+    behind : (line : List ℕ) → broken_rule top before line ≡ None → broken_rule_after top before line ≡ None
+    unfolding broken_rule
     behind line e = (passed (is_too_long line) LineTooLong _ e).1
 
-    node_stands : (line : List ℕ) → broken_behind top before line ≡ None → is_node_line line ≡ true
+    node_stands : (line : List ℕ) → broken_rule_after top before line ≡ None → is_node_line line ≡ true
         → broken_by_node top (rule_in_force before) (map level_of (squares_of before)) (trim line) ≡ None
     node_stands line e n =
         let blank : is_blank line ≡ false = not-true _ (left_of_and _ (not (begins_with line (codes "#"))) n) in
         let hash : begins_with line (codes "#") ≡ false = not-true _ (right_of_and (not (is_blank line)) _ n) in
         let s1 = not_taken (is_blank line) None _ blank e in
         let s2 = (passed (begins_with line (codes "#FRAME")) Timeline _ s1).1 in
-        let s3 = (passed ((is_command 82 line || is_command 71 line) && nat_lt 0 (length (map level_of (squares_of before)))) LateHeader _ s2).1 in
-        let s4 = not_taken (is_command 82 line) (result_err (rule_of (drop 2 line))) _ (no_command 82 line hash) s3 in
-        let s5 = not_taken (is_command 71 line) (result_err (u64_of (trim (drop 2 line)))) _ (no_command 71 line hash) s4 in
+        let s3 = (passed ((is_letter_command 82 line || is_letter_command 71 line) && nat_lt 0 (length (map level_of (squares_of before)))) LateHeader _
+        s2).1 in
+        let s4 = not_taken (is_letter_command 82 line) (result_err (rule_of (drop 2 line))) _ (no_command 82 line hash) s3 in
+        let s5 = not_taken (is_letter_command 71 line) (result_err (u64_of (trim (drop 2 line)))) _ (no_command 71 line hash) s4 in
         not_taken (begins_with line (codes "#")) None _ hash s5
 
-    rule_stands : (line : List ℕ) → broken_behind top before line ≡ None → is_command 82 line ≡ true → squares_of before ≡ []
+    rule_stands : (line : List ℕ) → broken_rule_after top before line ≡ None → is_letter_command 82 line ≡ true → squares_of before ≡ []
     rule_stands line e r =
         let hash = command_is_hash 82 line r in
         let s1 = not_taken (is_blank line) None _ (hash_not_blank line hash) e in
         let s2 = (passed (begins_with line (codes "#FRAME")) Timeline _ s1).1 in
         let some : Bool = nat_lt 0 (length (map level_of (squares_of before))) in
-        let p : ((is_command 82 line || is_command 71 line) && some) ≡ false =
-        (passed ((is_command 82 line || is_command 71 line) && some) LateHeader _ s2).0 in
-        let q : some ≡ false = ap (λ v. (v || is_command 71 line) && some) (sym r) ∙ p in
+        let p : ((is_letter_command 82 line || is_letter_command 71 line) && some) ≡ false =
+        (passed ((is_letter_command 82 line || is_letter_command 71 line) && some) LateHeader _ s2).0 in
+        let q : some ≡ false = ap (λ v. (v || is_letter_command 71 line) && some) (sym r) ∙ p in
         none_there (squares_of before) q
       where
         none_there : (xs : List Line) → nat_lt 0 (length (map level_of xs)) ≡ false → xs ≡ []
@@ -107,7 +108,7 @@ module _ (top : ℕ) where
       not_false true h = refl
       not_false false h = cc
 
-  pub row_fits : (row : List ℕ) → row_byte row < 256
+  pub row_fits : (row : List ℕ) → byte_of_row row < 256
   row_fits row = omega (
     arith,
     cond_le (slice_index row 0 == 42) 128,
@@ -120,16 +121,16 @@ module _ (top : ℕ) where
     cond_le (slice_index row 7 == 42) 1,
   )
 
-  rows_fit : (n : ℕ) (rows : List (List ℕ)) (empties : ℕ) → AllByRecursion (λ row. row < 256) (take n (map row_byte rows ++ replicate empties 0))
+  rows_fit : (n : ℕ) (rows : List (List ℕ)) (empties : ℕ) → AllByRecursion (λ row. row < 256) (take n (map byte_of_row rows ++ replicate empties 0))
   rows_fit zero rows empties = tt
   rows_fit (suc n) [] zero = tt
   rows_fit (suc n) [] (suc empties) = (omega arith, rows_fit n [] empties)
   rows_fit (suc n) (row ∷ rows) empties = (row_fits row, rows_fit n rows empties)
 
-  eight : (rows : List (List ℕ)) → length (take 8 (map row_byte rows ++ replicate 8 0)) ≡ 8
-  eight rows = length-take-le 8 (map row_byte rows ++ replicate 8 0) (omega (arith, length-append (map row_byte rows) (replicate 8 0)))
+  eight : (rows : List (List ℕ)) → length (take 8 (map byte_of_row rows ++ replicate 8 0)) ≡ 8
+  eight rows = length-take-le 8 (map byte_of_row rows ++ replicate 8 0) (omega (arith, length-append (map byte_of_row rows) (replicate 8 0)))
 
-  no_leaf : (ns : List ℕ) (rows : List ℕ) → quad_of ns ≡ Some (Leaf rows) → ⊥
+  no_leaf : (ns : List ℕ) (rows : List ℕ) → quad_of_numbers ns ≡ Some (Leaf rows) → ⊥
   no_leaf [] rows h = cc
   no_leaf (a ∷ []) rows h = cc
   no_leaf (a ∷ b ∷ []) rows h = cc
@@ -138,14 +139,16 @@ module _ (top : ℕ) where
   no_leaf (a ∷ b ∷ c ∷ d ∷ e ∷ []) rows h = cc
   no_leaf (a ∷ b ∷ c ∷ d ∷ e ∷ f ∷ ns) rows h = cc
 
-  which_rows : (u v w : Bool) (text rows ns : List ℕ) → cond u (cond v (Some (Leaf (leaf_bytes text))) None) (cond w (quad_of ns) None) ≡ Some (Leaf rows)
+  which_rows : (u v w : Bool) (text rows ns : List ℕ) → cond u (cond v (Some (Leaf (leaf_bytes text))) None) (cond w (quad_of_numbers ns) None)
+      ≡ Some (Leaf rows)
       → rows ≡ leaf_bytes text
   which_rows true true w text rows ns h = cc
   which_rows true false w text rows ns h = cc
   which_rows false v true text rows ns h = absurd (no_leaf ns rows h)
   which_rows false v false text rows ns h = cc
 
-  node_is_square : (rule : Rule) (levels : List ℕ) (text : List ℕ) (square : Line) → broken_by_node top rule levels text ≡ None → square_of text ≡ Some square
+  node_is_square : (rule : Rule) (levels : List ℕ) (text : List ℕ) (square : Line) → broken_by_node top rule levels text ≡ None → square_of_text text
+      ≡ Some square
       → IsSquare top rule levels square
   node_is_square rule levels text (Leaf rows) h e =
       let r : rows ≡ leaf_bytes text = which_rows (is_leaf_byte (slice_index text 0)) (is_leaf text) (list_all is_digit_text (words_of text)) text rows
@@ -199,8 +202,8 @@ module _ (top : ℕ) where
   not_command true o h = cc
   not_command false o h = refl
 
-  module _ (header : List ℕ) (lines : List (List ℕ)) (line : List ℕ) (e : broken top (header ∷ lines) line ≡ None) (v : Valid (header ∷ lines)) where
-    stands : broken_behind top (header ∷ lines) line ≡ None
+  module _ (header : List ℕ) (lines : List (List ℕ)) (line : List ℕ) (e : broken_rule top (header ∷ lines) line ≡ None) (v : Valid (header ∷ lines)) where
+    stands : broken_rule_after top (header ∷ lines) line ≡ None
     stands = behind header lines line e
 
     with_rule : (r : Option Rule) → rule_on line ≡ r → square_on line ≡ None → Valid (header ∷ (lines ++ line ∷ []))
@@ -209,33 +212,34 @@ module _ (top : ℕ) where
         let Q : Rule → Type 0 = λ rule. AreSquares top rule (squares_of (header ∷ lines)) in
         subst P (sym (squares_none (header ∷ lines) line s)) (subst Q (sym (rule_same header lines line h)) v)
     with_rule (Some rule) h s =
-        let c : is_command 82 line ≡ true = (taken (is_command 82 line) (result_ok (rule_of (drop 2 line))) rule h).0 in
+        let c : is_letter_command 82 line ≡ true = (taken (is_letter_command 82 line) (result_ok (rule_of (drop 2 line))) rule h).0 in
         let P : List Line → Type 0 = λ xs. AreSquares top (rule_in_force (header ∷ (lines ++ line ∷ []))) xs in
         subst P (sym (squares_none (header ∷ lines) line s ∙ rule_stands header lines line stands c)) (no_squares _)
 
     with_square : (o : Option Line) → square_on line ≡ o → Valid (header ∷ (lines ++ line ∷ []))
     with_square None h = with_rule (rule_on line) refl h
     with_square (Some square) h =
-        let t = taken (is_node_line line) (square_of (trim line)) square h in
+        let t = taken (is_node_line line) (square_of_text (trim line)) square h in
         let hash : begins_with line (codes "#") ≡ false = not-true _ (right_of_and (not (is_blank line)) _ t.0) in
-        let none : rule_on line ≡ None = not_command (is_command 82 line) (result_ok (rule_of (drop 2 line))) (no_command 82 line hash) in
+        let none : rule_on line ≡ None = not_command (is_letter_command 82 line) (result_ok (rule_of (drop 2 line))) (no_command 82 line hash) in
         let is : IsSquare top (rule_in_force (header ∷ lines)) (map level_of (squares_of (header ∷ lines))) square =
         node_is_square _ _ (trim line) square (node_stands header lines line stands t.0) t.1 in
         let P : List Line → Type 0 = λ xs. AreSquares top (rule_in_force (header ∷ (lines ++ line ∷ []))) xs in
         let Q : Rule → Type 0 = λ rule. AreSquares top rule (squares_of (header ∷ lines) ++ square ∷ []) in
         subst P (sym (squares_some (header ∷ lines) line square h)) (subst Q (sym (rule_same header lines line none)) (add_square _ _ square v is))
 
-  step : (before : List (List ℕ)) (line : List ℕ) → broken top before line ≡ None → Valid before → Valid (before ++ line ∷ [])
+  step : (before : List (List ℕ)) (line : List ℕ) → broken_rule top before line ≡ None → Valid before → Valid (before ++ line ∷ [])
   step [] line e v = no_squares default_rule
   step (header ∷ lines) line e v = with_square header lines line e v (square_on line) refl
 
-  up_to : (lines : List (List ℕ)) → UnbrokenBelow (Accepts top) (broken top) missing lines (length lines) → (n : ℕ) → n ≤ length lines → Valid (take n lines)
+  up_to : (lines : List (List ℕ)) → UnbrokenBelow (AcceptsMacrocell top) (broken_rule top) missing_macrocell_part lines (length lines) → (n : ℕ)
+      → n ≤ length lines → Valid (take n lines)
   up_to lines u zero h = no_squares default_rule
   up_to lines u (suc n) h =
       let more : take n lines ++ get_or lines n [] ∷ [] ≡ take (suc n) lines = sym (take_more lines n [] (omega arith)) ∙ ap (λ k. take k lines) (add-one n) in
       subst Valid more (step (take n lines) (get_or lines n []) (u n (omega arith)) (up_to lines u n (omega arith)))
 
   -- Where no line breaks a rule, each square is one under the rule in force at the end: no `#R` comes behind a square.
-  pub squares_valid : (lines : List (List ℕ)) → UnbrokenBelow (Accepts top) (broken top) missing lines (length lines)
+  pub squares_valid : (lines : List (List ℕ)) → UnbrokenBelow (AcceptsMacrocell top) (broken_rule top) missing_macrocell_part lines (length lines)
       → AreSquares top (rule_in_force lines) (squares_of lines)
   squares_valid lines u = subst Valid (take-length lines) (up_to lines u (length lines) (omega arith))

@@ -4,9 +4,9 @@ use Rattle.std.specs.List.{list_all, prefix_len}
 use Rattle.std.specs.Simd.Lanes.{mask_l, top}
 use Rattle.std.proofs.lemmas.Bool.Decides.{nat_tests}
 use mathlib.Core.Bool.{and-false}
-use Rattle.life_mc.specs.Reading.{row_byte}
+use Rattle.life_mc.specs.Reading.{byte_of_row}
 use Rattle.life_mc.specs.Grammar.{is_cell, is_row}
-use Rattle.life_mc.specs.Standing.{first_row, front_cells}
+use Rattle.life_mc.specs.Standing.{first_row, leading_cells}
 use Rattle.life_mc.proofs.Leaves.{fits}
 use Rattle.life_mc.proofs.TestFacts.{weigh, at_most_one}
 
@@ -55,13 +55,13 @@ one_more : (a b : ℕ) → a ≡ b → 1 + a ≡ suc b
 one_more a b h = omega (arith, h)
 
 -- the first mark is behind the cells in front
-pub first_other : (n : ℕ) (text : List ℕ) → prefix_len (λ b. not (not (is_cell b))) (take n text ++ 36 ∷ []) ≡ front_cells n text
+pub first_other : (n : ℕ) (text : List ℕ) → prefix_len (λ b. not (not (is_cell b))) (take n text ++ 36 ∷ []) ≡ leading_cells n text
 first_other zero text = refl
 first_other (suc n) [] = refl
 first_other (suc n) (b ∷ text) = by (is_cell b) (first_other n text)
   where
-    by : (v : Bool) → prefix_len (λ b. not (not (is_cell b))) (take n text ++ 36 ∷ []) ≡ front_cells n text
-        → cond (not (not v)) (1 + prefix_len (λ b. not (not (is_cell b))) (take n text ++ 36 ∷ [])) 0 ≡ cond v (suc (front_cells n text)) 0
+    by : (v : Bool) → prefix_len (λ b. not (not (is_cell b))) (take n text ++ 36 ∷ []) ≡ leading_cells n text
+        → cond (not (not v)) (1 + prefix_len (λ b. not (not (is_cell b))) (take n text ++ 36 ∷ [])) 0 ≡ cond v (suc (leading_cells n text)) 0
     by true h = one_more _ _ h
     by false h = refl
 
@@ -113,7 +113,7 @@ mark_at text k = cond (top 7 (cond (get_or (take 8 text ++ take 8 text) k 0 == 4
 pub eight_marked : (text : List ℕ) → 8 ≤ length text
     → (mark_at text 7 + 2 * (mark_at text 6
     + 2 * (mark_at text 5 + 2 * (mark_at text 4 + 2 * (mark_at text 3 + 2 * (mark_at text 2 + 2 * (mark_at text 1 + 2 * (mark_at text 0 + 0))))))))
-    % 18446744073709551616 ≡ row_byte (take 8 text)
+    % 18446744073709551616 ≡ byte_of_row (take 8 text)
 eight_marked [] l = absurd (omega (arith, l))
 eight_marked (a ∷ []) l = absurd (omega (arith, l))
 eight_marked (a ∷ b ∷ []) l = absurd (omega (arith, l))
@@ -132,7 +132,7 @@ without row n = row - row % n
 
 columns_of : (k a b c d e f g h : ℕ) (text : List ℕ) → k ≤ 8
     → without (weighed (a == 42) (b == 42) (c == 42) (d == 42) (e == 42) (f == 42) (g == 42) (h == 42)) (2 ^ (8 - k))
-    ≡ row_byte (take k (a ∷ b ∷ c ∷ d ∷ e ∷ f ∷ g ∷ h ∷ text))
+    ≡ byte_of_row (take k (a ∷ b ∷ c ∷ d ∷ e ∷ f ∷ g ∷ h ∷ text))
 columns_of k a b c d e f g h text l = by k l (weigh (a == 42) 128) (weigh (b == 42) 64) (weigh (c == 42) 32) (weigh (d == 42) 16) (weigh (e == 42) 8)
     (weigh (f == 42) 4) (weigh (g == 42) 2)
     (at_most_one (a == 42)) (at_most_one (b == 42)) (at_most_one (c == 42)) (at_most_one (d == 42)) (at_most_one (e == 42)) (at_most_one (f == 42))
@@ -145,7 +145,7 @@ columns_of k a b c d e f g h text l = by k l (weigh (a == 42) 128) (weigh (b == 
         → cond (a == 42) 1 0 ≤ 1 → cond (b == 42) 1 0 ≤ 1 → cond (c == 42) 1 0 ≤ 1 → cond (d == 42) 1 0 ≤ 1
         → cond (e == 42) 1 0 ≤ 1 → cond (f == 42) 1 0 ≤ 1 → cond (g == 42) 1 0 ≤ 1 → cond (h == 42) 1 0 ≤ 1
         → without (weighed (a == 42) (b == 42) (c == 42) (d == 42) (e == 42) (f == 42) (g == 42) (h == 42)) (2 ^ (8 - k))
-        ≡ row_byte (take k (a ∷ b ∷ c ∷ d ∷ e ∷ f ∷ g ∷ h ∷ text))
+        ≡ byte_of_row (take k (a ∷ b ∷ c ∷ d ∷ e ∷ f ∷ g ∷ h ∷ text))
     by zero l wa wb wc wd we wf wg ma mb mc md me mf mg mh = omega (arith, wa, wb, wc, wd, we, wf, wg, ma, mb, mc, md, me, mf, mg, mh)
     by (suc zero) l wa wb wc wd we wf wg ma mb mc md me mf mg mh = omega (arith, wa, wb, wc, wd, we, wf, wg, ma, mb, mc, md, me, mf, mg, mh)
     by (suc (suc zero)) l wa wb wc wd we wf wg ma mb mc md me mf mg mh = omega (arith, wa, wb, wc, wd, we, wf, wg, ma, mb, mc, md, me, mf, mg, mh)
@@ -161,8 +161,8 @@ columns_of k a b c d e f g h text l = by k l (weigh (a == 42) 128) (weigh (b == 
         (arith, wa, wb, wc, wd, we, wf, wg, ma, mb, mc, md, me, mf, mg, mh)
     by (suc (suc (suc (suc (suc (suc (suc (suc (suc k))))))))) l wa wb wc wd we wf wg ma mb mc md me mf mg mh = absurd (omega (arith, l))
 
-pub columns_in_front : (k : ℕ) (text : List ℕ) → k ≤ 8 → 8 ≤ length text → row_byte (take 8 text) - row_byte (take 8 text) % 2 ^ (8 - k)
-    ≡ row_byte (take k text)
+pub columns_in_front : (k : ℕ) (text : List ℕ) → k ≤ 8 → 8 ≤ length text → byte_of_row (take 8 text) - byte_of_row (take 8 text) % 2 ^ (8 - k)
+    ≡ byte_of_row (take k text)
 columns_in_front k ([]) l m = absurd (omega (arith, m))
 columns_in_front k (a ∷ []) l m = absurd (omega (arith, m))
 columns_in_front k (a ∷ b ∷ []) l m = absurd (omega (arith, m))
@@ -184,34 +184,34 @@ no_end b h = grind (arith, nat_tests)
 is_end : (b : ℕ) → b ≡ 36 → (b == 36) ≡ true
 is_end b h = grind (arith, nat_tests)
 
-pub front_within : (n : ℕ) (text : List ℕ) → front_cells n text ≤ n
+pub front_within : (n : ℕ) (text : List ℕ) → leading_cells n text ≤ n
 front_within zero text = omega arith
 front_within (suc n) [] = omega arith
 front_within (suc n) (b ∷ text) = by (is_cell b) (front_within n text)
   where
-    by : (v : Bool) → front_cells n text ≤ n → cond v (suc (front_cells n text)) 0 ≤ suc n
+    by : (v : Bool) → leading_cells n text ≤ n → cond v (suc (leading_cells n text)) 0 ≤ suc n
     by true h = omega (arith, h)
     by false h = omega arith
 
-pub front_is_cells : (n : ℕ) (text : List ℕ) → list_all is_cell (take (front_cells n text) text) ≡ true
+pub front_is_cells : (n : ℕ) (text : List ℕ) → list_all is_cell (take (leading_cells n text) text) ≡ true
 front_is_cells zero text = refl
 front_is_cells (suc n) [] = refl
 front_is_cells (suc n) (b ∷ text) = by (is_cell b) refl (front_is_cells n text)
   where
-    by : (v : Bool) → is_cell b ≡ v → list_all is_cell (take (front_cells n text) text) ≡ true
-        → list_all is_cell (take (cond v (suc (front_cells n text)) 0) (b ∷ text)) ≡ true
-    by true e h = ap (λ w. w && list_all is_cell (take (front_cells n text) text)) e ∙ h
+    by : (v : Bool) → is_cell b ≡ v → list_all is_cell (take (leading_cells n text) text) ≡ true
+        → list_all is_cell (take (cond v (suc (leading_cells n text)) 0) (b ∷ text)) ≡ true
+    by true e h = ap (λ w. w && list_all is_cell (take (leading_cells n text) text)) e ∙ h
     by false e h = refl
 
 -- where `$` is behind the cells in front, they are the row
-pub row_in_front : (n : ℕ) (text : List ℕ) → n < length text → get_or text (front_cells n text) 0 ≡ 36 → first_row text ≡ take (front_cells n text) text
+pub row_in_front : (n : ℕ) (text : List ℕ) → n < length text → get_or text (leading_cells n text) 0 ≡ 36 → first_row text ≡ take (leading_cells n text) text
 row_in_front n [] l h = absurd (omega (arith, l))
 row_in_front zero (b ∷ text) l h = rw (is_end b h) refl
 row_in_front (suc n) (b ∷ text) l h = by (is_cell b) refl h (row_in_front n text (omega (arith, l)))
   where
-    by : (v : Bool) → is_cell b ≡ v → get_or (b ∷ text) (cond v (suc (front_cells n text)) 0) 0 ≡ 36
-        → (get_or text (front_cells n text) 0 ≡ 36 → first_row text ≡ take (front_cells n text) text)
-        → first_row (b ∷ text) ≡ take (cond v (suc (front_cells n text)) 0) (b ∷ text)
+    by : (v : Bool) → is_cell b ≡ v → get_or (b ∷ text) (cond v (suc (leading_cells n text)) 0) 0 ≡ 36
+        → (get_or text (leading_cells n text) 0 ≡ 36 → first_row text ≡ take (leading_cells n text) text)
+        → first_row (b ∷ text) ≡ take (cond v (suc (leading_cells n text)) 0) (b ∷ text)
     by true e h ih = rw (cell_goes_on b e) (ap (λ (t : List ℕ). b ∷ t) (ih h))
     by false e h ih = rw (is_end b h) refl
 
@@ -221,10 +221,11 @@ shorter (suc k) [] = omega arith
 shorter (suc k) (b ∷ text) = omega (arith, shorter k text)
 
 -- and it is one of a leaf
-pub front_is_row : (text : List ℕ) → is_row (take (front_cells 8 text) text) ≡ true
+pub front_is_row : (text : List ℕ) → is_row (take (leading_cells 8 text) text) ≡ true
 front_is_row text =
-    let row = take (front_cells 8 text) text in
-    ap (λ v. v && nat_le (length row) 8) (front_is_cells 8 text) ∙ le-leb (length row) 8 (omega (arith, shorter (front_cells 8 text) text, front_within 8 text))
+    let row = take (leading_cells 8 text) text in
+    ap (λ v. v && nat_le (length row) 8) (front_is_cells 8 text)
+    ∙ le-leb (length row) 8 (omega (arith, shorter (leading_cells 8 text) text, front_within 8 text))
 
 -- the bit of the first of the last n columns
 abbrev pub last_bit : ℕ → ℕ
@@ -237,13 +238,13 @@ half_of zero = refl
 half_of (suc n) = omega arith
 
 -- where another byte is there, the row is none of a leaf
-pub no_row_in_front : (n : ℕ) (text : List ℕ) → n < length text → (get_or text (front_cells n text) 0 ≡ 36 → ⊥) → fits (last_bit n) (first_row text) ≡ false
+pub no_row_in_front : (n : ℕ) (text : List ℕ) → n < length text → (get_or text (leading_cells n text) 0 ≡ 36 → ⊥) → fits (last_bit n) (first_row text) ≡ false
 no_row_in_front n [] l h = absurd (omega (arith, l))
 no_row_in_front zero (b ∷ text) l h = rw (no_end b h) (ap (λ v. v && fits (0 / 2) (first_row text)) (and-false (is_cell b)))
 no_row_in_front (suc n) (b ∷ text) l h = by (is_cell b) refl h (no_row_in_front n text (omega (arith, l)))
   where
-    by : (v : Bool) → is_cell b ≡ v → (get_or (b ∷ text) (cond v (suc (front_cells n text)) 0) 0 ≡ 36 → ⊥)
-        → ((get_or text (front_cells n text) 0 ≡ 36 → ⊥) → fits (last_bit n) (first_row text) ≡ false)
+    by : (v : Bool) → is_cell b ≡ v → (get_or (b ∷ text) (cond v (suc (leading_cells n text)) 0) 0 ≡ 36 → ⊥)
+        → ((get_or text (leading_cells n text) 0 ≡ 36 → ⊥) → fits (last_bit n) (first_row text) ≡ false)
         → fits (last_bit (suc n)) (first_row (b ∷ text)) ≡ false
     by true e h ih =
         rw (cell_goes_on b e) (ap (λ k. (is_cell b && nat_lt 0 (last_bit (suc n))) && fits k (first_row text)) (half_of n)

@@ -7,10 +7,10 @@ use mathlib.Core.Bool.{and-true, and-false}
 use Rattle.life_base.proofs.FrontDigits.{digit_text_in_front}
 use Rattle.life_base.proofs.WordEnds.{ends, further, words_in}
 use Rattle.life_base.proofs.Basics.{left_of_and}
-use Rattle.life_base.specs.Numbers.{capped}
+use Rattle.life_base.specs.Numbers.{capped_number}
 use Rattle.life_base.specs.Text.{is_empty, is_blank, is_whitespace, trim_start, words_of, is_digit_text, value_of, with_word}
 use Rattle.life_mc.specs.Standing.{begins_with_number, quad_words}
-use Rattle.life_mc.specs.Reading.{quad_of}
+use Rattle.life_mc.specs.Reading.{quad_of_numbers}
 use Rattle.life_mc.specs.declared.line.Line.{Line}
 use Rattle.life_mc.specs.declared.line.Line.TheVariants.{Quad}
 
@@ -101,7 +101,8 @@ more_than_five a b c d e [] h = cc
 more_than_five a b c d e (f ∷ rest) h = either (list_all is_digit_text (a ∷ b ∷ c ∷ d ∷ e ∷ f ∷ rest))
 
 abbrev pub all_five : List ℕ → List ℕ → List ℕ → List ℕ → List ℕ → Option Line
-all_five a b c d e = Some (Quad (capped (value_of a)) (capped (value_of b)) (capped (value_of c)) (capped (value_of d)) (capped (value_of e)))
+all_five a b c d e = Some (Quad (capped_number (value_of a)) (capped_number (value_of b)) (capped_number (value_of c)) (capped_number (value_of d))
+    (capped_number (value_of e)))
 
 just_five : (a b c d e : List ℕ) (rest : List (List ℕ)) → is_empty rest ≡ true → is_digit_text a ≡ true → is_digit_text b ≡ true → is_digit_text c ≡ true
     → is_digit_text d ≡ true → is_digit_text e ≡ true → quad_words (a ∷ b ∷ c ∷ d ∷ e ∷ rest) ≡ all_five a b c d e

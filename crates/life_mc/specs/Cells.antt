@@ -1,6 +1,6 @@
 -- The state of each cell of the plane in a macrocell file. The south-east quarter begins at (0, 0), which is the project's own (Golly Help: at (0, 1)).
 use Rattle.std.specs.Prelude.{ℕ, zero, suc, ◌-◌, ◌/◌, ◌%◌, ◌^◌, ◌&&◌, List, [], ◌∷◌, length, nat_lt, if◌then◌else◌, slice_index, Some, None, ℤ, pos, negsuc, ◌+ℤ◌}
-use Rattle.life_mc.specs.Macrocell.{Macrocell, level_of, numbered}
+use Rattle.life_mc.specs.Macrocell.{Macrocell, level_of, item_of_number}
 use Rattle.life_mc.specs.declared.line.Line.{Line}
 use Rattle.life_mc.specs.declared.line.Line.TheVariants.{Leaf, Quad}
 
@@ -14,13 +14,13 @@ leaf_cell rows x y = slice_index rows y / 2 ^ (7 - x) % 2
 
 -- The state in column x and row y of a square, counted from its north-west corner. At level 0 the number is the
 -- state itself; above, 0 is the empty square, and every other number names a line.
-abbrev pub cell_in : List Line → ℕ → ℕ → ℕ → ℕ → ℕ
-cell_in lines zero number x y = number
-cell_in lines (suc k) number x y = elim (numbered lines number) [
+abbrev pub cell_in_node : List Line → ℕ → ℕ → ℕ → ℕ → ℕ
+cell_in_node lines zero number x y = number
+cell_in_node lines (suc k) number x y = elim (item_of_number lines number) [
   | None ↦ 0
   | Some line ↦ elim line [
     | Leaf rows ↦ leaf_cell rows x y
-    | Quad level nw ne sw se ↦ cell_in lines k (quarter_at (2 ^ k) x y nw ne sw se) (x % 2 ^ k) (y % 2 ^ k)
+    | Quad level nw ne sw se ↦ cell_in_node lines k (quarter_at (2 ^ k) x y nw ne sw se) (x % 2 ^ k) (y % 2 ^ k)
   ]
 ]
 
@@ -32,7 +32,7 @@ root_level (line ∷ next ∷ lines) = root_level (next ∷ lines)
 
 -- the state of a place counted from the root's corner, and 0 outside the root
 abbrev pub cell_from : List Line → ℕ → ℤ → ℤ → ℕ
-cell_from lines level (pos x) (pos y) = if nat_lt x (2 ^ level) && nat_lt y (2 ^ level) then cell_in lines level (length lines) x y else 0
+cell_from lines level (pos x) (pos y) = if nat_lt x (2 ^ level) && nat_lt y (2 ^ level) then cell_in_node lines level (length lines) x y else 0
 cell_from lines level (pos x) (negsuc y) = 0
 cell_from lines level (negsuc x) y = 0
 
@@ -45,8 +45,8 @@ cell_of (line ∷ lines) x y =
     let half = pos (2 ^ (level - 1)) in
     cell_from (line ∷ lines) level (x +ℤ half) (y +ℤ half)
 
-abbrev pub cell : Macrocell → ℤ → ℤ → ℕ
-cell file x y = cell_of file.lines x y
+abbrev pub macrocell_cell : Macrocell → ℤ → ℤ → ℕ
+macrocell_cell file x y = cell_of file.lines x y
 
 -- the number of node lines
 abbrev pub node_lines : Macrocell → ℕ

@@ -32,14 +32,14 @@ Separates (text ∷ texts) line =
 -- ---- the lines behind the first
 
 -- A comment begins with `#` and is no line that means something.
-pub record IsComment (line : List ℕ) : Type 0 where
+pub record IsMacrocellComment (line : List ℕ) : Type 0 where
   pub hash : Begins (codes "#") line
   pub no_frame : Begins (codes "#FRAME") line → ⊥
   pub no_rule : (rest : List ℕ) → IsCommand (codes "#R") rest line → ⊥
   pub no_generation : (rest : List ℕ) → IsCommand (codes "#G") rest line → ⊥
 
 -- A rule line is `#R` and the text of a rule.
-pub record IsRuleLine (line : List ℕ) (rule : Rule) : Type 0 where
+pub record IsMacrocellRuleLine (line : List ℕ) (rule : Rule) : Type 0 where
   pub text : List ℕ
   pub is : IsCommand (codes "#R") text line
   pub says : rule_of text ≡ Ok rule
@@ -63,8 +63,8 @@ abbrev pub is_row : List ℕ → Bool
 is_row row = list_all is_cell row && nat_le (length row) 8
 
 -- the state of the cell in a column: 1 at `*`; a cell that isn't written is empty
-abbrev pub state_in : List ℕ → ℕ → ℕ
-state_in row column = if slice_index row column == byte "*" then 1 else 0
+abbrev pub state_in_row : List ℕ → ℕ → ℕ
+state_in_row row column = if slice_index row column == byte "*" then 1 else 0
 
 -- A leaf line: at most eight rows that `$` ends, and behind the last `$` further cells where the rows are fewer; the bytes
 -- hold the states of their cells.
@@ -78,7 +78,7 @@ pub record IsLeafLine (line : List ℕ) (bytes : List ℕ) : Type 0 where
   pub full : length rows ≡ 8 → last ≡ []
   pub eight : length bytes ≡ 8
   pub fit : AllByRecursion (λ byte. byte < 256) bytes
-  pub states : (x y : ℕ) → x < 8 → y < 8 → leaf_cell bytes x y ≡ state_in (slice_index_or (rows ++ last ∷ []) y []) x
+  pub states : (x y : ℕ) → x < 8 → y < 8 → leaf_cell bytes x y ≡ state_in_row (slice_index_or (rows ++ last ∷ []) y []) x
 
 -- A quarter line: five digit texts, a level and four numbers.
 pub record IsQuarterLine (line : List ℕ) (level nw ne sw se : ℕ) : Type 0 where
@@ -105,8 +105,8 @@ pub data Form : Type 0 where
 -- the line is of this form
 abbrev pub HasForm : List ℕ → Form → Type 0
 HasForm line blank_line = is_blank line ≡ true
-HasForm line comment_line = IsComment line
-HasForm line (rule_line rule) = IsRuleLine line rule
+HasForm line comment_line = IsMacrocellComment line
+HasForm line (rule_line rule) = IsMacrocellRuleLine line rule
 HasForm line (generation_line generation) = IsGenerationLine line generation
 HasForm line (node_line square) = IsNodeLine line square
 
@@ -136,7 +136,7 @@ are_in_order (node_line square ∷ forms) = list_all is_no_command forms
 are_in_order (form ∷ forms) = are_in_order forms
 
 -- The lines are a file that says this.
-pub record IsFile (top : ℕ) (lines : List (List ℕ)) (file : Macrocell) : Type 0 where
+pub record IsPlainMacrocell (top : ℕ) (lines : List (List ℕ)) (file : Macrocell) : Type 0 where
   pub header : List ℕ
   pub behind : List (List ℕ)
   pub forms : List Form
@@ -151,5 +151,5 @@ pub record IsFile (top : ℕ) (lines : List (List ℕ)) (file : Macrocell) : Typ
   pub valid : AreSquares top file.rule file.lines
 
 -- Lines are such a file exactly if there is a first line and no line breaks a rule, and then they say the same.
-abbrev pub GrammarsAgree : ℕ → Type 0
-GrammarsAgree top = (lines : List (List ℕ)) (file : Macrocell) → IsFile top lines file ↔ AreMacrocell top lines file
+abbrev pub MacrocellGrammarsAgree : ℕ → Type 0
+MacrocellGrammarsAgree top = (lines : List (List ℕ)) (file : Macrocell) → IsPlainMacrocell top lines file ↔ AreMacrocell top lines file

@@ -6,41 +6,41 @@ use Rattle.life_base.specs.declared.fault.Fault.{Fault}
 use Rattle.life_base.specs.declared.kind.Kind.{Kind}
 use Rattle.life_base.specs.declared.kind.Kind.TheVariants.{LineTooLong}
 use Rattle.life_mc.specs.Macrocell.{Macrocell}
-use Rattle.life_mc.specs.Reading.{AreMacrocell, Accepts, Refuses, broken, is_macrocell_kind}
+use Rattle.life_mc.specs.Reading.{AreMacrocell, AcceptsMacrocell, RefusesMacrocell, broken_rule, is_macrocell_kind}
 
 -- lines say one thing at most
-abbrev pub FilesAreUnique : ℕ → Type 0
-FilesAreUnique top = (lines : List (List ℕ)) (a b : Macrocell) → AreMacrocell top lines a → AreMacrocell top lines b → a ≡ b
+abbrev pub MacrocellsAreUnique : ℕ → Type 0
+MacrocellsAreUnique top = (lines : List (List ℕ)) (a b : Macrocell) → AreMacrocell top lines a → AreMacrocell top lines b → a ≡ b
 
 -- refused lines have one fault
-abbrev pub FaultsAreUnique : ℕ → Type 0
-FaultsAreUnique top = (lines : List (List ℕ)) (a b : Fault) → Refuses top lines a → Refuses top lines b → a ≡ b
+abbrev pub MacrocellFaultsAreUnique : ℕ → Type 0
+MacrocellFaultsAreUnique top = (lines : List (List ℕ)) (a b : Fault) → RefusesMacrocell top lines a → RefusesMacrocell top lines b → a ≡ b
 
 -- no line breaks a rule
-abbrev pub AreUnbroken : ℕ → List (List ℕ) → Type 0
-AreUnbroken top lines = (k : ℕ) → k < length lines → broken top (take k lines) (slice_index_or lines k []) ≡ None
+abbrev pub IsUnbrokenMacrocell : ℕ → List (List ℕ) → Type 0
+IsUnbrokenMacrocell top lines = (k : ℕ) → k < length lines → broken_rule top (take k lines) (slice_index_or lines k []) ≡ None
 
 -- lines are the front of a file exactly if no line breaks a rule
-abbrev pub FrontsAreUnbroken : ℕ → Type 0
-FrontsAreUnbroken top = (lines : List (List ℕ)) → Prefix (Accepts top) lines ↔ AreUnbroken top lines
+abbrev pub MacrocellPrefixesAreUnbroken : ℕ → Type 0
+MacrocellPrefixesAreUnbroken top = (lines : List (List ℕ)) → Prefix (AcceptsMacrocell top) lines ↔ IsUnbrokenMacrocell top lines
 
 -- lines, of which there are some, are the front of a file exactly if they are a file: behind the first line any front is whole
-abbrev pub FrontsAreFiles : ℕ → Type 0
-FrontsAreFiles top = (lines : List (List ℕ)) → 0 < length lines → Prefix (Accepts top) lines ↔ Accepts top lines
+abbrev pub MacrocellPrefixesAreFiles : ℕ → Type 0
+MacrocellPrefixesAreFiles top = (lines : List (List ℕ)) → 0 < length lines → Prefix (AcceptsMacrocell top) lines ↔ AcceptsMacrocell top lines
 
 -- a line breaks the rule of lengths exactly if it has more than 2 ^ 20 bytes
-abbrev pub LongLinesBreak : ℕ → Type 0
-LongLinesBreak top = (front : List (List ℕ)) (line : List ℕ) → broken top front line ≡ Some LineTooLong ↔ 2 ^ 20 < length line
+abbrev pub LongMacrocellLinesBreak : ℕ → Type 0
+LongMacrocellLinesBreak top = (front : List (List ℕ)) (line : List ℕ) → broken_rule top front line ≡ Some LineTooLong ↔ 2 ^ 20 < length line
 
 -- each kind of the format names a line
-abbrev pub KindsNameLines : Type 0
-KindsNameLines = (kind : Kind) → is_macrocell_kind kind ≡ true → is_placeless kind ≡ false
+abbrev pub MacrocellKindsNameLines : Type 0
+MacrocellKindsNameLines = (kind : Kind) → is_macrocell_kind kind ≡ true → is_placeless kind ≡ false
 
 -- lines that are no file are refused with one of the kinds of the format
-abbrev pub RefusalsHaveKinds : ℕ → Type 0
-RefusalsHaveKinds top = (lines : List (List ℕ)) (fault : Fault) → Refuses top lines fault → is_macrocell_kind fault.kind ≡ true
+abbrev pub MacrocellRefusalsHaveKinds : ℕ → Type 0
+MacrocellRefusalsHaveKinds top = (lines : List (List ℕ)) (fault : Fault) → RefusesMacrocell top lines fault → is_macrocell_kind fault.kind ≡ true
 
 -- every file of a plane is a file of each wider one, and says the same there
-abbrev pub WiderPlanesKeepFiles : Type 0
-WiderPlanesKeepFiles =
+abbrev pub WiderPlanesKeepMacrocells : Type 0
+WiderPlanesKeepMacrocells =
     (top wider : ℕ) (lines : List (List ℕ)) (file : Macrocell) → top ≤ wider → AreMacrocell top lines file → AreMacrocell wider lines file

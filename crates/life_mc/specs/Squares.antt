@@ -2,8 +2,8 @@
 use Rattle.std.specs.Prelude.{◌≡◌, ℕ, zero, suc, ◌+◌, ◌^◌, ◌<◌, ◌≤◌, List, length, take, Some, None, ℤ}
 use Rattle.life_base.specs.Tree.{Tree, point, quad, depth, blank, state_at, tree_cell, IsFull}
 use Rattle.life_base.specs.declared.rule.Rule.{Rule}
-use Rattle.life_mc.specs.Macrocell.{Macrocell, IsValid, level_of, largest_state, numbered}
-use Rattle.life_mc.specs.Cells.{cell, cell_in, leaf_cell, root_level}
+use Rattle.life_mc.specs.Macrocell.{Macrocell, IsValidMacrocell, level_of, largest_state, item_of_number}
+use Rattle.life_mc.specs.Cells.{macrocell_cell, cell_in_node, leaf_cell, root_level}
 use Rattle.life_mc.specs.declared.line.Line.{Line}
 use Rattle.life_mc.specs.declared.line.Line.TheVariants.{Leaf, Quad}
 
@@ -26,7 +26,7 @@ line_tree tree_for (Quad level nw ne sw se) = quad (tree_for nw) (tree_for ne) (
 -- and a number without a line, as 0, stands for the blank square.
 abbrev pub tree_of : List Line → ℕ → ℕ → Tree
 tree_of lines zero number = point number
-tree_of lines (suc k) number = elim (numbered lines number) [ None ↦ blank (suc k) | Some line ↦ line_tree (tree_of lines k) line ]
+tree_of lines (suc k) number = elim (item_of_number lines number) [ None ↦ blank (suc k) | Some line ↦ line_tree (tree_of lines k) line ]
 
 -- the square of the root, the last line; that of a file without lines is the point 0
 abbrev pub root_tree : List Line → Tree
@@ -43,16 +43,17 @@ pub record StandsForSquare (rule : Rule) (lines : List Line) (level number : ℕ
   pub depth_is : depth (tree_of lines level number) ≡ level
   pub full : IsFull (tree_of lines level number)
   pub states : HasStatesUpTo (largest_state rule) (tree_of lines level number)
-  pub cells : (column row : ℕ) → column < 2 ^ level → row < 2 ^ level → state_at (tree_of lines level number) column row ≡ cell_in lines level number column row
+  pub cells : (column row : ℕ) → column < 2 ^ level → row < 2 ^ level → state_at (tree_of lines level number) column row
+      ≡ cell_in_node lines level number column row
   pub by_front : tree_of (take number lines) level number ≡ tree_of lines level number
 
 -- The number of each line stands for a square of its level, so does that of the root, and the cells of the file are those
 -- of the root's square.
 pub record HasSquares (file : Macrocell) : Type 0 where
-  pub each : (number : ℕ) (line : Line) → numbered file.lines number ≡ Some line → StandsForSquare file.rule file.lines (level_of line) number
+  pub each : (number : ℕ) (line : Line) → item_of_number file.lines number ≡ Some line → StandsForSquare file.rule file.lines (level_of line) number
   pub root : StandsForSquare file.rule file.lines (root_level file.lines) (length file.lines)
-  pub plane : (x y : ℤ) → cell file x y ≡ tree_cell (root_tree file.lines) x y
+  pub plane : (x y : ℤ) → macrocell_cell file x y ≡ tree_cell (root_tree file.lines) x y
 
 -- each node line of a valid file stands for one square
 abbrev pub LinesStandForSquares : ℕ → Type 0
-LinesStandForSquares top = (file : Macrocell) → IsValid top file → HasSquares file
+LinesStandForSquares top = (file : Macrocell) → IsValidMacrocell top file → HasSquares file

@@ -1,56 +1,56 @@
 //! Laws of the macrocell format, over the definitions alone.
 
-ghost use Rattle.life_mc.specs.Words.{MAX_LEVEL, FilesAreValid, LinesAreValid, IsBlankOutside, NodeLinesCounted, GrammarsAgree, FilesAreUnique, FaultsAreUnique, FrontsAreUnbroken, FrontsAreFiles, KindsNameLines, LongLinesBreak, RefusalsHaveKinds, WiderPlanesKeepFiles, LinesBreakByKinds, LinesStandForSquares, TextsReadBack};
+ghost use Rattle.life_mc.specs.Words.{MAX_LEVEL, MacrocellsAreValid, LinesAreValid, MacrocellsAreBlankOutside, NodeLinesCounted, MacrocellGrammarsAgree, MacrocellsAreUnique, MacrocellFaultsAreUnique, MacrocellPrefixesAreUnbroken, MacrocellPrefixesAreFiles, MacrocellKindsNameLines, LongMacrocellLinesBreak, MacrocellRefusalsHaveKinds, WiderPlanesKeepMacrocells, MacrocellLinesBreakByKinds, LinesStandForSquares, TextsReadBack};
 
 /// The format defined as a whole and the format defined by the rule that a line breaks accept the same lines, with the same
 /// meaning.
 pub fn grammars_agree()
-    ensures { GrammarsAgree MAX_LEVEL }
+    ensures { MacrocellGrammarsAgree MAX_LEVEL }
 {}
 
 /// The lines of a file say one rule, one generation and one list of squares.
 pub fn files_are_unique()
-    ensures { FilesAreUnique MAX_LEVEL }
+    ensures { MacrocellsAreUnique MAX_LEVEL }
 {}
 
 /// Lines that are no file have one fault: one place and one kind.
 pub fn faults_are_unique()
-    ensures { FaultsAreUnique MAX_LEVEL }
+    ensures { MacrocellFaultsAreUnique MAX_LEVEL }
 {}
 
 /// Lines can be continued to a file exactly if none of them breaks a rule.
 pub fn fronts_are_unbroken()
-    ensures { FrontsAreUnbroken MAX_LEVEL }
+    ensures { MacrocellPrefixesAreUnbroken MAX_LEVEL }
 {}
 
 /// One or more lines are the prefix of a file exactly if they are a file.
 pub fn fronts_are_files()
-    ensures { FrontsAreFiles MAX_LEVEL }
+    ensures { MacrocellPrefixesAreFiles MAX_LEVEL }
 {}
 
 /// A line is refused as too long exactly if it has more than 2^20 bytes.
 pub fn long_lines_break()
-    ensures { LongLinesBreak MAX_LEVEL }
+    ensures { LongMacrocellLinesBreak MAX_LEVEL }
 {}
 
 /// A line that breaks a rule breaks it with one of the kinds of the format.
 pub fn lines_break_by_kinds()
-    ensures { LinesBreakByKinds MAX_LEVEL }
+    ensures { MacrocellLinesBreakByKinds MAX_LEVEL }
 {}
 
 /// Each kind of the format names a line.
 pub fn kinds_name_lines()
-    ensures { KindsNameLines }
+    ensures { MacrocellKindsNameLines }
 {}
 
 /// Lines that are no file are refused with one of the kinds of the format.
 pub fn refusals_have_kinds()
-    ensures { RefusalsHaveKinds MAX_LEVEL }
+    ensures { MacrocellRefusalsHaveKinds MAX_LEVEL }
 {}
 
 /// The rule, the generation and the squares that the bytes of a file say are valid.
 pub fn files_are_valid()
-    ensures { FilesAreValid MAX_LEVEL }
+    ensures { MacrocellsAreValid MAX_LEVEL }
 {}
 
 /// The rule, the generation and the squares that the lines of a file say are valid.
@@ -60,7 +60,7 @@ pub fn lines_are_valid()
 
 /// Every cell outside the plane has state 0.
 pub fn blank_outside()
-    ensures { IsBlankOutside MAX_LEVEL }
+    ensures { MacrocellsAreBlankOutside MAX_LEVEL }
 {}
 
 /// The text of each valid file of fewer than 10^64 node lines says that file.
@@ -80,5 +80,5 @@ pub fn node_lines_counted()
 
 /// Every macrocell file of a plane is one of each wider plane, and says the same there.
 pub fn wider_planes_keep_files()
-    ensures { WiderPlanesKeepFiles }
+    ensures { WiderPlanesKeepMacrocells }
 {}

@@ -1,7 +1,7 @@
 //! The rows of a leaf line.
 
 ghost use Rattle.std.specs.Prelude.{◌≡◌, ◌<◌, ◌≤◌, ◌+◌, ◌-◌, ◌%◌, ◌^◌, ◌==◌, take, map, true, false, drop, length, MatchOption};
-ghost use Rattle.life_mc.specs.Words.{mask_l, is_leaf, leaf_bytes, row_byte, first_row, front_cells, TellsRow};
+ghost use Rattle.life_mc.specs.Words.{mask_l, is_leaf, leaf_bytes, byte_of_row, first_row, leading_cells, TellsRow};
 
 use std::simd::prelude::*;
 
@@ -18,7 +18,7 @@ fn places(text: &[u8], byte: u8) -> u64
 /// How many of the first eight bytes of a text are cells, up to the first that is none. Bit 8 represents the byte after these.
 fn cells_in_front(text: &[u8]) -> usize
     requires { 8 ≤ length text.now }
-    ensures { result ≡ front_cells 8 text.now }
+    ensures { result ≡ leading_cells 8 text.now }
 {
     let cells = places(text, b'*') + places(text, b'.');
     (511 - cells).trailing_zeros() as usize
@@ -27,7 +27,7 @@ fn cells_in_front(text: &[u8]) -> usize
 /// The first eight bytes of a text as a row.
 fn eight_columns(text: &[u8]) -> u8
     requires { 8 ≤ length text.now }
-    ensures { result ≡ row_byte (take 8 text.now) }
+    ensures { result ≡ byte_of_row (take 8 text.now) }
 {
     let bytes = u8x8::from_slice(text).reverse();
     bytes.simd_eq(u8x8::splat(b'*')).to_bitmask() as u8

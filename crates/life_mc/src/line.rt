@@ -1,7 +1,7 @@
 //! The lines of a macrocell file: what one is, and the square that a node line writes.
 
 ghost use Rattle.std.specs.Prelude.{◌≡◌, ◌<◌, ◌-◌, ◌^◌, length, true, None, Some, Err, MatchResult, ◌⊎◌};
-ghost use Rattle.life_mc.specs.Words.{trim, value_of, u64_of, Memory, result_err, is_command, is_node_line, broken_after, IsCommandRead, IsParsed};
+ghost use Rattle.life_mc.specs.Words.{trim, value_of, u64_of, Memory, result_err, is_letter_command, is_node_line, broken_after, IsCommandRead, IsParsed};
 
 use crate::node::read_node;
 use life_base::{Kind, MAX_LEVEL, Rule, begins_with, is_blank, is_whitespace, read_u64, trimmed};
@@ -35,7 +35,7 @@ pub(crate) enum ParsedLine {
 
 /// Whether a line is `#` and the letter, followed by whitespace or by its end.
 fn is_command(letter: u8, line: &[u8]) -> bool
-    ensures { result ≡ is_command letter line.now }
+    ensures { result ≡ is_letter_command letter line.now }
 {
     match line {
         [first, second] => *first == b'#' && *second == letter,

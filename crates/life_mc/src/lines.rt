@@ -42,7 +42,7 @@ impl Kept {
     ghost use Rattle.life_mc.specs.Grammar.{form_rule, form_generation, form_square};
     ghost use Rattle.std.specs.Option.{unwrap_or};
     ghost use Rattle.life_mc.specs.Standing.{StandsAfter, form_of, level_in};
-    ghost use Rattle.life_mc.specs.Reading.{broken, square_behind};
+    ghost use Rattle.life_mc.specs.Reading.{broken_rule, square_after};
 
     /// What is kept of no line.
     fn new(alloc: Global) -> Kept
@@ -60,11 +60,11 @@ impl Kept {
     /// Takes the next line, and returns its square, if it has one.
     fn take(&mut self, line: &[u8]) -> Result<Option<Line>, Kind>
         ensures ok { (lines : List (List ℕ)) → StandsAfter MAX_LEVEL lines self.old
-            → IfOk result (λ square. (square ≡ square_behind lines line.now)
+            → IfOk result (λ square. (square ≡ square_after lines line.now)
             × StandsAfter MAX_LEVEL (lines ++ line.now ∷ []) self.new) }
         ensures err { (lines : List (List ℕ)) → StandsAfter MAX_LEVEL lines self.old
             → IfErr result
-            (λ kind. (kind ≡ Memory) ⊎ (broken MAX_LEVEL lines line.now ≡ Some kind)) }
+            (λ kind. (kind ≡ Memory) ⊎ (broken_rule MAX_LEVEL lines line.now ≡ Some kind)) }
     {
         if is_too_long(line) {
             return Err(Kind::LineTooLong);
@@ -148,9 +148,9 @@ impl McLines {
     ghost use Rattle.std.specs.List.{cons_option};
     ghost use Rattle.life_base.specs.Refusal.{Prefix};
     ghost use Rattle.life_base.specs.declared.kind.Kind.TheVariants.{Memory, Spent, NoHeader};
-    ghost use Rattle.life_mc.specs.Grammar.{IsFile};
+    ghost use Rattle.life_mc.specs.Grammar.{IsPlainMacrocell};
     ghost use Rattle.life_mc.specs.Macrocell.{Macrocell};
-    ghost use Rattle.life_mc.specs.Reading.{Accepts, broken, square_behind, squares_of};
+    ghost use Rattle.life_mc.specs.Reading.{AcceptsMacrocell, broken_rule, square_after, squares_of};
 
     /// A reader that no line came to. It takes no memory.
     pub fn new(alloc: Global) -> McLines
@@ -174,14 +174,14 @@ impl McLines {
             (self.new ≡ record { lines = self.old.lines ++ line.now ∷ []; refused = false }) }
 
         // The lines so far are a prefix of a file, and the answer is the square of the line.
-        ensures front { OnOk result (Prefix (Accepts MAX_LEVEL) self.new.lines) }
-        ensures square { IfOk result (λ square. square ≡ square_behind self.old.lines line.now) }
+        ensures front { OnOk result (Prefix (AcceptsMacrocell MAX_LEVEL) self.new.lines) }
+        ensures square { IfOk result (λ square. square ≡ square_after self.old.lines line.now) }
         ensures squares { IfOk result (λ square. squares_of self.new.lines
             ≡ squares_of self.old.lines ++ cons_option square []) }
 
         // A refused line is the first that breaks a rule, and every later call answers Spent.
         ensures fault { IfErr result (λ kind. (kind ≡ Memory) ⊎ (kind ≡ Spent)
-            ⊎ (broken MAX_LEVEL self.old.lines line.now ≡ Some kind)) }
+            ⊎ (broken_rule MAX_LEVEL self.old.lines line.now ≡ Some kind)) }
         ensures spent { IsErrOf result Spent ↔ (self.old.refused ≡ true) }
         ensures refused { OnErr result
             (self.new ≡ record { lines = self.old.lines; refused = true }) }
@@ -203,9 +203,9 @@ impl McLines {
     /// `NoHeader` where no line came, and `Spent` after a refused line.
     pub fn end(self) -> Result<(Rule, u64), Kind>
         ensures file { IfOk result (λ found. (file : Macrocell)
-            × IsFile MAX_LEVEL self.lines file × (found.0 ≡ file.rule)
+            × IsPlainMacrocell MAX_LEVEL self.lines file × (found.0 ≡ file.rule)
             × (found.1 ≡ file.generation)) }
-        ensures whole { self.refused ≡ false → Accepts MAX_LEVEL self.lines → IsOk result }
+        ensures whole { self.refused ≡ false → AcceptsMacrocell MAX_LEVEL self.lines → IsOk result }
         ensures missing { self.refused ≡ false → (IsErrOf result NoHeader ↔ (self.lines ≡ [])) }
         ensures spent { IsErrOf result Spent ↔ (self.refused ≡ true) }
         ensures only { IfErr result (λ kind. (kind ≡ NoHeader) ⊎ (kind ≡ Spent)) }

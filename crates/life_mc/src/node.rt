@@ -1,7 +1,7 @@
 //! One node line.
 
 ghost use Rattle.std.specs.Prelude.{◌≡◌, ◌<◌, ◌≤◌, ◌-◌, ◌^◌, ◌∷◌, [], length, Some, None, MatchResult, slice_index, true};
-ghost use Rattle.life_mc.specs.Words.{largest_state, is_child, is_quarter, broken_by_square, broken_by_node, is_leaf_byte, square_of, Quad, list_all, trim};
+ghost use Rattle.life_mc.specs.Words.{largest_state, is_child, is_quarter, broken_by_square, broken_by_node, is_leaf_byte, square_of_text, Quad, list_all, trim};
 
 use crate::leaf::read_leaf;
 use crate::line::Line;
@@ -102,7 +102,7 @@ fn is_leaf_line(text: &[u8]) -> bool
 #[inline(always)]
 pub(crate) fn read_node(rule: &Rule, levels: &[u8], line: &[u8]) -> Result<Line, Kind>
     requires { length levels.now < 2 ^ 64 - 1 }
-    ensures { MatchResult result (λ square. (square_of (trim line.now) ≡ Some square)
+    ensures { MatchResult result (λ square. (square_of_text (trim line.now) ≡ Some square)
         × (broken_by_node MAX_LEVEL rule.now levels.now (trim line.now) ≡ None))
         (λ kind. broken_by_node MAX_LEVEL rule.now levels.now (trim line.now) ≡ Some kind) }
 {

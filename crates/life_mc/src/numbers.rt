@@ -1,7 +1,7 @@
 //! The numbers of a quarter line, of any length.
 
 ghost use Rattle.std.specs.Prelude.{◌≡◌, ◌∷◌, ◌<◌, ◌≤◌, ◌+◌, ◌-◌, ◌^◌, List, ℕ, Some, true, false, length, take, drop, IfSome, MatchOption};
-ghost use Rattle.life_mc.specs.Words.{is_ascii_digit, list_all, capped, is_blank, is_digit_text, value_of, words_of, is_empty, begins_with_number, quad_words, option_map, Quad};
+ghost use Rattle.life_mc.specs.Words.{is_ascii_digit, list_all, capped_number, is_blank, is_digit_text, value_of, words_of, is_empty, begins_with_number, quad_words, option_map, Quad};
 
 use life_base::{is_whitespace, leading_number, trimmed_start};
 
@@ -61,7 +61,7 @@ fn is_spaced_word(text: &[u8], from: usize, end: usize) -> bool
 fn next_number(text: &[u8]) -> Option<(u64, &[u8])>
     ensures { MatchOption result (begins_with_number (words_of text.now) ≡ false)
         (λ p. (word : List ℕ) × (words_of text.now ≡ word ∷ words_of p.1.now)
-        × (is_digit_text word ≡ true) × (p.0 ≡ capped (value_of word))) }
+        × (is_digit_text word ≡ true) × (p.0 ≡ capped_number (value_of word))) }
 {
     let text = trimmed_start(text);
     let (number, count) = leading_number(text);

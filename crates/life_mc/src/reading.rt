@@ -1,7 +1,7 @@
 //! Macrocell files, read whole.
 
 ghost use Rattle.std.specs.Prelude.{◌≡◌, ◌⊎◌, ◌++◌, ◌∷◌, [], OnOk, IfOk, IfErr, Some, false, true};
-ghost use Rattle.life_mc.specs.Words.{OrMemory, lines_of, Memory, IsFile, AreUnbroken, Refuses, broken, squares_of, is_macrocell_kind};
+ghost use Rattle.life_mc.specs.Words.{OrMemory, lines_of, Memory, IsPlainMacrocell, IsUnbrokenMacrocell, RefusesMacrocell, broken_rule, squares_of, is_macrocell_kind};
 
 use crate::file::McFile;
 use crate::line::Line;
@@ -14,11 +14,11 @@ fn take_line(reader: &mut McLines, squares: &mut Vec<Line>, line: &[u8]) -> Resu
     requires { reader.old.refused ≡ false }
     ensures lines { OnOk result
         (reader.new ≡ record { lines = reader.old.lines ++ line.now ∷ []; refused = false }) }
-    ensures unbroken { OnOk result (AreUnbroken MAX_LEVEL reader.new.lines) }
+    ensures unbroken { OnOk result (IsUnbrokenMacrocell MAX_LEVEL reader.new.lines) }
     ensures squares { OnOk result (squares.old.items ≡ squares_of reader.old.lines
         → squares.new.items ≡ squares_of reader.new.lines) }
     ensures fault { IfErr result
-        (λ kind. (kind ≡ Memory) ⊎ (broken MAX_LEVEL reader.old.lines line.now ≡ Some kind)) }
+        (λ kind. (kind ≡ Memory) ⊎ (broken_rule MAX_LEVEL reader.old.lines line.now ≡ Some kind)) }
 {
     if let Some(square) = reader.line(line)? {
         squares.push(square)?;
@@ -33,9 +33,9 @@ fn take_line(reader: &mut McLines, squares: &mut Vec<Line>, line: &[u8]) -> Resu
 /// The place is the first line after which the bytes can't be continued to a file, 1 where there are no lines, and the kind is that of
 /// the first rule which that line breaks. Where a growth of memory is refused the fault is `Memory`, which names no line.
 pub fn read_mc(alloc: Global, bytes: &[u8]) -> Result<McFile, Fault>
-    ensures ok { IfOk result (λ file. IsFile MAX_LEVEL (lines_of bytes.now) file) }
+    ensures ok { IfOk result (λ file. IsPlainMacrocell MAX_LEVEL (lines_of bytes.now) file) }
     ensures err { IfErr result
-        (λ fault. OrMemory fault (Refuses MAX_LEVEL (lines_of bytes.now) fault)) }
+        (λ fault. OrMemory fault (RefusesMacrocell MAX_LEVEL (lines_of bytes.now) fault)) }
     ensures kinds { IfErr result (λ fault. OrMemory fault (is_macrocell_kind fault.kind ≡ true)) }
 {
     let mut reader = McLines::new(alloc);

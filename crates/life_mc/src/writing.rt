@@ -1,7 +1,7 @@
 //! Macrocell files as texts.
 
 ghost use Rattle.std.specs.Prelude.{◌≡◌, ◌++◌, flat_map, OnOk, IfOk, IfErr};
-ghost use Rattle.life_mc.specs.Words.{fault_of, Memory, mc_text, file_text, front_text, node_text, IsMemory};
+ghost use Rattle.life_mc.specs.Words.{fault_of, Memory, mc_text, file_text, header_lines_text, node_text, IsMemory};
 
 use crate::file::McFile;
 use crate::line::Line;
@@ -26,7 +26,8 @@ fn append_lines(out: &mut Vec<u8>, lines: &[Line]) -> Result<(), Kind>
 ///
 /// `Memory`, and nothing else. What `out` holds then is not promised: drop it.
 pub fn append_front(out: &mut Vec<u8>, rule: &Rule, generation: u64) -> Result<(), Kind>
-    ensures ok { OnOk result (out.new.items ≡ out.old.items ++ front_text rule.now generation) }
+    ensures ok { OnOk result (out.new.items ≡ out.old.items
+        ++ header_lines_text rule.now generation) }
     ensures kind { IfErr result IsMemory }
 {
     append(out, b"[M2] (canonical 1)\n#R ")?;

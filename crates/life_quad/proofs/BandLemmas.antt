@@ -5,7 +5,7 @@ use Rattle.std.proofs.lemmas.Int.{ints}
 use Rattle.life_base.specs.declared.cell.Cell.{Cell}
 use Rattle.life_base.specs.Tree.{Tree, point, quad, depth, state_at, is_blank_tree, IsFull}
 use Rattle.life_quad.specs.Distances.{IsNonzeroAt}
-use Rattle.life_quad.specs.Bands.{Piece, kept, northern, southern, upper, lower, row_cells, band_cells, IsBand, InBand}
+use Rattle.life_quad.specs.Bands.{Piece, piece_unless_blank, northern, southern, upper, lower, row_cells, band_cells, IsBand, InBand}
 use Rattle.life_quad.proofs.NonzeroLemmas.{InQuarter, in_nw, in_ne, in_sw, in_se, quarter_of, from_quarter, blank_has_none}
 use Rattle.life_base.proofs.Basics.{double}
 use Rattle.life_base.proofs.Squares.{state_nw, state_ne, state_sw, state_se}
@@ -19,7 +19,7 @@ IsBand-west k west other (p ∷ band) le h = let w = h.3 in (h.0, h.1, h.2, omeg
 
 -- a square in front of a band, if it isn't blank
 IsBand-kept : (k : ℕ) (west : ℤ) (t : Tree) (column : ℤ) (band : List Piece) → IsFull t → depth t ≡ k → west ≤ℤ column → IsBand k (column +ℤ pos (2 ^ k)) band
-    → IsBand k west (kept t column ++ band)
+    → IsBand k west (piece_unless_blank t column ++ band)
 IsBand-kept k west t column band full d le h = by (is_blank_tree t) refl
   where
     by : (b : Bool) → is_blank_tree t ≡ b → IsBand k west ((if b then [] else piece t column ∷ []) ++ band)
@@ -27,11 +27,11 @@ IsBand-kept k west t column band full d le h = by (is_blank_tree t) refl
     by false e = (full, d, e, le, h)
 
 two_kept : (k : ℕ) (west : ℤ) (a b : Tree) (column : ℤ) (band : List Piece) → IsFull a → depth a ≡ k → IsFull b → depth b ≡ k → west ≤ℤ column
-    → IsBand k (column +ℤ pos (2 ^ suc k)) band → IsBand k west ((kept a column ++ kept b (column +ℤ pos (2 ^ k))) ++ band)
+    → IsBand k (column +ℤ pos (2 ^ suc k)) band → IsBand k west ((piece_unless_blank a column ++ piece_unless_blank b (column +ℤ pos (2 ^ k))) ++ band)
 two_kept k west a b column band fa da fb db le h =
     let twice = double k in
     let end : column +ℤ pos (2 ^ suc k) ≡ (column +ℤ pos (2 ^ k)) +ℤ pos (2 ^ k) = omega (arith, ints) in
-    subst (IsBand k west) (sym (append_assoc (kept a column) (kept b (column +ℤ pos (2 ^ k))) band))
+    subst (IsBand k west) (sym (append_assoc (piece_unless_blank a column) (piece_unless_blank b (column +ℤ pos (2 ^ k))) band))
     (IsBand-kept k west a column _ fa da le (IsBand-kept k _ b (column +ℤ pos (2 ^ k)) band fb db (omega (arith, ints)) (subst (λ z. IsBand k z band) end h)))
 
 upper_step : (k : ℕ) (west : ℤ) (t : Tree) (column : ℤ) (rest : List Piece) → IsFull t → depth t ≡ suc k → west ≤ℤ column
@@ -92,14 +92,14 @@ abbrev pub OnBand : ℤ → List Piece → Cell → Type 0
 OnBand top band c = SomeOf (λ p. IsCellOf top p c) band
 
 -- a square that is kept or blank has the same nonzero cells
-pub kept_has : (top : ℤ) (t : Tree) (column : ℤ) (c : Cell) → IsFull t → IsCellOf top (piece t column) c → OnBand top (kept t column) c
+pub kept_has : (top : ℤ) (t : Tree) (column : ℤ) (c : Cell) → IsFull t → IsCellOf top (piece t column) c → OnBand top (piece_unless_blank t column) c
 kept_has top t column c full h = by (is_blank_tree t) refl
   where
     by : (b : Bool) → is_blank_tree t ≡ b → OnBand top (if b then [] else piece t column ∷ []) c
     by true e = absurd (blank_has_none t full e h.i h.j h.nonzero)
     by false e = inl h
 
-pub kept_from : (top : ℤ) (t : Tree) (column : ℤ) (c : Cell) → OnBand top (kept t column) c → IsCellOf top (piece t column) c
+pub kept_from : (top : ℤ) (t : Tree) (column : ℤ) (c : Cell) → OnBand top (piece_unless_blank t column) c → IsCellOf top (piece t column) c
 kept_from top t column c h = by (is_blank_tree t) h
   where
     by : (b : Bool) → OnBand top (if b then [] else piece t column ∷ []) c → IsCellOf top (piece t column) c
@@ -123,8 +123,9 @@ quarters_have k top (quad a b d g) column c f e h = by (quarter_of a b d g f h.i
     y = h.y
 
     by : InQuarter a b d g (2 ^ depth a) h.i h.j
-        → OnBand top (kept a column ++ kept b (column +ℤ pos (2 ^ k))) c ⊎ OnBand (top +ℤ pos (2 ^ k)) (kept d column ++ kept g (column +ℤ pos (2 ^ k))) c
-    by (in_nw n) = inl (SomeOf-append_left _ (kept a column) _
+        → OnBand top (piece_unless_blank a column ++ piece_unless_blank b (column +ℤ pos (2 ^ k))) c
+        ⊎ OnBand (top +ℤ pos (2 ^ k)) (piece_unless_blank d column ++ piece_unless_blank g (column +ℤ pos (2 ^ k))) c
+    by (in_nw n) = inl (SomeOf-append_left _ (piece_unless_blank a column) _
         (kept_has top a column c f.0 (record {
           i = h.i;
           j = h.j;
@@ -134,14 +135,14 @@ quarters_have k top (quad a b d g) column c f e h = by (quarter_of a b d g f h.i
           state = sym (state_nw a b d g f _ _ n.column n.row)
               ∙ h.state;
         })))
-    by (in_ne m p n) = inl (SomeOf-append_right _ (kept a column) _
+    by (in_ne m p n) = inl (SomeOf-append_right _ (piece_unless_blank a column) _
         (kept_has top b _ c f.1 (record
         { i = m; j = h.j; nonzero = n; x = omega (arith, ints, x, p, half); y = h.y; state = sym (state_ne a b d g f _ _ _ p n.row) ∙ h.state })))
-    by (in_sw m p n) = inr (SomeOf-append_left _ (kept d column) _
+    by (in_sw m p n) = inr (SomeOf-append_left _ (piece_unless_blank d column) _
         (kept_has _ d column c f.2 (record
         { i = h.i; j = m; nonzero = n; x = h.x; y = omega (arith, ints, y, p, half); state = sym (state_sw a b d g f _ _ _ p n.column) ∙ h.state })))
     by (in_se m o p q n) =
-        inr (SomeOf-append_right _ (kept d column) _
+        inr (SomeOf-append_right _ (piece_unless_blank d column) _
         (kept_has _ g _ c f.3 (record {
           i = m;
           j = o;
@@ -154,12 +155,12 @@ quarters_have k top (quad a b d g) column c f e h = by (quarter_of a b d g f h.i
 pub northern_from : (k : ℕ) (top : ℤ) (t : Tree) (column : ℤ) (c : Cell) → IsFull t → depth t ≡ suc k → OnBand top (northern (2 ^ k) t column) c
     → IsCellOf top (piece t column) c
 northern_from k top (point s) column c f e h = absurd h
-northern_from k top (quad a b d g) column c f e h = by (SomeOf-cases _ (kept a column) _ h)
+northern_from k top (quad a b d g) column c f e h = by (SomeOf-cases _ (piece_unless_blank a column) _ h)
   where
     half : 2 ^ depth a ≡ 2 ^ k
     half = let same : depth a ≡ k = omega arith in ap (λ n. 2 ^ n) same
 
-    by : OnBand top (kept a column) c ⊎ OnBand top (kept b (column +ℤ pos (2 ^ k))) c → IsCellOf top (piece (quad a b d g) column) c
+    by : OnBand top (piece_unless_blank a column) c ⊎ OnBand top (piece_unless_blank b (column +ℤ pos (2 ^ k))) c → IsCellOf top (piece (quad a b d g) column) c
     by (inl o) =
         let q = kept_from top a column c o in
         record {
@@ -185,12 +186,12 @@ northern_from k top (quad a b d g) column c f e h = by (SomeOf-cases _ (kept a c
 pub southern_from : (k : ℕ) (top : ℤ) (t : Tree) (column : ℤ) (c : Cell) → IsFull t → depth t ≡ suc k
     → OnBand (top +ℤ pos (2 ^ k)) (southern (2 ^ k) t column) c → IsCellOf top (piece t column) c
 southern_from k top (point s) column c f e h = absurd h
-southern_from k top (quad a b d g) column c f e h = by (SomeOf-cases _ (kept d column) _ h)
+southern_from k top (quad a b d g) column c f e h = by (SomeOf-cases _ (piece_unless_blank d column) _ h)
   where
     half : 2 ^ depth a ≡ 2 ^ k
     half = let same : depth a ≡ k = omega arith in ap (λ n. 2 ^ n) same
 
-    by : OnBand (top +ℤ pos (2 ^ k)) (kept d column) c ⊎ OnBand (top +ℤ pos (2 ^ k)) (kept g (column +ℤ pos (2 ^ k))) c
+    by : OnBand (top +ℤ pos (2 ^ k)) (piece_unless_blank d column) c ⊎ OnBand (top +ℤ pos (2 ^ k)) (piece_unless_blank g (column +ℤ pos (2 ^ k))) c
         → IsCellOf top (piece (quad a b d g) column) c
     by (inl o) =
         let q = kept_from _ d column c o in
@@ -340,7 +341,8 @@ InBand-lower (suc k) band low (west, h) =
 
 -- what a band has after the two northern, or the two southern, quarters of a square were kept
 pub quarters_kept : (half : ℕ) (a b : Tree) (column first second : ℤ) (old more all quarters : List Piece)
-    → quarters ≡ kept a column ++ kept b (column +ℤ pos half) → first ≡ column → second ≡ column +ℤ pos half
-    → more ≡ old ++ kept a first → all ≡ more ++ kept b second → all ≡ old ++ quarters
+    → quarters ≡ piece_unless_blank a column ++ piece_unless_blank b (column +ℤ pos half) → first ≡ column → second ≡ column +ℤ pos half
+    → more ≡ old ++ piece_unless_blank a first → all ≡ more ++ piece_unless_blank b second → all ≡ old ++ quarters
 quarters_kept half a b column first second old more all quarters e f g one two =
-    two ∙ ap (λ l. l ++ kept b second) one ∙ append_assoc old _ _ ∙ (λ i. old ++ (kept a (f i) ++ kept b (g i))) ∙ ap (λ l. old ++ l) (sym e)
+    two ∙ ap (λ l. l ++ piece_unless_blank b second) one ∙ append_assoc old _ _ ∙ (λ i. old ++ (piece_unless_blank a (f i) ++ piece_unless_blank b (g i)))
+    ∙ ap (λ l. old ++ l) (sym e)

@@ -17,8 +17,8 @@ use Rattle.life_quad.specs.contracts.id.NodePartialEq.TheImpl.{eq-value}
 use Rattle.life_base.specs.Tree.{Tree, point, quad, depth, quarters, blank, is_blank_tree, IsFull}
 use Rattle.life_base.proofs.Squares.{depth-blank, is_blank-blank, blank_is, quad_nw, quad_ne, quad_sw, quad_se, point_state, point≢quad}
 use Rattle.life_base.proofs.Basics.{slice_get-last}
-use Rattle.life_quad.specs.Store.{Nodes, two, four, small_square, number_of, id_of, square_of, node_square, squares, levels_of, content, held, is_blank_id, IsNamed, IsEarlier, IsNode, IsSmall, IsSound, IsShared, Knows, IsIdOf, as_small, as_node, Joined, was_there, is_new, Answers, HasSeen}
-use Rattle.life_quad.specs.Keeping.{KeepsSquares, AddsOnly, IsWantKind}
+use Rattle.life_quad.specs.Store.{Nodes, two, four, small_square, small_number_of, id_of, square_of, node_square, squares, levels_of, content, stored_squares, is_blank_id, IsIdWithin, IsEarlier, IsNode, IsSmall, IsSoundStore, IsShared, Knows, IsIdOf, as_small, as_node, Joined, was_there, is_new, AnswersJoin, HasSeen}
+use Rattle.life_quad.specs.Keeping.{KeepsSquares, AddsOnly, IsShortageKind}
 use Rattle.life_quad.specs.IdNumbers.{first_of}
 use Rattle.life_quad.proofs.SmallLemmas.{small_range, quarters_range}
 use Rattle.life_quad.specs.StoreLaws.{Kinds, a_state, a_blank, a_small, a_node, kind_of, Names, the_state, the_blank, the_node, names, same_id, same_ids, small_node, full_content}
@@ -88,7 +88,7 @@ blank_content s id h l u = by (names s id h)
     by (the_blank k m i f) = let e : k ≡ id.0 - 256 = omega arith in f ∙ ap (λ z. blank (suc z)) e
     by (the_node i n l' le at node f) = absurd (omega arith)
 
-pub node_content : (s : Nodes) (id : Id) (n : Node) → IsSound s → 66064 ≤ id.0 → slice_get s.nodes (id.0 - 66064) ≡ Some n
+pub node_content : (s : Nodes) (id : Id) (n : Node) → IsSoundStore s → 66064 ≤ id.0 → slice_get s.nodes (id.0 - 66064) ≡ Some n
     → square_of (squares s.nodes) id ≡ node_square (squares s.nodes) n
 node_content s id n h l at = square_of-node s (id.0 - 66064) n id h at (omega arith)
 
@@ -107,13 +107,13 @@ node_level s id level d h l at = by (kind_of (squares s.nodes) id)
     by (a_node m e) = at ∙ get_or-map depth (squares s.nodes) (id.0 - 66064) (point 0) d lt ∙ sym (ap depth e)
 
 -- a known Id is among the cells, the blank and small squares, and the nodes that have levels
-pub named_level : (s : Nodes) (id : Id) (levels : List ℕ) → levels ≡ levels_of s.nodes → Knows s id → IsNamed (length levels) id
+pub named_level : (s : Nodes) (id : Id) (levels : List ℕ) → levels ≡ levels_of s.nodes → Knows s id → IsIdWithin (length levels) id
 named_level s id levels e h =
     let len : length levels ≡ length s.nodes = ap length e ∙ length-map (squares s.nodes) depth ∙ length-squares s.nodes in
     record { below = omega (arith, h.named.below, len); blank = h.named.blank }
 
 -- a quarter of a node or of a small square is known
-pub knows_quarter : (s : Nodes) (i : ℕ) (id : Id) → IsSound s → i ≤ length s.nodes → IsEarlier s.log i id → Knows s id
+pub knows_quarter : (s : Nodes) (i : ℕ) (id : Id) → IsSoundStore s → i ≤ length s.nodes → IsEarlier s.log i id → Knows s id
 knows_quarter s i id h le e = record { sound = h; named = record { below = omega (arith, e.named.below); blank = e.named.blank }; joined = e.joined }
 
 -- a known small square by its quarters
@@ -175,27 +175,27 @@ module _ {X Y : Type 0} (f g : X → Y) where
       let rest = map_same xs (λ y i. h y (Contains-append_right (x ∷ []) xs y i)) in
       λ i. here i ∷ rest i
 
-pub length-held : (s : Nodes) → length (held s) ≡ length s.log
+pub length-held : (s : Nodes) → length (stored_squares s) ≡ length s.log
 length-held s = length-map s.log (λ k. content s (id_of k))
 
-pub held-none : (s : Nodes) → s.log ≡ [] → held s ≡ []
+pub held-none : (s : Nodes) → s.log ≡ [] → stored_squares s ≡ []
 held-none s e = ap (map (λ k. content s (id_of k))) e
 
 -- the square of an Id that was joined
-pub held_at : (s : Nodes) (k : ℕ) → Contains s.log k → Contains (held s) (content s (id_of k))
+pub held_at : (s : Nodes) (k : ℕ) → Contains s.log k → Contains (stored_squares s) (content s (id_of k))
 held_at s k (i, lt, e) =
     let f : ℕ → Tree = λ j. content s (id_of j) in
     (i, omega (arith, lt, length-held s), get_or-map f s.log i k (f k) lt ∙ ap f e)
 
 -- the Id of a square that is held
-held_from : (s : Nodes) (t : Tree) → Contains (held s) t → (k : ℕ) × Contains s.log k × (content s (id_of k) ≡ t)
+held_from : (s : Nodes) (t : Tree) → Contains (stored_squares s) t → (k : ℕ) × Contains s.log k × (content s (id_of k) ≡ t)
 held_from s t (i, lt, e) =
     let f : ℕ → Tree = λ j. content s (id_of j) in
     let below : i < length s.log = omega (arith, lt, length-held s) in
     (get_or s.log i 0, Contains-get_or s.log i 0 below, sym (get_or-map f s.log i 0 t below) ∙ e)
 
 -- an Id that was joined is known
-knows_logged : (s : Nodes) (k : ℕ) → IsSound s → IsShared s → Contains s.log k → Knows s (id_of k) × (512 ≤ k)
+knows_logged : (s : Nodes) (k : ℕ) → IsSoundStore s → IsShared s → Contains s.log k → Knows s (id_of k) × (512 ≤ k)
 knows_logged s k h u there = by (nat_lt k 66064) refl
   where
     by : (b : Bool) → nat_lt k 66064 ≡ b → Knows s (id_of k) × (512 ≤ k)
@@ -210,7 +210,7 @@ knows_logged s k h u there = by (nat_lt k 66064) refl
         (record { sound = h; named = record { below = u.known k there; blank = λ l. absurd (omega arith) }; joined = λ _ _. there }, omega arith)
 
 -- the Id of a node or of a small square is known
-pub knows_id : (s : Nodes) (n : Node) (id : Id) → IsSound s → IsIdOf s n id → Knows s id
+pub knows_id : (s : Nodes) (n : Node) (id : Id) → IsSoundStore s → IsIdOf s n id → Knows s id
 knows_id s n id h (as_small e there) =
     let r = small_range n.nw n.ne n.sw n.se id.0 e in
     record { sound = h; named = record { below = omega (arith, r.1); blank = λ l. absurd (omega (arith, l, r.0)) }; joined = λ _ _. there }
@@ -224,12 +224,12 @@ id_logged s n id h (as_small e there) = there
 id_logged s n id h (as_node i e at) = subst (Contains s.log) (sym e) (h.logged i (slice_get_within s.nodes i n at))
 
 -- so its square is held
-pub id_held : (s : Nodes) (n : Node) (id : Id) → IsSound s → IsShared s → IsIdOf s n id → Contains (held s) (node_square (squares s.nodes) n)
-id_held s n id h u e = subst (Contains (held s)) (square_of-id s n id h e) (held_at s id.0 (id_logged s n id u e))
+pub id_held : (s : Nodes) (n : Node) (id : Id) → IsSoundStore s → IsShared s → IsIdOf s n id → Contains (stored_squares s) (node_square (squares s.nodes) n)
+id_held s n id h u e = subst (Contains (stored_squares s)) (square_of-id s n id h e) (held_at s id.0 (id_logged s n id u e))
 
 -- a held square of four quarters has their Id
-pub held_id : (s : Nodes) (i : ℕ) (n : Node) → IsSound s → IsShared s → i ≤ length s.nodes → IsNode s.log (squares s.nodes) i n
-    → Contains (held s) (node_square (squares s.nodes) n)
+pub held_id : (s : Nodes) (i : ℕ) (n : Node) → IsSoundStore s → IsShared s → i ≤ length s.nodes → IsNode s.log (squares s.nodes) i n
+    → Contains (stored_squares s) (node_square (squares s.nodes) n)
     → (id : Id) × IsIdOf s n id
 held_id s i n h u le new there = by (held_from s (node_square S n) there)
   where
@@ -255,7 +255,7 @@ held_id s i n h u le new there = by (held_from s (node_square S n) there)
     by (k, logged, e) = at k e (names s (id_of k) (knows_logged s k h u logged).0)
 
 -- the squares of two Ids differ
-pub held-distinct : (s : Nodes) → IsSound s → IsShared s → AllPairs ◌≢◌ (held s)
+pub held-distinct : (s : Nodes) → IsSoundStore s → IsShared s → AllPairs ◌≢◌ (stored_squares s)
 held-distinct s h u i j d before below e =
     let f : ℕ → Tree = λ k. content s (id_of k) in
     let lt : j < length s.log = omega (arith, below, length-held s) in
@@ -269,16 +269,16 @@ held-distinct s h u i j d before below e =
 
 -- each known square of level 1 or more that is not blank is held
 pub held-complete : (s : Nodes) → IsShared s → (id : Id) → Knows s id → is_blank_tree (content s id) ≡ false → 0 < depth (content s id)
-    → Contains (held s) (content s id)
+    → Contains (stored_squares s) (content s id)
 held-complete s u id h full deep = by (names s id h)
   where
-    by : Names s id → Contains (held s) (content s id)
+    by : Names s id → Contains (stored_squares s) (content s id)
     by (the_state m f) = absurd (let e = ap depth f in omega (arith, e, deep))
     by (the_blank k m i f) = absurd (true≢false (sym (is_blank-blank (suc k)) ∙ ap is_blank_tree (sym f) ∙ full))
     by (the_node i n l le at node f) = held_at s id.0 (id_logged s n id u at)
 
 -- a held square isn't blank, has level 1 or more and an Id
-pub held-only : (s : Nodes) → IsSound s → IsShared s → (t : Tree) → Contains (held s) t
+pub held-only : (s : Nodes) → IsSoundStore s → IsShared s → (t : Tree) → Contains (stored_squares s) t
     → (is_blank_tree t ≡ false) × (0 < depth t) × ((id : Id) × Knows s id × (content s id ≡ t))
 held-only s h u t there = by (held_from s t there)
   where
@@ -300,27 +300,29 @@ module _ (old new : Nodes) (more : List Tree) (grown : squares new.nodes ≡ squ
   content-grown : (id : Id) → id.0 < 66064 + length old.nodes → content new id ≡ content old id
   content-grown id lt = ap (λ S. square_of S id) grown ∙ square_of-append (squares old.nodes) more id (omega (arith, lt, length-squares old.nodes))
 
-  pub knows-grown : length old.nodes ≤ length new.nodes → ((k : ℕ) → Contains old.log k → Contains new.log k) → IsSound new → (id : Id) → Knows old id
+  pub knows-grown : length old.nodes ≤ length new.nodes → ((k : ℕ) → Contains old.log k → Contains new.log k) → IsSoundStore new → (id : Id) → Knows old id
       → Knows new id × (content new id ≡ content old id)
   knows-grown le along h id k = (
     record { sound = h; named = record { below = omega (arith, k.named.below, le); blank = k.named.blank }; joined = λ l u. along id.0 (k.joined l u) },
     content-grown id k.named.below,
   )
 
-  held-grown : (k : ℕ) → IsShared old → new.log ≡ old.log ++ k ∷ [] → held new ≡ held old ++ content new (id_of k) ∷ []
+  held-grown : (k : ℕ) → IsShared old → new.log ≡ old.log ++ k ∷ [] → stored_squares new ≡ stored_squares old ++ content new (id_of k) ∷ []
   held-grown k u e =
       let f : ℕ → Tree = λ j. content new (id_of j) in
       let same = map_same f (λ j. content old (id_of j)) old.log (λ j there. content-grown (id_of j) (u.known j there)) in
       ap (map f) e ∙ map_push f old.log k ∙ ap (λ z. z ++ f k ∷ []) same
 
 -- an Id of a square that is there
-pub joined_there : (s : Nodes) (n : Node) (id : Id) → IsSound s → IsShared s → IsIdOf s n id → Joined s s (node_square (squares s.nodes) n) id
+pub joined_there : (s : Nodes) (n : Node) (id : Id) → IsSoundStore s → IsShared s → IsIdOf s n id → Joined s s (node_square (squares s.nodes) n) id
 joined_there s n id h u e = was_there refl (id_held s n id h u e) (knows_id s n id h e, u) (square_of-id s n id h e)
 
 -- a small square that was not joined is not held
-pub absent_small : (s : Nodes) (k : ℕ) → IsSound s → IsShared s → IsSmall s.log (squares s.nodes) k → ¬ Contains s.log k → ¬ Contains (held s) (small_square k)
+pub absent_small : (s : Nodes) (k : ℕ) → IsSoundStore s → IsShared s → IsSmall s.log (squares s.nodes) k → ¬ Contains s.log k
+    → ¬ Contains (stored_squares s) (small_square k)
 absent_small s k h u small absent there = by
-    (held_id s 0 small.quarters h u (omega arith) small.is (subst (Contains (held s)) (small_node (squares s.nodes) small.quarters k small.number) there))
+    (held_id s 0 small.quarters h u (omega arith) small.is
+    (subst (Contains (stored_squares s)) (small_node (squares s.nodes) small.quarters k small.number) there))
   where
     of : (id : Id) → IsIdOf s small.quarters id → ⊥
     of id (as_small e logged) = let same : Some id.0 ≡ Some k = sym e ∙ small.number in let equal : id.0 ≡ k = cc in
@@ -331,7 +333,7 @@ absent_small s k h u small absent there = by
     by (id, is) = of id is
 
 -- a small square that is joined
-pub joined_small : (s : Nodes) (k : ℕ) → IsSound s → IsShared s → IsSmall s.log (squares s.nodes) k → ¬ Contains s.log k → length s.log < s.limit
+pub joined_small : (s : Nodes) (k : ℕ) → IsSoundStore s → IsShared s → IsSmall s.log (squares s.nodes) k → ¬ Contains s.log k → length s.log < s.limit
     → Joined s (with_id s k) (small_square k) (id_of k)
 joined_small s k h u small absent room =
     let q = small.quarters in
@@ -343,13 +345,13 @@ joined_small s k h u small absent room =
     is_new (absent_small s k h u small absent)
     (λ id known. let p = knows-grown s (with_id s k) [] grown (omega arith) (λ j. Contains-append_left s.log (k ∷ []) j) sound id known.0 in
     ((p.0, shared), p.1))
-    (held-grown s (with_id s k) [] grown k u refl ∙ ap (λ t. held s ++ t ∷ []) is)
+    (held-grown s (with_id s k) [] grown k u refl ∙ ap (λ t. stored_squares s ++ t ∷ []) is)
     (knows_id (with_id s k) q (id_of k) sound (as_small small.number (Contains-push s.log k)), shared) is
 
 -- a node that is not stored is not held
-pub absent_node : (s : Nodes) (n : Node) → IsSound s → IsShared s → IsNode s.log (squares s.nodes) (length s.nodes) n → number_of n ≡ None
+pub absent_node : (s : Nodes) (n : Node) → IsSoundStore s → IsShared s → IsNode s.log (squares s.nodes) (length s.nodes) n → small_number_of n ≡ None
     → ¬ Contains s.nodes n
-    → ¬ Contains (held s) (node_square (squares s.nodes) n)
+    → ¬ Contains (stored_squares s) (node_square (squares s.nodes) n)
 absent_node s n h u new large absent there = by (held_id s (length s.nodes) n h u (omega arith) new there)
   where
     of : (id : Id) → IsIdOf s n id → ⊥
@@ -360,7 +362,7 @@ absent_node s n h u new large absent there = by (held_id s (length s.nodes) n h 
     by (id, is) = of id is
 
 -- the square of an added node
-square_of-last : (s : Nodes) (n : Node) → IsNode s.log (squares s.nodes) (length s.nodes) n → (new : Nodes) → new.nodes ≡ s.nodes ++ n ∷ [] → IsSound new
+square_of-last : (s : Nodes) (n : Node) → IsNode s.log (squares s.nodes) (length s.nodes) n → (new : Nodes) → new.nodes ≡ s.nodes ++ n ∷ [] → IsSoundStore new
     → square_of (squares new.nodes) (id_of (66064 + length s.nodes)) ≡ node_square (squares s.nodes) n
 square_of-last s n node new e sound =
     square_of-node new (length s.nodes) n (id_of (66064 + length s.nodes)) sound (ap (λ ns. slice_get ns (length s.nodes)) e ∙ slice_get-last s.nodes n) refl
@@ -369,7 +371,7 @@ square_of-last s n node new e sound =
     node.ne.named node.sw.named node.se.named
 
 -- a node that is stored
-pub joined_node : (s : Nodes) (n : Node) → IsSound s → IsShared s → IsNode s.log (squares s.nodes) (length s.nodes) n → number_of n ≡ None
+pub joined_node : (s : Nodes) (n : Node) → IsSoundStore s → IsShared s → IsNode s.log (squares s.nodes) (length s.nodes) n → small_number_of n ≡ None
     → ¬ Contains s.nodes n → HasRoom s
     → Joined s (with_both s n) (node_square (squares s.nodes) n) (id_of (66064 + length s.nodes))
 joined_node s n h u new large absent room =
@@ -382,12 +384,12 @@ joined_node s n h u new large absent room =
     is_new (absent_node s n h u new large absent)
     (λ id known. let p = knows-grown s (with_both s n) _ grown (omega (arith, longer)) (λ j. Contains-append_left s.log (k ∷ []) j) sound id known.0 in
     ((p.0, shared), p.1))
-    (held-grown s (with_both s n) _ grown k u refl ∙ ap (λ t. held s ++ t ∷ []) is)
+    (held-grown s (with_both s n) _ grown k u refl ∙ ap (λ t. stored_squares s ++ t ∷ []) is)
     (knows_id (with_both s n) n (id_of k) sound (as_node (length s.nodes) refl (slice_get-last s.nodes n)), shared) is
 
 -- ---- answers
 
-pub answers_ok : (old new : Nodes) (t : Tree) (id : Id) → Joined old new t id → new.limit ≡ old.limit → Answers old new t (Ok id)
+pub answers_ok : (old new : Nodes) (t : Tree) (id : Id) → Joined old new t id → new.limit ≡ old.limit → AnswersJoin old new t (Ok id)
 answers_ok old new t id joined limit = record {
   joined = joined;
   limit = limit;
@@ -398,17 +400,18 @@ answers_ok old new t id joined limit = record {
   unchanged = tt;
 }
   where
-    by : ¬ Contains (held old) t × (length (held old) ≡ old.limit) → Joined old new t id → ⊥
+    by : ¬ Contains (stored_squares old) t × (length (stored_squares old) ≡ old.limit) → Joined old new t id → ⊥
     by needs (was_there same there known is) = needs.0 there
     by needs (is_new absent keeps added known is) =
-        let more = ap length added ∙ length-append (held old) (t ∷ []) in
+        let more = ap length added ∙ length-append (stored_squares old) (t ∷ []) in
         absurd (omega (arith, more, needs.1, length-held new, known.1.len, limit))
 
 abbrev refused : Kind → Result Id Kind
 refused k = Err k
 
-pub answers_err : (s : Nodes) (t : Tree) (k : Kind) → IsShared s → ¬ Contains (held s) t → (k ≡ Full) ⊎ (k ≡ Memory) → (k ≡ Full) ↔ (length s.log ≡ s.limit)
-    → Answers s s t (Err k)
+pub answers_err : (s : Nodes) (t : Tree) (k : Kind) → IsShared s → ¬ Contains (stored_squares s) t → (k ≡ Full) ⊎ (k ≡ Memory) → (k ≡ Full)
+    ↔ (length s.log ≡ s.limit)
+    → AnswersJoin s s t (Err k)
 answers_err s t k u absent kinds full = record {
   joined = tt;
   limit = refl;
@@ -419,7 +422,7 @@ answers_err s t k u absent kinds full = record {
   unchanged = refl;
 }
   where
-    room : refused k ≡ refused Memory → (b : Bool) → nat_lt (length s.log) s.limit ≡ b → length (held s) < s.limit
+    room : refused k ≡ refused Memory → (b : Bool) → nat_lt (length s.log) s.limit ≡ b → length (stored_squares s) < s.limit
     room e true g = let l : length s.log < s.limit = grind arith in omega (arith, l, length-held s)
     room e false g =
         let l : s.limit ≤ length s.log = grind arith in
@@ -427,15 +430,15 @@ answers_err s t k u absent kinds full = record {
         absurd (let kind : k ≡ Memory = cc in let same : Full ≡ Memory = sym f ∙ kind in cc)
 
 -- the same in the words of the calls
-pub answers_refused : (s new : Nodes) (t : Tree) (k : Kind) (len : ℕ) → new ≡ s → IsShared s → ¬ Contains (held s) t → (k ≡ Full) ⊎ (k ≡ Memory)
+pub answers_refused : (s new : Nodes) (t : Tree) (k : Kind) (len : ℕ) → new ≡ s → IsShared s → ¬ Contains (stored_squares s) t → (k ≡ Full) ⊎ (k ≡ Memory)
     → len ≡ length s.log → (k ≡ Full) ↔ (len ≡ s.limit)
-    → Answers s new t (Err k)
-answers_refused s new t k len same u absent kinds e full = subst (λ v. Answers s v t (Err k)) (sym same)
+    → AnswersJoin s new t (Err k)
+answers_refused s new t k len same u absent kinds e full = subst (λ v. AnswersJoin s v t (Err k)) (sym same)
     (answers_err s t k u absent kinds (λ f. sym e ∙ full.0 f, λ f. full.1 (e ∙ f)))
 
 -- a refusal of memory below the limit
-pub answers_memory : (s new : Nodes) (t : Tree) (r : Result Id Kind) → new ≡ s → IsShared s → ¬ Contains (held s) t → length s.log < s.limit
-    → (P : Kind → Type 0) → ((k : Kind) → P k → k ≡ Memory) → IsErr r → IsErrAnd r P → Answers s new t r
+pub answers_memory : (s new : Nodes) (t : Tree) (r : Result Id Kind) → new ≡ s → IsShared s → ¬ Contains (stored_squares s) t → length s.log < s.limit
+    → (P : Kind → Type 0) → ((k : Kind) → P k → k ≡ Memory) → IsErr r → IsErrAnd r P → AnswersJoin s new t r
 answers_memory s new t (Ok id) same u absent room P is err told = absurd (true≢false (sym err))
 answers_memory s new t (Err k) same u absent room P is err told =
     let memory = is k told in
@@ -481,19 +484,19 @@ found old ns n i e len (k, at, same) = by (list_any (eq-value.it n) old) refl
         absurd (omega (arith, longer, len))
 
 -- a store with a new node
-pub node_added : (s new : Nodes) (n : Node) (i : ℕ) → IsSound s → IsShared s → IsNode s.log (squares s.nodes) (length s.nodes) n → number_of n ≡ None
+pub node_added : (s new : Nodes) (n : Node) (i : ℕ) → IsSoundStore s → IsShared s → IsNode s.log (squares s.nodes) (length s.nodes) n → small_number_of n ≡ None
     → ¬ Contains s.nodes n → HasRoom s
-    → new ≡ with_both s n → i ≡ length s.nodes → Answers s new (node_square (squares s.nodes) n) (Ok (id_of (66064 + i)))
+    → new ≡ with_both s n → i ≡ length s.nodes → AnswersJoin s new (node_square (squares s.nodes) n) (Ok (id_of (66064 + i)))
 node_added s new n i h u node large absent room grown last =
-    subst (λ v. Answers s v (node_square (squares s.nodes) n) (Ok (id_of (66064 + i)))) (sym grown)
-    (subst (λ j. Answers s (with_both s n) (node_square (squares s.nodes) n) (Ok (id_of (66064 + j)))) (sym last)
+    subst (λ v. AnswersJoin s v (node_square (squares s.nodes) n) (Ok (id_of (66064 + i)))) (sym grown)
+    (subst (λ j. AnswersJoin s (with_both s n) (node_square (squares s.nodes) n) (Ok (id_of (66064 + j)))) (sym last)
     (answers_ok s (with_both s n) (node_square (squares s.nodes) n) (id_of (66064 + length s.nodes)) (joined_node s n h u node large absent room) refl))
 
-pub sound_added : (s new : Nodes) (n : Node) → IsSound s → IsShared s → IsNode s.log (squares s.nodes) (length s.nodes) n → number_of n ≡ None
+pub sound_added : (s new : Nodes) (n : Node) → IsSoundStore s → IsShared s → IsNode s.log (squares s.nodes) (length s.nodes) n → small_number_of n ≡ None
     → ¬ Contains s.nodes n → HasRoom s
-    → new ≡ with_both s n → IsSound new × IsShared new
+    → new ≡ with_both s n → IsSoundStore new × IsShared new
 sound_added s new n h u node large absent room grown =
-    subst (λ v. IsSound v × IsShared v) (sym grown) (IsSound-both s n h node room.few, IsShared-both s n u absent large room.limit)
+    subst (λ v. IsSoundStore v × IsShared v) (sym grown) (IsSound-both s n h node room.few, IsShared-both s n u absent large room.limit)
 
 -- the marks of the small squares, where none was joined
 pub HasSeen-none : (seen : Id → Bool) (log : List ℕ) → ((q : Id) → seen q ≡ false) → log ≡ [] → HasSeen seen log
@@ -544,35 +547,35 @@ pub unseen : (seen : Id → Bool) (log : List ℕ) (k : ℕ) → HasSeen seen lo
 unseen seen log k h low mark there = true≢false (sym (h.listed k there low) ∙ mark)
 
 -- a small square that is marked
-pub small_added : (s new : Nodes) (k : ℕ) → IsSound s → IsShared s → IsSmall s.log (squares s.nodes) k → ¬ Contains s.log k → length s.log < s.limit
+pub small_added : (s new : Nodes) (k : ℕ) → IsSoundStore s → IsShared s → IsSmall s.log (squares s.nodes) k → ¬ Contains s.log k → length s.log < s.limit
     → new ≡ with_id s k
-    → Answers s new (small_square k) (Ok (id_of k))
+    → AnswersJoin s new (small_square k) (Ok (id_of k))
 small_added s new k h u small absent room grown =
-    subst (λ v. Answers s v (small_square k) (Ok (id_of k))) (sym grown)
+    subst (λ v. AnswersJoin s v (small_square k) (Ok (id_of k))) (sym grown)
     (answers_ok s (with_id s k) (small_square k) (id_of k) (joined_small s k h u small absent room) refl)
 
-pub sound_marked : (s new : Nodes) (k : ℕ) → IsSound s → IsShared s → IsSmall s.log (squares s.nodes) k → ¬ Contains s.log k → length s.log < s.limit
-    → new ≡ with_id s k → IsSound new × IsShared new
+pub sound_marked : (s new : Nodes) (k : ℕ) → IsSoundStore s → IsShared s → IsSmall s.log (squares s.nodes) k → ¬ Contains s.log k → length s.log < s.limit
+    → new ≡ with_id s k → IsSoundStore new × IsShared new
 sound_marked s new k h u small absent room grown =
     let q = small.quarters in
     let r = small_range q.nw q.ne q.sw q.se k small.number in
-    subst (λ v. IsSound v × IsShared v) (sym grown) (IsSound-id s k h (λ _. small), IsShared-id s k u absent r.1 room)
+    subst (λ v. IsSoundStore v × IsShared v) (sym grown) (IsSound-id s k h (λ _. small), IsShared-id s k u absent r.1 room)
 
-pub small_there : (s : Nodes) (k : ℕ) → IsSound s → IsShared s → IsSmall s.log (squares s.nodes) k → Contains s.log k
-    → Answers s s (small_square k) (Ok (id_of k))
+pub small_there : (s : Nodes) (k : ℕ) → IsSoundStore s → IsShared s → IsSmall s.log (squares s.nodes) k → Contains s.log k
+    → AnswersJoin s s (small_square k) (Ok (id_of k))
 small_there s k h u small there =
     answers_ok s s (small_square k) (id_of k)
     (subst (λ t. Joined s s t (id_of k)) (sym (small_node (squares s.nodes) small.quarters k small.number))
     (joined_there s small.quarters (id_of k) h u (as_small small.number there))) refl
 
-pub node_there : (s : Nodes) (n : Node) (i : ℕ) → IsSound s → IsShared s → slice_get s.nodes i ≡ Some n
-    → Answers s s (node_square (squares s.nodes) n) (Ok (id_of (66064 + i)))
+pub node_there : (s : Nodes) (n : Node) (i : ℕ) → IsSoundStore s → IsShared s → slice_get s.nodes i ≡ Some n
+    → AnswersJoin s s (node_square (squares s.nodes) n) (Ok (id_of (66064 + i)))
 node_there s n i h u at = answers_ok s s (node_square (squares s.nodes) n) (id_of (66064 + i)) (joined_there s n (id_of (66064 + i)) h u (as_node i refl at))
     refl
 
 -- a square that isn't blank and isn't held
 abbrev pub is_wanted : Nodes → Tree → Type 0
-is_wanted s t = (is_blank_tree t ≡ false) × ¬ Contains (held s) t
+is_wanted s t = (is_blank_tree t ≡ false) × ¬ Contains (stored_squares s) t
 
 -- what a join of a square that isn't blank answers
 module _ (old new : Nodes) (t : Tree) (deep : 0 < depth t) (not_blank : is_blank_tree t ≡ false) where
@@ -580,24 +583,24 @@ module _ (old new : Nodes) (t : Tree) (deep : 0 < depth t) (not_blank : is_blank
   Needs = is_wanted old t
 
   abbrev Keeps : Nodes → Type 0
-  Keeps s = KeepsSquares (λ s id. Knows s id × IsShared s) content held (λ s. s.limit) old s
+  Keeps s = KeepsSquares (λ s id. Knows s id × IsShared s) content stored_squares (λ s. s.limit) old s
 
-  full_if_needed : (r : Result Id Kind) → Answers old new t r → (r ≡ Err Full) ↔ (Needs × (length (held old) ≡ old.limit))
+  full_if_needed : (r : Result Id Kind) → AnswersJoin old new t r → (r ≡ Err Full) ↔ (Needs × (length (stored_squares old) ≡ old.limit))
   full_if_needed r a = (λ e. let f = a.full.0 e in ((not_blank, f.0), f.1), λ needs. a.full.1 (needs.0.1, needs.1))
 
-  pub join_answers : (r : Result Id Kind) → Answers old new t r
-      → Joins (λ s id. Knows s id × IsShared s) content held (λ s. s.limit) is_wanted old new t r
+  pub join_answers : (r : Result Id Kind) → AnswersJoin old new t r
+      → Joins (λ s id. Knows s id × IsShared s) content stored_squares (λ s. s.limit) is_wanted old new t r
   join_answers (Ok id) a = by a.joined
     where
-      by : Joined old new t id → Joins (λ s id. Knows s id × IsShared s) content held (λ s. s.limit) is_wanted old new t (Ok id)
+      by : Joined old new t id → Joins (λ s id. Knows s id × IsShared s) content stored_squares (λ s. s.limit) is_wanted old new t (Ok id)
       by (was_there same there known is) =
           record {
             known = subst (λ s. Knows s id × IsShared s) (sym same) known;
             square = ap (λ s. content s id) same ∙ is;
             keeps = subst Keeps (sym same) (keeps-same old);
-            adds = subst (λ s. AddsOnly held (λ P. P t) old s) (sym same) (adds-none _ old);
+            adds = subst (λ s. AddsOnly stored_squares (λ P. P t) old s) (sym same) (adds-none _ old);
             added = λ needs. absurd (needs.1 there);
-            there = λ unneeded. ap held same;
+            there = λ unneeded. ap stored_squares same;
             fresh = λ needs k. needs.1 there;
             full = full_if_needed (Ok id) a;
             room = a.room;
@@ -611,14 +614,14 @@ module _ (old new : Nodes) (t : Tree) (deep : 0 < depth t) (not_blank : is_blank
             square = is;
             keeps = record {
               contents = keeps;
-              stored = λ u h. subst (λ l. Contains l u) (sym added) (Contains-append_left (held old) (t ∷ []) u h);
+              stored = λ u h. subst (λ l. Contains l u) (sym added) (Contains-append_left (stored_squares old) (t ∷ []) u h);
               limit = a.limit;
             };
-            adds = record { each = λ u h. Contains-push_cases (held old) t u (subst (λ l. Contains l u) added h) };
+            adds = record { each = λ u h. Contains-push_cases (stored_squares old) t u (subst (λ l. Contains l u) added h) };
             added = λ needs. added;
             there = λ unneeded. absurd (unneeded (not_blank, absent));
             fresh = λ needs k. let same : content old id ≡ t = sym (keeps id k).1 ∙ is in
-                absent (subst (Contains (held old)) same
+                absent (subst (Contains (stored_squares old)) same
                 (held-complete old k.1 id k.0 (ap is_blank_tree same ∙ not_blank) (subst (λ z. 0 < depth z) (sym same) deep)));
             full = full_if_needed (Ok id) a;
             room = a.room;
@@ -631,7 +634,7 @@ module _ (old new : Nodes) (t : Tree) (deep : 0 < depth t) (not_blank : is_blank
         known = tt;
         square = tt;
         keeps = subst Keeps (sym a.unchanged) (keeps-same old);
-        adds = subst (λ s. AddsOnly held (λ P. P t) old s) (sym a.unchanged) (adds-none _ old);
+        adds = subst (λ s. AddsOnly stored_squares (λ P. P t) old s) (sym a.unchanged) (adds-none _ old);
         added = tt;
         there = tt;
         fresh = tt;
@@ -692,7 +695,7 @@ position_node ns n i e =
     slice_get-get_or ns i n p.0 ∙ ap Some (sym (same_node n (get_or ns i n) p.1))
 
 -- a small square of four quarters that are not all blank
-pub IsSmall-joined : (s : Nodes) (n : Node) (k : ℕ) → number_of n ≡ Some k → IsNode s.log (squares s.nodes) (length s.nodes) n
+pub IsSmall-joined : (s : Nodes) (n : Node) (k : ℕ) → small_number_of n ≡ Some k → IsNode s.log (squares s.nodes) (length s.nodes) n
     → IsSmall s.log (squares s.nodes) k
 IsSmall-joined s n k e node =
     let r = quarters_range n.nw n.ne n.sw n.se k e in
@@ -728,11 +731,11 @@ parts_are s K t a b c d ka kb kc kd e =
 
 -- ---- a store that keeps each join as a node of its own
 
-pub square_of-added : (old new : Nodes) (n : Node) → IsNode old.log (squares old.nodes) (length old.nodes) n → new ≡ with_node old n → IsSound new
+pub square_of-added : (old new : Nodes) (n : Node) → IsNode old.log (squares old.nodes) (length old.nodes) n → new ≡ with_node old n → IsSoundStore new
     → (id : Id) → id.0 ≡ 66064 + length old.nodes → square_of (squares new.nodes) id ≡ node_square (squares old.nodes) n
 square_of-added old new n node i sound id e = ap (λ k. square_of (squares new.nodes) (id_of k)) e ∙ square_of-last old n node new (ap (λ s. s.nodes) i) sound
 
-contents_added : {T E : Type 0} (r : Result T E) (old new : Nodes) (n : Node) → OnOk r (new ≡ with_node old n) → OnErr r (new ≡ old) → IsSound new
+contents_added : {T E : Type 0} (r : Result T E) (old new : Nodes) (n : Node) → OnOk r (new ≡ with_node old n) → OnErr r (new ≡ old) → IsSoundStore new
     → (id : Id) → Knows old id → Knows new id × (square_of (squares new.nodes) id ≡ square_of (squares old.nodes) id)
 contents_added (Ok x) old new n i same sound id k =
     let len = ap (λ s. length s.nodes) i ∙ length-append old.nodes (n ∷ []) in
@@ -749,7 +752,7 @@ stays_added (Ok x) old new n i same t h =
 stays_added (Err x) old new n i same t h = subst (λ s. Contains (squares s.nodes) t) (sym same) h
 
 -- what a store keeps to which a node is added, or whose call is refused
-pub keeps_added : {T E : Type 0} (r : Result T E) (old new : Nodes) (n : Node) → OnOk r (new ≡ with_node old n) → OnErr r (new ≡ old) → IsSound new
+pub keeps_added : {T E : Type 0} (r : Result T E) (old new : Nodes) (n : Node) → OnOk r (new ≡ with_node old n) → OnErr r (new ≡ old) → IsSoundStore new
     → new.limit ≡ old.limit → KeepsSquares Knows content (λ s. squares s.nodes) (λ s. s.limit) old new
 keeps_added r old new n i same sound limit = record {
   contents = contents_added r old new n i same sound;
@@ -758,14 +761,14 @@ keeps_added r old new n i same sound limit = record {
 }
 
 -- the Id that an added node gets
-pub knows_last : (old new : Nodes) (n : Node) → new ≡ with_node old n → IsSound new → (id : Id) → id.0 ≡ 66064 + length old.nodes → Knows new id
+pub knows_last : (old new : Nodes) (n : Node) → new ≡ with_node old n → IsSoundStore new → (id : Id) → id.0 ≡ 66064 + length old.nodes → Knows new id
 knows_last old new n i sound id e = knows_id new n id sound
     (as_node (length old.nodes) e (ap (λ s. slice_get s.nodes (length old.nodes)) i ∙ slice_get-last old.nodes n))
 
 -- why a node was refused, in the words of the store's squares
 pub IsWantKind-left : {T : Type 0} (r : Result T Kind) (old new : Nodes) → IfErr r (λ e. (e ≡ Full) ⊎ (e ≡ Memory))
     → (r ≡ Err Full) ↔ (length old.nodes ≡ old.limit) → OnErr r (new ≡ old)
-    → IfErr r (IsWantKind (squares new.nodes) new.limit)
+    → IfErr r (IsShortageKind (squares new.nodes) new.limit)
 IsWantKind-left (Ok x) old new kinds full same = tt
 IsWantKind-left (Err k) old new kinds full same = elim kinds [
   | inl f ↦ inr (f, subst (λ s. length (squares s.nodes) ≡ s.limit) (sym same) (length-squares old.nodes ∙ full.0 (ap Err f)))

@@ -9,7 +9,7 @@ use Rattle.std.proofs.lemmas.List.Elements.{Contains-get_or}
 use Rattle.life_base.specs.declared.cell.Cell.{Cell}
 use Rattle.life_base.specs.Tree.{Tree, point, quad, depth, state_at, is_blank_tree, IsFull, tree_cell as cell, half_side}
 use Rattle.life_quad.specs.Cells.{IsBefore, IsCellList, population}
-use Rattle.life_quad.specs.Bands.{Piece, kept, northern, southern, upper, lower, row_cells, band_cells, IsBand, InBand, pieces}
+use Rattle.life_quad.specs.Bands.{Piece, piece_unless_blank, northern, southern, upper, lower, row_cells, band_cells, IsBand, InBand, pieces}
 use Rattle.life_quad.specs.declared.id.Id.{Id}
 use Rattle.life_quad.specs.declared.listing.Placed.{Placed}
 use Rattle.life_base.specs.declared.kind.Kind.{Kind}
@@ -85,7 +85,7 @@ band_population-append : (xs ys : List Piece) → band_population (xs ++ ys) ≡
 band_population-append [] ys = omega arith
 band_population-append (p ∷ xs) ys = let h = band_population-append xs ys in omega arith
 
-kept_population : (t : Tree) (column : ℤ) → band_population (kept t column) ≡ population t
+kept_population : (t : Tree) (column : ℤ) → band_population (piece_unless_blank t column) ≡ population t
 kept_population t column = by (is_blank_tree t) refl
   where
     by : (b : Bool) → is_blank_tree t ≡ b → band_population (if b then [] else record { square = t; column = column } ∷ []) ≡ population t
@@ -96,8 +96,8 @@ quarters_population : (k : ℕ) (t : Tree) (column : ℤ) → depth t ≡ suc k 
     (southern (2 ^ k) t column) ≡ population t
 quarters_population k (point s) column e = absurd (omega arith)
 quarters_population k (quad a b c d) column e =
-    let n = band_population-append (kept a column) (kept b (column +ℤ pos (2 ^ k))) in
-    let s = band_population-append (kept c column) (kept d (column +ℤ pos (2 ^ k))) in
+    let n = band_population-append (piece_unless_blank a column) (piece_unless_blank b (column +ℤ pos (2 ^ k))) in
+    let s = band_population-append (piece_unless_blank c column) (piece_unless_blank d (column +ℤ pos (2 ^ k))) in
     let pa = kept_population a column in
     let pb = kept_population b (column +ℤ pos (2 ^ k)) in
     let pc = kept_population c column in
@@ -178,7 +178,7 @@ AllPairs-InOrder (c ∷ cells) h = AllPairs-cons IsBefore c cells (λ k d lt. h.
 
 -- the nonzero cells of the one square of a band are those of the plane
 abbrev pub whole : Tree → List Piece
-whole t = kept t (neg_ℤ (pos (half_side t)))
+whole t = piece_unless_blank t (neg_ℤ (pos (half_side t)))
 
 pub IsBand-whole : (t : Tree) → IsFull t → IsBand (depth t) (neg_ℤ (pos (half_side t))) (whole t)
 IsBand-whole t full = by (is_blank_tree t) refl
@@ -334,12 +334,12 @@ module _ (level : ℕ) (row first middle : ℤ) (content : Id → Tree) (named s
 -- a band of the one square, from the column `west` on, and its cells
 module _ (t : Tree) (full : IsFull t) (level : ℕ) (west : ℤ) (content : Id → Tree) (old band : List Placed) (top : level ≡ depth t)
     (half : west ≡ neg_ℤ (pos (2 ^ (level - 1))))
-    (none : old ≡ []) (kept_is : pieces content band ≡ pieces content old ++ kept t west) where
+    (none : old ≡ []) (kept_is : pieces content band ≡ pieces content old ++ piece_unless_blank t west) where
   west_is : west ≡ neg_ℤ (pos (half_side t))
   west_is = half ∙ ap (λ l. neg_ℤ (pos (2 ^ (l - 1)))) top
 
   is_whole : pieces content band ≡ whole t
-  is_whole = kept_is ∙ (λ i. pieces content (none i) ++ kept t (west_is i))
+  is_whole = kept_is ∙ (λ i. pieces content (none i) ++ piece_unless_blank t (west_is i))
 
   cells_are : band_cells level west (pieces content band) ≡ square_cells t
   cells_are = λ i. band_cells (top i) (west_is i) (is_whole i)

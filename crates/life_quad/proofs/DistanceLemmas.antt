@@ -1,7 +1,7 @@
 -- Facts about how far from the sides of a square its nonzero cells lie.
 use Rattle.std.proofs.Common.{◌≡◌, ◌==◌, ℕ, suc, ◌+◌, ◌-◌, ◌^◌, ◌<◌, ◌≤◌, min, Bool, true, false, ◌⊎◌, inl, inr, Option, Some, None, refl, sym, ◌∙◌, ap, subst, arith, true≢false, nat_le}
 use Rattle.life_base.specs.Tree.{Tree, point, quad, depth, is_blank_tree, IsFull}
-use Rattle.life_quad.specs.Distances.{IsNonzeroAt, distance, HasCellAt, HasCellInTwo, IsLeast, IsLeastOf, Faces, lesser_of}
+use Rattle.life_quad.specs.Distances.{IsNonzeroAt, distance, HasCellAt, HasCellInTwo, IsLeastNumber, IsLeastOf, Faces, lesser_of}
 use Rattle.life_quad.specs.declared.distances.Side.{Side}
 use Rattle.life_quad.specs.declared.distances.Side.TheVariants.{North, South, West, East}
 use Rattle.life_quad.proofs.NonzeroLemmas.{InQuarter, in_nw, in_ne, in_sw, in_se, Sides, sides, quarter_of, from_quarter, others_have_one, blank_has_none}
@@ -164,17 +164,18 @@ module _ (side : Side) (t a b c d : Tree) (full : IsFull t) (is : Faces side t a
       by (in_d m e k) = inr (m, e, inr k)
 
   -- the least distance is that of the quarters at the side, if these have cells
-  pub least_near : (x : Option ℕ) (n : ℕ) → IsLeastOf Near x → x ≡ Some n → IsLeast (HasCellAt side t) n
+  pub least_near : (x : Option ℕ) (n : ℕ) → IsLeastOf Near x → x ≡ Some n → IsLeastNumber (HasCellAt side t) n
   least_near x n near e =
       let k : IsLeastOf Near (Some n) = subst (IsLeastOf Near) e near in
       record { has = near_is n k.has; least = λ m h. least k m (either m h) }
     where
-      least : IsLeast Near n → (m : ℕ) → Near m ⊎ ((j : ℕ) × (m ≡ j + 2 ^ depth a) × Behind j) → n ≤ m
+      least : IsLeastNumber Near n → (m : ℕ) → Near m ⊎ ((j : ℕ) × (m ≡ j + 2 ^ depth a) × Behind j) → n ≤ m
       least k m (inl h) = k.least m h
       least k m (inr (j, f, h)) = let w = near_within n k.has in omega (arith, w, f)
 
   -- and else that of the quarters behind them and half a side more
-  pub least_behind : (x y : Option ℕ) (n : ℕ) → IsLeastOf Near x → x ≡ None → IsLeastOf Behind y → y ≡ Some n → IsLeast (HasCellAt side t) (n + 2 ^ depth a)
+  pub least_behind : (x y : Option ℕ) (n : ℕ) → IsLeastOf Near x → x ≡ None → IsLeastOf Behind y → y ≡ Some n
+      → IsLeastNumber (HasCellAt side t) (n + 2 ^ depth a)
   least_behind x y n near none behind e =
       let k : IsLeastOf Behind (Some n) = subst (IsLeastOf Behind) e behind in
       record { has = behind_is n k.has; least = λ m h. least k m (either m h) }
@@ -182,7 +183,7 @@ module _ (side : Side) (t a b c d : Tree) (full : IsFull t) (is : Faces side t a
       no : IsLeastOf Near None
       no = subst (IsLeastOf Near) none near
 
-      least : IsLeast Behind n → (m : ℕ) → Near m ⊎ ((j : ℕ) × (m ≡ j + 2 ^ depth a) × Behind j) → n + 2 ^ depth a ≤ m
+      least : IsLeastNumber Behind n → (m : ℕ) → Near m ⊎ ((j : ℕ) × (m ≡ j + 2 ^ depth a) × Behind j) → n + 2 ^ depth a ≤ m
       least k m (inl h) = absurd (no m h)
       least k m (inr (j, f, h)) = let l = k.least j h in omega (arith, l, f)
 
@@ -212,7 +213,7 @@ nowhere_blank side t full h = by (is_blank_tree t) refl
     by false e = let n = others_have_one t full e in absurd (h _ (record { column = n.0; row = n.1; cell = n.2; far = refl }))
 
 -- a single cell with a state touches each side
-pub least_of_cell : (side : Side) (t : Tree) → depth t ≡ 0 → is_blank_tree t ≡ false → IsLeast (HasCellAt side t) 0
+pub least_of_cell : (side : Side) (t : Tree) → depth t ≡ 0 → is_blank_tree t ≡ false → IsLeastNumber (HasCellAt side t) 0
 least_of_cell side (quad a b c d) k h = absurd (omega arith)
 least_of_cell side (point s) k h = record { has = by side; least = λ n e. omega arith }
   where
@@ -234,8 +235,8 @@ pub record IsLeastWithin (t : Tree) (left top right bottom : ℕ) : Type 0 where
   pub at_bottom : (i : ℕ) × IsNonzeroAt t i bottom
 
 -- the least box, by the least distances from the four sides
-pub box_of_distances : (t : Tree) (west north east south : ℕ) → IsLeast (HasCellAt West t) west → IsLeast (HasCellAt North t) north
-    → IsLeast (HasCellAt East t) east → IsLeast (HasCellAt South t) south
+pub box_of_distances : (t : Tree) (west north east south : ℕ) → IsLeastNumber (HasCellAt West t) west → IsLeastNumber (HasCellAt North t) north
+    → IsLeastNumber (HasCellAt East t) east → IsLeastNumber (HasCellAt South t) south
     → IsLeastWithin t west north (2 ^ depth t - suc east) (2 ^ depth t - suc south)
 box_of_distances t west north east south w n e s =
     record {

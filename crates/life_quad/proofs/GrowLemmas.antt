@@ -5,7 +5,7 @@ use Rattle.std.proofs.lemmas.List.Quantifiers.{all_pairs_push}
 use Rattle.std.proofs.lemmas.Option.{slice_get_within, get_or_from_slice_get}
 use Rattle.life_base.specs.Tree.{Tree}
 use Rattle.life_quad.specs.declared.id.Node.{Node}
-use Rattle.life_quad.specs.Store.{Nodes, node_square, squares, number_of, IsNode, IsSmall, IsSound, IsShared}
+use Rattle.life_quad.specs.Store.{Nodes, node_square, squares, small_number_of, IsNode, IsSmall, IsSoundStore, IsShared}
 use Rattle.life_quad.proofs.StoreLemmas.{squares-push, length-squares, node_square-append, slice_get-append, slice_get-push_cases, IsNode-append, IsNode-more}
 use Rattle.life_base.proofs.Basics.{slice_get-last}
 
@@ -26,7 +26,7 @@ IsSmall-more : (log log' : List ℕ) (S : List Tree) (k : ℕ) → ((j : ℕ) �
 IsSmall-more log log' S k more h = record { quarters = h.quarters; number = h.number; is = IsNode-more log log' S 0 h.quarters more h.is }
 
 -- a store stays sound when an Id is joined
-pub IsSound-id : (s : Nodes) (k : ℕ) → IsSound s → (k < 66064 → IsSmall s.log (squares s.nodes) k) → IsSound (with_id s k)
+pub IsSound-id : (s : Nodes) (k : ℕ) → IsSoundStore s → (k < 66064 → IsSmall s.log (squares s.nodes) k) → IsSoundStore (with_id s k)
 IsSound-id s k h new = record {
   entries = λ i m at. IsNode-more s.log (s.log ++ k ∷ []) (squares s.nodes) i m more (h.entries i m at);
   square = h.square;
@@ -43,8 +43,8 @@ IsSound-id s k h new = record {
     by j low (inr e) = subst (λ n. n < 66064 → IsSmall s.log (squares s.nodes) n) e new low
 
 -- and when a node is added
-pub IsSound-push : (s : Nodes) (n : Node) → IsSound s → IsNode s.log (squares s.nodes) (length s.nodes) n → 66064 + length s.nodes < 2 ^ 32
-    → IsSound (with_node s n)
+pub IsSound-push : (s : Nodes) (n : Node) → IsSoundStore s → IsNode s.log (squares s.nodes) (length s.nodes) n → 66064 + length s.nodes < 2 ^ 32
+    → IsSoundStore (with_node s n)
 IsSound-push s n h new room =
     record {
       entries = all_nodes;
@@ -100,8 +100,8 @@ IsSound-push s n h new room =
             ∙ ap Some (sym same ∙ ap (node_square (S ++ node_square S n ∷ [])) (sym last.1) ∙ ap (λ z. node_square z m) (sym more))
 
 -- both
-pub IsSound-both : (s : Nodes) (n : Node) → IsSound s → IsNode s.log (squares s.nodes) (length s.nodes) n → 66064 + length s.nodes < 2 ^ 32
-    → IsSound (with_both s n)
+pub IsSound-both : (s : Nodes) (n : Node) → IsSoundStore s → IsNode s.log (squares s.nodes) (length s.nodes) n → 66064 + length s.nodes < 2 ^ 32
+    → IsSoundStore (with_both s n)
 IsSound-both s n h new room = IsSound-id (with_node s n) (66064 + length s.nodes) (IsSound-push s n h new room) (λ low. absurd (omega arith))
 
 -- an Id that is not there is unlike each that is
@@ -124,7 +124,7 @@ IsShared-id s k h absent low room = record {
     by j (inr e) = omega arith
 
 -- or a node
-pub IsShared-both : (s : Nodes) (n : Node) → IsShared s → ¬ Contains s.nodes n → number_of n ≡ None → length s.log < s.limit → IsShared (with_both s n)
+pub IsShared-both : (s : Nodes) (n : Node) → IsShared s → ¬ Contains s.nodes n → small_number_of n ≡ None → length s.log < s.limit → IsShared (with_both s n)
 IsShared-both s n h absent large room = record {
   once = λ i j m ai aj. once i j m (slice_get-push_cases s.nodes n m i ai) (slice_get-push_cases s.nodes n m j aj);
   apart = λ i m at. apart i m (slice_get-push_cases s.nodes n m i at);
@@ -153,9 +153,9 @@ IsShared-both s n h absent large room = record {
     once i j m (inr a) (inl b) = absurd (absent (among j (b ∙ ap Some a.1)))
     once i j m (inr a) (inr b) = a.0 ∙ sym b.0
 
-    apart : (i : ℕ) (m : Node) → (slice_get s.nodes i ≡ Some m) ⊎ ((i ≡ length s.nodes) × (m ≡ n)) → number_of m ≡ None
+    apart : (i : ℕ) (m : Node) → (slice_get s.nodes i ≡ Some m) ⊎ ((i ≡ length s.nodes) × (m ≡ n)) → small_number_of m ≡ None
     apart i m (inl a) = h.apart i m a
-    apart i m (inr a) = ap number_of a.1 ∙ large
+    apart i m (inr a) = ap small_number_of a.1 ∙ large
 
     logged : (i : ℕ) → i < length (s.nodes ++ n ∷ []) → (b : Bool) → nat_lt i (length s.nodes) ≡ b → Contains (s.log ++ k ∷ []) (66064 + i)
     logged i lt true e = Contains-append_left s.log (k ∷ []) _ (h.logged i (grind arith))

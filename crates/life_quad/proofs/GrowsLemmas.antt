@@ -6,14 +6,14 @@ use Rattle.life_base.specs.declared.kind.Kind.TheVariants.{Memory}
 use Rattle.life_quad.specs.declared.id.Id.{Id}
 use Rattle.life_quad.specs.declared.squares.Squares.{Ghosts}
 use Rattle.life_quad.specs.Keeping.{AddsOnly}
-use Rattle.life_quad.specs.Grows.{Keeps, Grows, GrowsOnly, MakesSquare}
+use Rattle.life_quad.specs.Grows.{KeepsStore, Grows, GrowsOnly, MakesSquare}
 use Rattle.life_quad.proofs.KeepingLemmas.{keeps-same, keeps-then, adds-none, adds-as, adds-then}
 use Rattle.life_quad.proofs.MakingLemmas.{Joins, joined}
 use Rattle.life_base.proofs.Results.{error_is, err_again}
 
 module _ {X : Type 0} {S : Ghosts X} {A : Type 0} {N : (Tree → Type 0) → Type 0} (M : (Tree → Type 0) → Type 0) where
   -- a call behind others
-  pub grows-behind : {old mid new : X} {r : Result A Kind} → Keeps S old mid → AddsOnly S.stored M old mid → Grows S mid new r N
+  pub grows-behind : {old mid new : X} {r : Result A Kind} → KeepsStore S old mid → AddsOnly S.stored M old mid → Grows S mid new r N
       → ((P : Tree → Type 0) → N P → M P) → Grows S old new r M
   grows-behind {new = new} keeps adds call more =
       record {
@@ -56,7 +56,7 @@ module _ {X : Type 0} {S : Ghosts X} {A : Type 0} {N : (Tree → Type 0) → Typ
       }
 
 -- what other calls left in the store, and an answer, or a refusal for want of memory
-pub grows-still : {X : Type 0} {S : Ghosts X} {A : Type 0} (M : (Tree → Type 0) → Type 0) {old new : X} {r : Result A Kind} → Keeps S old new
+pub grows-still : {X : Type 0} {S : Ghosts X} {A : Type 0} (M : (Tree → Type 0) → Type 0) {old new : X} {r : Result A Kind} → KeepsStore S old new
     → AddsOnly S.stored M old new → IfErr r (λ e. e ≡ Memory) → Grows S old new r M
 grows-still M {r = Ok x} keeps adds told = record { keeps = keeps; refusals = tt; needed = λ e. absurd (cc); adds = adds }
 grows-still M {r = Err x} keeps adds told = record { keeps = keeps; refusals = inl told; needed = λ e. absurd (cc); adds = adds }
@@ -79,7 +79,7 @@ made-grows r call = only-grows (record { keeps = call.keeps; refusals = call.ref
 
 -- a join that is refused behind other calls, and this is passed on
 pub join-refused : {X A : Type 0} {S : Ghosts X} {old mid new : X} {t : Tree} {e : Kind} (M : (Tree → Type 0) → Type 0) {r : Result A Kind}
-    → Keeps S old mid → AddsOnly S.stored M old mid → Joins S.knows S.content S.stored S.most S.needs_node mid new t (Err e) → IsErrAnd r (λ y. y ≡ e)
+    → KeepsStore S old mid → AddsOnly S.stored M old mid → Joins S.knows S.content S.stored S.most S.needs_node mid new t (Err e) → IsErrAnd r (λ y. y ≡ e)
     → ((P : Tree → Type 0) → P t → M P) → Grows S old new r M
 join-refused {e = e} M keeps adds join told more =
     grows-err M (grows-behind M keeps adds (made-grows (Err e) (joined (Err e) join)) more) told (λ P a. a)

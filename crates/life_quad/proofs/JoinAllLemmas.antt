@@ -8,7 +8,7 @@ use Rattle.life_base.specs.declared.kind.Kind.TheVariants.{Memory}
 use Rattle.life_base.specs.Tree.{Tree, quad}
 use Rattle.life_quad.specs.declared.id.Id.{Id}
 use Rattle.life_quad.specs.declared.moves.Quarters.{Quarters}
-use Rattle.life_quad.specs.Keeping.{KeepsSquares, AddsOnly, IsWantKind}
+use Rattle.life_quad.specs.Keeping.{KeepsSquares, AddsOnly, IsShortageKind}
 use Rattle.life_quad.specs.Moves.{CanJoin, quad_of, quads_of}
 use Rattle.life_quad.specs.Refused.{SomeOf}
 use Rattle.life_quad.proofs.MakingLemmas.{Joins}
@@ -155,7 +155,7 @@ module _ {S : Type 0} {knows : S → Id → Type 0} {content : S → Id → Tree
           keeps : KeepsSquares knows content stored most old new;
           adds : AddsOnly stored (λ P. SomeOf P (quads_of (content old) quarters)) old new;
           room : r ≡ Err Memory → length (stored new) < most new;
-          refusals : IfErr r (IsWantKind (stored new) (most new));
+          refusals : IfErr r (IsShortageKind (stored new) (most new));
           needed : OnErr r (SomeOf (needs new) (quads_of (content old) quarters));
         }
     joined-refused others r before lt is can told join =

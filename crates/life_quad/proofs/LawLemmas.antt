@@ -5,9 +5,9 @@ use Rattle.std.proofs.lemmas.Int.{ints}
 use Rattle.std.proofs.lemmas.Bool.{cases_eq}
 use Rattle.life_base.specs.declared.cell.Cell.{Cell}
 use Rattle.life_base.specs.Tree.{Tree, point, quad, depth, state_at, is_blank_tree, IsFull, tree_cell as cell, half_side}
-use Rattle.life_quad.specs.Moves.{outer, inner, can_trim, trimmed, trim_up_to, grown}
+use Rattle.life_quad.specs.Moves.{outer, inner, can_trim, trimmed_square, trim_up_to, grown_square}
 use Rattle.life_quad.specs.Laws.{BlankByCells, EqualByCells, EqualByPlane, CellsLieInside, GrowingKeepsCells, TrimmingKeepsCells, TrimmingIgnoresGrowth, TrimmedIsFixed, TrimmingStops, TrimmedByCells, TrimmedIsLowest, CellsAreListed, ListIsPopulation, KnownSquaresAreFull, EqualSquaresHaveOneId}
-use Rattle.life_quad.specs.Bands.{Piece, kept}
+use Rattle.life_quad.specs.Bands.{Piece, piece_unless_blank}
 use Rattle.life_quad.specs.StoreLaws.{full_content, low_content, same_id}
 use Rattle.life_base.proofs.Squares.{depth-blank, full-blank, is_blank-blank, is_inside, inside_facts, cell_outside, state_nw, state_ne, state_sw, state_se}
 use Rattle.life_base.proofs.Basics.{right_of_and, left_of_and, double}
@@ -109,25 +109,30 @@ module _ (k : ℕ) (top column : ℤ) (a b d e : Tree) (c : Cell) (full : IsFull
   split : IsCellOf top (at_place (quad a b d e) column) c → OnQuarter k top column a b d e c
   split h = by (quarters_have k top (quad a b d e) column c full (ap suc level) h)
     where
-      north : OnBand top (kept a column) c ⊎ OnBand top (kept b (column +ℤ pos (2 ^ k))) c → OnQuarter k top column a b d e c
+      north : OnBand top (piece_unless_blank a column) c ⊎ OnBand top (piece_unless_blank b (column +ℤ pos (2 ^ k))) c → OnQuarter k top column a b d e c
       north (inl o) = on_nw (kept_from top a column c o)
       north (inr o) = on_ne (kept_from top b (column +ℤ pos (2 ^ k)) c o)
 
-      south : OnBand (top +ℤ pos (2 ^ k)) (kept d column) c ⊎ OnBand (top +ℤ pos (2 ^ k)) (kept e (column +ℤ pos (2 ^ k))) c → OnQuarter k top column a b d e c
+      south : OnBand (top +ℤ pos (2 ^ k)) (piece_unless_blank d column) c ⊎ OnBand (top +ℤ pos (2 ^ k)) (piece_unless_blank e (column +ℤ pos (2 ^ k))) c
+          → OnQuarter k top column a b d e c
       south (inl o) = on_sw (kept_from (top +ℤ pos (2 ^ k)) d column c o)
       south (inr o) = on_se (kept_from (top +ℤ pos (2 ^ k)) e (column +ℤ pos (2 ^ k)) c o)
 
-      by : OnBand top (kept a column ++ kept b (column +ℤ pos (2 ^ k))) c ⊎ OnBand (top +ℤ pos (2 ^ k)) (kept d column ++ kept e (column +ℤ pos (2 ^ k))) c
+      by : OnBand top (piece_unless_blank a column ++ piece_unless_blank b (column +ℤ pos (2 ^ k))) c
+          ⊎ OnBand (top +ℤ pos (2 ^ k)) (piece_unless_blank d column ++ piece_unless_blank e (column +ℤ pos (2 ^ k))) c
           → OnQuarter k top column a b d e c
-      by (inl o) = north (SomeOf-cases _ (kept a column) (kept b (column +ℤ pos (2 ^ k))) o)
-      by (inr o) = south (SomeOf-cases _ (kept d column) (kept e (column +ℤ pos (2 ^ k))) o)
+      by (inl o) = north (SomeOf-cases _ (piece_unless_blank a column) (piece_unless_blank b (column +ℤ pos (2 ^ k))) o)
+      by (inr o) = south (SomeOf-cases _ (piece_unless_blank d column) (piece_unless_blank e (column +ℤ pos (2 ^ k))) o)
 
   unite : OnQuarter k top column a b d e c → IsCellOf top (at_place (quad a b d e) column) c
   unite (on_nw h) = northern_from k top (quad a b d e) column c full (ap suc level)
-      (SomeOf-append_left _ (kept a column) _ (kept_has top a column c full.0 h))
-  unite (on_ne h) = northern_from k top (quad a b d e) column c full (ap suc level) (SomeOf-append_right _ (kept a column) _ (kept_has top b _ c full.1 h))
-  unite (on_sw h) = southern_from k top (quad a b d e) column c full (ap suc level) (SomeOf-append_left _ (kept d column) _ (kept_has _ d column c full.2 h))
-  unite (on_se h) = southern_from k top (quad a b d e) column c full (ap suc level) (SomeOf-append_right _ (kept d column) _ (kept_has _ e _ c full.3 h))
+      (SomeOf-append_left _ (piece_unless_blank a column) _ (kept_has top a column c full.0 h))
+  unite (on_ne h) = northern_from k top (quad a b d e) column c full (ap suc level)
+      (SomeOf-append_right _ (piece_unless_blank a column) _ (kept_has top b _ c full.1 h))
+  unite (on_sw h) = southern_from k top (quad a b d e) column c full (ap suc level)
+      (SomeOf-append_left _ (piece_unless_blank d column) _ (kept_has _ d column c full.2 h))
+  unite (on_se h) = southern_from k top (quad a b d e) column c full (ap suc level)
+      (SomeOf-append_right _ (piece_unless_blank d column) _ (kept_has _ e _ c full.3 h))
 
 no_cell : (top : ℤ) (t : Tree) (column : ℤ) (c : Cell) → IsFull t → is_blank_tree t ≡ true → IsCellOf top (at_place t column) c → ⊥
 no_cell top t column c full h n = blank_has_none t full h n.i n.j n.nonzero
@@ -293,7 +298,7 @@ inner_cells (quad (quad a1 a2 a3 nw) (quad b1 b2 ne b4) (quad c1 sw c3 c4) (quad
 
 -- ---- the laws
 
-full_grown : (t : Tree) → IsFull t → 1 ≤ depth t → IsFull (grown t)
+full_grown : (t : Tree) → IsFull t → 1 ≤ depth t → IsFull (grown_square t)
 full_grown (point s) full high = absurd (omega arith)
 full_grown (quad a b c d) full high =
     let e = full-blank (depth a) in
@@ -307,31 +312,31 @@ full_grown (quad a b c d) full high =
       ap suc (full.6 ∙ sym l),
     )
 
-outer_grown : (t : Tree) → 1 ≤ depth t → list_all is_blank_tree (outer (grown t)) ≡ true
+outer_grown : (t : Tree) → 1 ≤ depth t → list_all is_blank_tree (outer (grown_square t)) ≡ true
 outer_grown (point s) high = absurd (omega arith)
 outer_grown (quad a b c d) high = let e = is_blank-blank (depth a) in grind (arith, e)
 
-inner_grown : (t : Tree) → 1 ≤ depth t → inner (grown t) ≡ t
+inner_grown : (t : Tree) → 1 ≤ depth t → inner (grown_square t) ≡ t
 inner_grown (point s) high = absurd (omega arith)
 inner_grown (quad a b c d) high = refl
 
-pub depth_grown : (t : Tree) → 1 ≤ depth t → depth (grown t) ≡ suc (depth t)
+pub depth_grown : (t : Tree) → 1 ≤ depth t → depth (grown_square t) ≡ suc (depth t)
 depth_grown (point s) high = absurd (omega arith)
 depth_grown (quad a b c d) high = ap suc (ap suc (depth-blank (depth a)))
 
 pub growing_keeps_cells : GrowingKeepsCells
 growing_keeps_cells t full high x y =
     let d = depth_grown t high in
-    (inner_cells (grown t) (full_grown t full high) (omega arith) (outer_grown t high)).1 x y ∙ ap (λ s. cell s x y) (inner_grown t high)
+    (inner_cells (grown_square t) (full_grown t full high) (omega arith) (outer_grown t high)).1 x y ∙ ap (λ s. cell s x y) (inner_grown t high)
 
 pub trimming_ignores_growth : TrimmingIgnoresGrowth
 trimming_ignores_growth t least full positive le =
     let high : 1 ≤ depth t = omega arith in
     let d = depth_grown t high in
     let o = outer_grown t high in
-    let above : nat_lt least (depth (grown t)) ≡ true = grind arith in
-    let can : can_trim (grown t) least ≡ true = (λ i. above i && o i) in
-    sym (trimmed-smaller (grown t) least (full_grown t full high) positive can) ∙ ap (λ s. trimmed s least) (inner_grown t high)
+    let above : nat_lt least (depth (grown_square t)) ≡ true = grind arith in
+    let can : can_trim (grown_square t) least ≡ true = (λ i. above i && o i) in
+    sym (trimmed-smaller (grown_square t) least (full_grown t full high) positive can) ∙ ap (λ s. trimmed_square s least) (inner_grown t high)
 
 trimming_steps : (n : ℕ) (t : Tree) (least : ℕ) → IsFull t → 1 ≤ least → (x y : ℤ) → cell (trim_up_to n t least) x y ≡ cell t x y
 trimming_steps zero t least full positive x y = refl
@@ -377,11 +382,11 @@ trimmed_form (suc n) t least full positive le = by (can_trim t least) refl (trim
         let h = r.high in
         record { full = r.full; ends = r.ends; low = λ l. r.low (omega arith); high = omega arith }
 
-form_of : (t : Tree) (least : ℕ) → IsFull t → 1 ≤ least → IsTrimmedForm least t (trimmed t least)
+form_of : (t : Tree) (least : ℕ) → IsFull t → 1 ≤ least → IsTrimmedForm least t (trimmed_square t least)
 form_of t least full positive = trimmed_form (depth t) t least full positive (omega arith)
 
 -- a square that can be trimmed becomes smaller
-pub trimmed-lower : (t : Tree) (least : ℕ) → IsFull t → 1 ≤ least → can_trim t least ≡ true → depth (trimmed t least) < depth t
+pub trimmed-lower : (t : Tree) (least : ℕ) → IsFull t → 1 ≤ least → can_trim t least ≡ true → depth (trimmed_square t least) < depth t
 trimmed-lower t least full positive can =
     let above : nat_lt least (depth t) ≡ true = left_of_and _ _ can in
     let deep : 2 ≤ depth t = grind arith in
@@ -393,7 +398,7 @@ trimmed-lower t least full positive can =
 
 pub trimmed_is_fixed : TrimmedIsFixed
 trimmed_is_fixed t least full positive =
-    let f = form_of t least full positive in (f.full, trimmed-stays (trimmed t least) least f.ends)
+    let f = form_of t least full positive in (f.full, trimmed-stays (trimmed_square t least) least f.ends)
 
 pub trimming_stops : TrimmingStops
 trimming_stops t least full positive =
@@ -401,24 +406,24 @@ trimming_stops t least full positive =
 
 -- a square grows to the level of a larger one with the same cells, and is that one then
 same_form : (n : ℕ) (s t : Tree) (least : ℕ) → IsFull s → IsFull t → 1 ≤ least → least ≤ depth s → n + depth s ≡ depth t
-    → ((x y : ℤ) → cell s x y ≡ cell t x y) → trimmed s least ≡ trimmed t least
-same_form zero s t least fs ft positive le d same = ap (λ u. trimmed u least) (equal_by_plane s t fs ft (omega arith) same)
+    → ((x y : ℤ) → cell s x y ≡ cell t x y) → trimmed_square s least ≡ trimmed_square t least
+same_form zero s t least fs ft positive le d same = ap (λ u. trimmed_square u least) (equal_by_plane s t fs ft (omega arith) same)
 same_form (suc n) s t least fs ft positive le d same =
     let high : 1 ≤ depth s = omega arith in
     let e = depth_grown s high in
     sym (trimming_ignores_growth s least fs positive le)
-    ∙ same_form n (grown s) t least (full_grown s fs high) ft positive (omega arith) (omega arith) (λ x y. growing_keeps_cells s fs high x y ∙ same x y)
+    ∙ same_form n (grown_square s) t least (full_grown s fs high) ft positive (omega arith) (omega arith) (λ x y. growing_keeps_cells s fs high x y ∙ same x y)
 
 pub trimmed_by_cells : TrimmedByCells
 trimmed_by_cells s t least fs ft positive ls lt = (to, from)
   where
-    to : trimmed s least ≡ trimmed t least → (x y : ℤ) → cell s x y ≡ cell t x y
+    to : trimmed_square s least ≡ trimmed_square t least → (x y : ℤ) → cell s x y ≡ cell t x y
     to e x y = sym (trimming_keeps_cells s least fs positive x y) ∙ ap (λ u. cell u x y) e ∙ trimming_keeps_cells t least ft positive x y
 
-    from : ((x y : ℤ) → cell s x y ≡ cell t x y) → trimmed s least ≡ trimmed t least
+    from : ((x y : ℤ) → cell s x y ≡ cell t x y) → trimmed_square s least ≡ trimmed_square t least
     from same = by (nat_le (depth s) (depth t)) refl
       where
-        by : (b : Bool) → nat_le (depth s) (depth t) ≡ b → trimmed s least ≡ trimmed t least
+        by : (b : Bool) → nat_le (depth s) (depth t) ≡ b → trimmed_square s least ≡ trimmed_square t least
         by true e =
             let le : depth s ≤ depth t = grind arith in
             same_form (depth t - depth s) s t least fs ft positive ls (omega arith) same

@@ -5,7 +5,7 @@ use Rattle.life_base.specs.declared.kind.Kind.{Kind}
 use Rattle.life_base.specs.declared.kind.Kind.TheVariants.{Full, Memory}
 use Rattle.life_base.specs.Tree.{Tree}
 use Rattle.life_quad.specs.declared.id.Id.{Id}
-use Rattle.life_quad.specs.Keeping.{KeepsSquares, AddsOnly, IsWantKind, MakesSquares, MakesOneSquare}
+use Rattle.life_quad.specs.Keeping.{KeepsSquares, AddsOnly, IsShortageKind, MakesSquares, MakesOneSquare}
 use Rattle.life_quad.proofs.KeepingLemmas.{keeps-then, adds-then}
 use Rattle.life_base.proofs.Results.{error_is}
 
@@ -23,7 +23,7 @@ module _ {S : Type 0} (knows : S → Id → Type 0) (content : S → Id → Tree
         fresh : IfOk r (λ id. needs old t → ¬ knows old id);
         full : (r ≡ Err Full) ↔ (needs old t × (length (stored old) ≡ most old));
         room : r ≡ Err Memory → length (stored new) < most new;
-        refusals : IfErr r (IsWantKind (stored new) (most new));
+        refusals : IfErr r (IsShortageKind (stored new) (most new));
         needed : OnErr r (needs old t);
         unchanged : OnErr r (new ≡ old);
       }
@@ -37,7 +37,7 @@ module _ {S : Type 0} {knows : S → Id → Type 0} {content : S → Id → Tree
 
   -- a refusal that is passed on
   pub refused : {T : Type 0} {old new : S} {needed : Type 0} {e : Kind} (known square : T → Type 0) (r : Result T Kind) → IsErrAnd r (λ f. f ≡ e)
-      → KeepsSquares knows content stored most old new → IsWantKind (stored new) (most new) e → (e ≡ Memory → length (stored new) < most new)
+      → KeepsSquares knows content stored most old new → IsShortageKind (stored new) (most new) e → (e ≡ Memory → length (stored new) < most new)
       → needed → MakesSquares knows content stored most old new known square needed r
   refused known square r told keeps kinds room needed =
       let p = error_is r told in

@@ -5,7 +5,7 @@ use Rattle.std.proofs.lemmas.Grind.{common_steps}
 use Rattle.life_quad.specs.declared.id.Id.{Id}
 use Rattle.life_base.specs.Tree.{Tree, point, quad, depth, quarters, blank, is_blank_tree, IsFull}
 use Rattle.life_quad.specs.declared.moves.Quarters.{Quarters}
-use Rattle.life_quad.specs.Moves.{AreQuarters, quad_of, outer, inner, can_trim, trimmed, trim_up_to}
+use Rattle.life_quad.specs.Moves.{AreQuarters, quad_of, outer, inner, can_trim, trimmed_square, trim_up_to}
 use Rattle.life_base.proofs.Squares.{is_blank-blank, blank_is}
 use Rattle.life_base.proofs.Basics.{left_of_and}
 
@@ -49,7 +49,7 @@ depth-inner (quad (quad a b c d) (quad e h i j) (quad k l m n) (point g)) full d
 depth-inner (quad (quad a b c d) (quad e h i j) (quad k l m n) (quad o p q r)) full deep = let f = full.0.6 in omega arith
 
 -- a square that can't be trimmed stays
-pub trimmed-stays : (t : Tree) (least : ℕ) → can_trim t least ≡ false → trimmed t least ≡ t
+pub trimmed-stays : (t : Tree) (least : ℕ) → can_trim t least ≡ false → trimmed_square t least ≡ t
 trimmed-stays t least h = by (depth t)
   where
     by : (n : ℕ) → trim_up_to n t least ≡ t
@@ -57,7 +57,7 @@ trimmed-stays t least h = by (depth t)
     by (suc n) = grind (arith, h)
 
 -- a square that can be trimmed has the trimmed form of its inner grandchildren
-pub trimmed-smaller : (t : Tree) (least : ℕ) → IsFull t → 1 ≤ least → can_trim t least ≡ true → trimmed (inner t) least ≡ trimmed t least
+pub trimmed-smaller : (t : Tree) (least : ℕ) → IsFull t → 1 ≤ least → can_trim t least ≡ true → trimmed_square (inner t) least ≡ trimmed_square t least
 trimmed-smaller t least full positive h =
     let above : nat_lt least (depth t) ≡ true = left_of_and _ (list_all is_blank_tree (outer t)) h in
     let deep : 2 ≤ depth t = grind arith in

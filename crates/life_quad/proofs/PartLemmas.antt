@@ -7,7 +7,7 @@ use Rattle.std.proofs.lemmas.List.{map-append, length-map, flat_map_more}
 use Rattle.life_base.specs.declared.cell.Cell.{Cell}
 use Rattle.life_base.specs.Tree.{Tree, point, quad, depth, state_at, is_blank_tree, IsFull}
 use Rattle.life_quad.specs.Cells.{population}
-use Rattle.life_quad.specs.Bands.{Piece, kept, northern, southern, row_cells, band_cells, pair_of, row_of, live_cells, part_cells, IsBand, InBand, pieces}
+use Rattle.life_quad.specs.Bands.{Piece, piece_unless_blank, northern, southern, row_cells, band_cells, pair_of, row_states, live_cells, part_cells, IsBand, InBand, pieces}
 use Rattle.life_quad.specs.declared.id.Id.{Id}
 use Rattle.life_quad.specs.declared.listing.Placed.{Placed}
 use Rattle.life_quad.proofs.CellListLemmas.{band_length, band_population, pieces_more}
@@ -26,7 +26,7 @@ quarters_at south half p = if south then southern half p.square p.column else no
 abbrev half_band : Bool → ℕ → List Piece → List Piece
 half_band south half band = flat_map (quarters_at south half) band
 
-kept_cell : (x y : ℤ) (t : Tree) → depth t ≡ 0 → row_cells y (kept t x) ≡ one x y (state_at t 0 0)
+kept_cell : (x y : ℤ) (t : Tree) → depth t ≡ 0 → row_cells y (piece_unless_blank t x) ≡ one x y (state_at t 0 0)
 kept_cell x y (point s) d = by (s == 0)
   where
     by : (b : Bool) → row_cells y (if b then [] else piece (point s) x ∷ []) ≡ (if b then [] else record { x = x; y = y; state = s } ∷ [])
@@ -39,9 +39,10 @@ blank_cell x y (point s) d e = sym (ap (λ b. if b then [] else record { x = x; 
 blank_cell x y (quad a b c e) d f = absurd (omega arith)
 
 kept_two : (x y : ℤ) (a b : Tree) → depth a ≡ 0 → depth b ≡ 0
-    → row_cells y ((kept a x ++ kept b (x +ℤ pos 1)) ++ []) ≡ live_cells x y (state_at a 0 0 ∷ state_at b 0 0 ∷ [])
+    → row_cells y ((piece_unless_blank a x ++ piece_unless_blank b (x +ℤ pos 1)) ++ []) ≡ live_cells x y (state_at a 0 0 ∷ state_at b 0 0 ∷ [])
 kept_two x y a b da db =
-    ap (row_cells y) (append-nil (kept a x ++ kept b (x +ℤ pos 1))) ∙ map-append _ (kept a x) (kept b (x +ℤ pos 1))
+    ap (row_cells y) (append-nil (piece_unless_blank a x ++ piece_unless_blank b (x +ℤ pos 1)))
+    ∙ map-append _ (piece_unless_blank a x) (piece_unless_blank b (x +ℤ pos 1))
     ∙ (λ i. kept_cell x y a da i ++ kept_cell (x +ℤ pos 1) y b db i) ∙ ap (λ l. one x y (state_at a 0 0) ++ l) (sym (append-nil _))
 
 blank_two : (x y : ℤ) (a b : Tree) → depth a ≡ 0 → depth b ≡ 0 → is_blank_tree a ≡ true → is_blank_tree b ≡ true
@@ -56,7 +57,7 @@ all_four true false r s e = absurd (true≢false (sym e))
 all_four false q r s e = absurd (true≢false (sym e))
 
 -- a row of a square of level 1, kept or not
-pair_kept : (low : Bool) (x y : ℤ) (t : Tree) → IsFull t → depth t ≡ 1 → row_cells y (half_band low 1 (kept t x)) ≡ live_cells x y (pair_of low t)
+pair_kept : (low : Bool) (x y : ℤ) (t : Tree) → IsFull t → depth t ≡ 1 → row_cells y (half_band low 1 (piece_unless_blank t x)) ≡ live_cells x y (pair_of low t)
 pair_kept low x y (point s) f e = absurd (omega arith)
 pair_kept low x y (quad a b c d) f e = by low (is_blank_tree a && is_blank_tree b && is_blank_tree c && is_blank_tree d) refl
   where
@@ -91,13 +92,13 @@ live_pairs false x y (quad a b c e) states d = live_two x y (state_at a 0 0) (st
 live_pairs true x y (quad a b c e) states d = live_two x y (state_at c 0 0) (state_at e 0 0) states
 
 two_pairs : (low : Bool) (x y : ℤ) (a b : Tree) → IsFull a → depth a ≡ 1 → IsFull b → depth b ≡ 1
-    → row_cells y (half_band low 1 (kept a x ++ kept b (x +ℤ pos 2))) ≡ live_cells x y (pair_of low a ++ pair_of low b)
+    → row_cells y (half_band low 1 (piece_unless_blank a x ++ piece_unless_blank b (x +ℤ pos 2))) ≡ live_cells x y (pair_of low a ++ pair_of low b)
 two_pairs low x y a b fa da fb db =
-    row_append low y (kept a x) (kept b (x +ℤ pos 2)) ∙ (λ i. pair_kept low x y a fa da i ++ pair_kept low (x +ℤ pos 2) y b fb db i)
+    row_append low y (piece_unless_blank a x) (piece_unless_blank b (x +ℤ pos 2)) ∙ (λ i. pair_kept low x y a fa da i ++ pair_kept low (x +ℤ pos 2) y b fb db i)
     ∙ live_pairs low x y a (pair_of low b) da
 
 row_piece : (south low : Bool) (x y : ℤ) (t : Tree) → IsFull t → depth t ≡ 2
-    → row_cells y (half_band low 1 (quarters_at south 2 (piece t x))) ≡ live_cells x y (row_of south low t)
+    → row_cells y (half_band low 1 (quarters_at south 2 (piece t x))) ≡ live_cells x y (row_states south low t)
 row_piece south low x y (point s) f e = absurd (omega arith)
 row_piece false low x y (quad a b c d) f e = let da : depth a ≡ 1 = omega arith in two_pairs low x y a b f.0 da f.1 (f.4 ∙ da)
 row_piece true low x y (quad a b c d) f e = let da : depth a ≡ 1 = omega arith in two_pairs low x y c d f.2 (f.5 ∙ da) f.3 (f.6 ∙ da)
@@ -151,11 +152,11 @@ states_are x y x0 x1 x2 x3 y0 a b c d old first second third new e0 e1 e2 e3 ey 
 
 -- the cells of one more square, behind those of the squares before it
 pub part_more : (content : Id → Tree) (band : List Placed) (i : ℕ) (p : Placed) (lt : i < length band) (south low : Bool) (y x0 y0 : ℤ) (states : List ℕ)
-    (old list new : List Cell) → x0 ≡ (get_or band i p).column → y0 ≡ y → states ≡ row_of south low (content (get_or band i p).square)
+    (old list new : List Cell) → x0 ≡ (get_or band i p).column → y0 ≡ y → states ≡ row_states south low (content (get_or band i p).square)
     → list ≡ old ++ part_cells south low y (pieces content (take i band)) → new ≡ list ++ live_cells x0 y0 states
     → new ≡ old ++ part_cells south low y (pieces content (take (i + 1) band))
 part_more content band i p lt south low y x0 y0 states old list new ex ey es e f =
-    let part = λ (q : Piece). live_cells q.column y (row_of south low q.square) in
+    let part = λ (q : Piece). live_cells q.column y (row_states south low q.square) in
     let q = piece (content (get_or band i p).square) (get_or band i p).column in
     f ∙ (λ j. e j ++ live_cells (ex j) (ey j) (es j))
     ∙ append_assoc old (part_cells south low y (pieces content (take i band))) (part q)

@@ -3,7 +3,7 @@ use Rattle.std.proofs.Common.{◌≡◌, ◌≢◌, ℕ, ◌+◌, ◌^◌, ◌�
 use Rattle.std.proofs.lemmas.Int.{ints}
 use Rattle.life_base.specs.Tree.{Tree, depth, state_at, half_side, tree_cell as cell}
 use Rattle.life_base.specs.declared.bounds.Bounds.{Bounds}
-use Rattle.life_quad.specs.Cells.{IsLeastBox}
+use Rattle.life_quad.specs.Cells.{IsBoundingBoxOfTree}
 use Rattle.life_quad.specs.Distances.{IsNonzeroAt}
 use Rattle.life_quad.proofs.DistanceLemmas.{IsLeastWithin}
 use Rattle.life_base.proofs.Squares.{is_inside, inside_facts, inside_test, inside_offset, cell_inside, cell_outside}
@@ -60,7 +60,7 @@ back n h = omega (arith, ints)
 pub least_box : (t : Tree) (west north east south : ℕ) (b : Bounds) → 1 ≤ depth t → IsLeastWithin t west north east south
     → b.left +ℤ pos (half_side t) ≡ pos west → b.top +ℤ pos (half_side t) ≡ pos north → b.right +ℤ pos (half_side t) ≡ pos east
     → b.bottom +ℤ pos (half_side t) ≡ pos south
-    → IsLeastBox t b
+    → IsBoundingBoxOfTree t b
 least_box t west north east south b high k left top right bottom =
     record {
       inside = within;

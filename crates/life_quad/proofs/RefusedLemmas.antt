@@ -1,9 +1,9 @@
 -- Facts about what a refused call had to store.
 use Rattle.std.proofs.Common.{◌≡◌, ℕ, ◌+◌, ◌-◌, ◌^◌, ◌≤◌, ◌<◌, Bool, true, false, nat_lt, ◌⊎◌, inl, inr, refl, sym, ◌∙◌, ap, subst, arith, if◌then◌else◌}
 use Rattle.life_base.specs.Tree.{Tree, point, quad, depth, blank, state_at, IsFull}
-use Rattle.life_quad.specs.Moves.{grown}
+use Rattle.life_quad.specs.Moves.{grown_square}
 use Rattle.life_quad.specs.Refused.{SomePart}
-use Rattle.life_quad.specs.declared.runs.Span.{Span}
+use Rattle.life_quad.specs.declared.runs.RowSpan.{RowSpan}
 use Rattle.life_quad.specs.Span.{SetsSpan, SetsHalves}
 use Rattle.life_quad.proofs.SpanLemmas.{is_within, SetsSpan-north, SetsSpan-south}
 use Rattle.life_base.proofs.Basics.{double}
@@ -19,39 +19,39 @@ SomePart-south P a b c d (inr p) = inr (inr (inr (inr p)))
 
 -- the grown square of four quarters, around which e is blank, and a part of it
 module _ (t a b c d e : Tree) (whole : t ≡ quad a b c d) (is_blank : e ≡ blank (depth a)) where
-  pub grown_is : quad (quad e e e a) (quad e e b e) (quad e c e e) (quad d e e e) ≡ grown t
-  grown_is = ap (λ u. quad (quad u u u a) (quad u u b u) (quad u c u u) (quad d u u u)) is_blank ∙ ap grown (sym whole)
+  pub grown_is : quad (quad e e e a) (quad e e b e) (quad e c e e) (quad d e e e) ≡ grown_square t
+  grown_is = ap (λ u. quad (quad u u u a) (quad u u b u) (quad u c u u) (quad d u u u)) is_blank ∙ ap grown_square (sym whole)
 
-  pub SomePart-grown : (P : Tree → Type 0) → SomePart P (quad (quad e e e a) (quad e e b e) (quad e c e e) (quad d e e e)) → SomePart P (grown t)
+  pub SomePart-grown : (P : Tree → Type 0) → SomePart P (quad (quad e e e a) (quad e e b e) (quad e c e e) (quad d e e e)) → SomePart P (grown_square t)
   SomePart-grown P = subst (SomePart P) grown_is
 
 -- the parts of a span in two halves: what is set of the left one, and of the right one where the span goes on from the left one
-abbrev pub first_of : ℕ → Span → Span
+abbrev pub first_of : ℕ → RowSpan → RowSpan
 first_of half span = record span { len = half - span.column }
 
-abbrev pub rest_of : ℕ → Span → Span
+abbrev pub rest_of : ℕ → RowSpan → RowSpan
 rest_of half span = record span { column = 0; len = span.column + span.len - half }
 
 -- the columns of a span that ends in the left half, of one that begins in the right half, and of one in both
-in_left : (span : Span) (half i j : ℕ) → span.column + span.len ≤ half → false ≡ is_within span (half + i) j
+in_left : (span : RowSpan) (half i j : ℕ) → span.column + span.len ≤ half → false ≡ is_within span (half + i) j
 in_left span half i j h = grind (arith, h)
 
-of_right : (span : Span) (half i j : ℕ) → half ≤ span.column → i < half → false ≡ is_within span i j
+of_right : (span : RowSpan) (half i j : ℕ) → half ≤ span.column → i < half → false ≡ is_within span i j
 of_right span half i j h l = grind (arith, h, l)
 
-in_right : (span : Span) (half i j : ℕ) → half ≤ span.column → is_within (record span { column = span.column - half }) i j ≡ is_within span (half + i) j
+in_right : (span : RowSpan) (half i j : ℕ) → half ≤ span.column → is_within (record span { column = span.column - half }) i j ≡ is_within span (half + i) j
 in_right span half i j h = grind (arith, h)
 
-left_of_both : (span : Span) (half i j : ℕ) → span.column < half → half < span.column + span.len → i < half
+left_of_both : (span : RowSpan) (half i j : ℕ) → span.column < half → half < span.column + span.len → i < half
     → is_within (first_of half span) i j ≡ is_within span i j
 left_of_both span half i j h l m = grind (arith, h, l, m)
 
-right_of_both : (span : Span) (half i j : ℕ) → span.column < half → half < span.column + span.len
+right_of_both : (span : RowSpan) (half i j : ℕ) → span.column < half → half < span.column + span.len
     → is_within (rest_of half span) i j ≡ is_within span (half + i) j
 right_of_both span half i j h l = grind (arith, h, l)
 
 -- two squares side by side, of this side, with a span set in the left one, in the right one, or in both
-module _ (left right : Tree) (half : ℕ) (span : Span) (side : half ≡ 2 ^ depth left) (level : depth right ≡ depth left) where
+module _ (left right : Tree) (half : ℕ) (span : RowSpan) (side : half ≡ 2 ^ depth left) (level : depth right ≡ depth left) where
   within_right : {n : ℕ} → n < 2 ^ depth left → n < 2 ^ depth right
   within_right {n} h = subst (λ d. n < 2 ^ d) (sym level) h
 
@@ -97,7 +97,7 @@ module _ (left right : Tree) (half : ℕ) (span : Span) (side : half ≡ 2 ^ dep
       }
 
 -- two equal squares, set from end to end
-pub SetsHalves-same : (left right new : Tree) (half : ℕ) (span : Span) → half ≡ 2 ^ depth left → left ≡ right → span.column < half
+pub SetsHalves-same : (left right new : Tree) (half : ℕ) (span : RowSpan) → half ≡ 2 ^ depth left → left ≡ right → span.column < half
     → span.column + span.len ≤ half + half → span.len ≡ half + half → SetsSpan left new (first_of half span) → SetsHalves left right new new span
 SetsHalves-same left right new half span side same inside within whole s =
     let first : span.column ≡ 0 = omega (arith, within, whole) in
@@ -109,11 +109,11 @@ SetsHalves-same left right new half span side same inside within whole s =
 -- a square with the state in the span, for each span of the square
 abbrev pub HasSpans : Tree → Type 0
 HasSpans t =
-    (span : Span) → span.state < 256 → 1 ≤ span.len → span.column + span.len ≤ 2 ^ depth t → span.row < 2 ^ depth t → (new : Tree) × SetsSpan t new span
+    (span : RowSpan) → span.state < 256 → 1 ≤ span.len → span.column + span.len ≤ 2 ^ depth t → span.row < 2 ^ depth t → (new : Tree) × SetsSpan t new span
 
 -- the same of two squares side by side
 halves_with_span : (left right : Tree) → IsFull left → IsFull right → depth right ≡ depth left → HasSpans left → HasSpans right
-    → (span : Span) → span.state < 256 → 1 ≤ span.len → span.column + span.len ≤ 2 ^ depth left + 2 ^ depth left → span.row < 2 ^ depth left
+    → (span : RowSpan) → span.state < 256 → 1 ≤ span.len → span.column + span.len ≤ 2 ^ depth left + 2 ^ depth left → span.row < 2 ^ depth left
     → (a b : Tree) × SetsHalves left right a b span
 halves_with_span left right fl fr level hl hr span small positive within low = by (nat_lt (2 ^ depth left) (span.column + span.len)) refl
     (nat_lt span.column (2 ^ depth left)) refl
@@ -166,7 +166,7 @@ quad_with_span a b c d full ha hb hc hd span small positive within low = by (nat
         (quad a b h.0 h.1, SetsSpan-south a b c d h.0 h.1 span full south h.2)
 
 -- and of a square of one cell
-pub span_of_point : (t new : Tree) (span : Span) → depth t ≡ 0 → new ≡ point span.state → span.state < 256 → 1 ≤ span.len
+pub span_of_point : (t new : Tree) (span : RowSpan) → depth t ≡ 0 → new ≡ point span.state → span.state < 256 → 1 ≤ span.len
     → span.column + span.len ≤ 2 ^ depth t → span.row < 2 ^ depth t → SetsSpan t new span
 span_of_point (quad a b c d) new span flat is small positive within low = absurd (omega arith)
 span_of_point (point s) new span flat is small positive within low =

@@ -1,7 +1,7 @@
 -- Worked examples of the definitions.
 use Rattle.std.proofs.Common.{◌≡◌, ◌+◌, ◌*◌, None, Some, pos, negsuc, refl}
 use Rattle.life_base.specs.Tree.{Tree, point, quad, depth, blank, tree_cell as cell}
-use Rattle.life_quad.specs.Moves.{trimmed, grown}
+use Rattle.life_quad.specs.Moves.{trimmed_square, grown_square}
 use Rattle.life_quad.specs.Store.{small_square, small_of}
 use Rattle.life_quad.specs.Cells.{population}
 
@@ -25,21 +25,21 @@ one-last = refl
 one-outside : cell one (pos 2) (pos 0) ≡ 0
 one-outside = refl
 
-one-population : population (grown one) ≡ 1
+one-population : population (grown_square one) ≡ 1
 one-population = refl
 
 -- growing keeps the cell, and trimming takes every growth away
-grown-corner : cell (grown one) (pos 0) (pos 0) ≡ 7
+grown-corner : cell (grown_square one) (pos 0) (pos 0) ≡ 7
 grown-corner = refl
 
-grown-trimmed : trimmed (grown (grown one)) 1 ≡ quad (point 0) (point 0) (point 0) (point 7)
+grown-trimmed : trimmed_square (grown_square (grown_square one)) 1 ≡ quad (point 0) (point 0) (point 0) (point 7)
 grown-trimmed = refl
 
 -- a least level stops the trimming
-grown-least : depth (trimmed (grown (grown (grown one))) 3) ≡ 3
+grown-least : depth (trimmed_square (grown_square (grown_square (grown_square one))) 3) ≡ 3
 grown-least = refl
 
-blank-trimmed : trimmed (blank 3) 1 ≡ blank 1
+blank-trimmed : trimmed_square (blank 3) 1 ≡ blank 1
 blank-trimmed = refl
 
 -- a cell of column 2 is in the way of the last step
@@ -50,7 +50,7 @@ far-cell : cell far (pos 2) (pos 0) ≡ 1
 unfolding far
 far-cell = refl
 
-far-trimmed : depth (trimmed (grown (grown far)) 1) ≡ 3
+far-trimmed : depth (trimmed_square (grown_square (grown_square far)) 1) ≡ 3
 unfolding far
 far-trimmed = refl
 

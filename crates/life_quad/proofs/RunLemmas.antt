@@ -7,7 +7,7 @@ use Rattle.life_base.proofs.Squares.{is_inside, inside_offset, inside_facts, ins
 use Rattle.life_base.proofs.Spans.{span_from_run, run_from_span}
 use Rattle.life_base.proofs.Basics.{halves}
 use Rattle.life_quad.specs.Cells.{IsInRun, IsRunInside, SetsRun}
-use Rattle.life_quad.specs.declared.runs.Span.{Span}
+use Rattle.life_quad.specs.declared.runs.RowSpan.{RowSpan}
 use Rattle.life_quad.specs.Span.{SetsSpan}
 use Rattle.life_quad.proofs.SpanLemmas.{is_within}
 
@@ -18,7 +18,7 @@ pub SetsRun-span : (old new : Tree) (run : Run) (column row : ℕ) → 1 ≤ dep
 SetsRun-span old new run column row high inside e f s =
     record { full = s.full; level = s.level; cells = in_run; others = out_of_run }
   where
-    span : Span
+    span : RowSpan
     span = record { column = column; row = row; len = run.len; state = run.state }
 
     h : ℕ

@@ -4,7 +4,7 @@ use Rattle.std.proofs.lemmas.Bool.Decides.{nat_tests}
 use Rattle.life_base.specs.Tree.{Tree, depth, is_blank_tree}
 use Rattle.life_quad.specs.declared.id.Id.{Id}
 use Rattle.life_quad.specs.declared.id.Node.{Node}
-use Rattle.life_quad.specs.Store.{Nodes, two, four, small_square, number_of, id_of, square_of, squares, is_bit_id, is_digit_id, is_blank_id, IsNode, IsSmall, IsSound, Knows, HasSeen, HasQuarters}
+use Rattle.life_quad.specs.Store.{Nodes, two, four, small_square, small_number_of, id_of, square_of, squares, is_bit_id, is_digit_id, is_blank_id, IsNode, IsSmall, IsSoundStore, Knows, HasSeen, HasQuarters}
 use Rattle.life_quad.specs.SmallLaws.{all_four}
 use Rattle.life_quad.specs.StoreLaws.{small_node}
 use Rattle.life_quad.proofs.StoreLemmas.{square_of-small}
@@ -36,7 +36,7 @@ pub four_is : (n : ℕ) → small_square (528 + n) ≡ four n
 four_is n = let m : 528 + n - 528 ≡ n = omega arith in small_is (528 + n) (omega arith) ∙ ap four m
 
 -- a cell of state 0 or 1 is known
-bit_known : (s : Nodes) (n : ℕ) → IsSound s → n < 2 → Knows s (id_of n)
+bit_known : (s : Nodes) (n : ℕ) → IsSoundStore s → n < 2 → Knows s (id_of n)
 bit_known s n sound low = record {
   sound = sound;
   named = record { below = omega arith; blank = λ h. omega arith };
@@ -47,7 +47,7 @@ blank_bit : (n : ℕ) → n < 2 → is_blank_id (id_of n) ≡ true → n ≡ 0
 blank_bit n low h = grind (arith, nat_tests)
 
 -- the square of level 1 of a digit that isn't 0 is small, and isn't blank
-pub two_small : (s : Nodes) (d : ℕ) → IsSound s → 0 < d → d < 16 → IsSmall s.log (squares s.nodes) (512 + d) × (is_blank_tree (two d) ≡ false)
+pub two_small : (s : Nodes) (d : ℕ) → IsSoundStore s → 0 < d → d < 16 → IsSmall s.log (squares s.nodes) (512 + d) × (is_blank_tree (two d) ≡ false)
 two_small s d sound some low = (
   IsSmall-joined s (node_of a b c e) (512 + d) number node,
   ap is_blank_tree (sym (two_is d low) ∙ small_node (squares s.nodes) (node_of a b c e) (512 + d) number) ∙ node.not_blank,
@@ -83,7 +83,7 @@ two_small s d sound some low = (
     bits : is_bit_id a.0 && is_bit_id b.0 && is_bit_id c.0 && is_bit_id e.0 ≡ true
     bits = grind (arith, nat_tests, la, lb, lc, le)
 
-    number : number_of (node_of a b c e) ≡ Some (512 + d)
+    number : small_number_of (node_of a b c e) ≡ Some (512 + d)
     number = let n : d / 8 * 8 + d / 4 % 2 * 4 + d / 2 % 2 * 2 + d % 2 ≡ d = omega arith in sym (of_two a.0 b.0 c.0 e.0 bits) ∙ ap (λ m. Some (512 + m)) n
 
     not_all : (v : Bool) → (is_blank_id a && is_blank_id b && is_blank_id c && is_blank_id e) ≡ v → v ≡ false
@@ -111,7 +111,7 @@ record Quarter (s : Nodes) (d : ℕ) : Type 0 where
   pub digit : id.0 - 512 ≡ d
   pub blank : is_blank_id id ≡ true → d ≡ 0
 
-quarter : (s : Nodes) (d : ℕ) → IsSound s → ((k : ℕ) → 512 < k → k < 528 → Contains s.log k) → d < 16 → Quarter s d
+quarter : (s : Nodes) (d : ℕ) → IsSoundStore s → ((k : ℕ) → 512 < k → k < 528 → Contains s.log k) → d < 16 → Quarter s d
 quarter s zero sound all low = record {
   id = id_of 256;
   known = record { sound = sound; named = record { below = omega arith; blank = λ h. omega arith }; joined = λ l u. absurd (omega arith) };
@@ -137,7 +137,7 @@ quarter s (suc m) sound all low = record {
     shown b e h = grind (arith, nat_tests)
 
 -- the square of level 2 of cells that aren't all 0 is small then, and isn't blank
-pub four_small : (s : Nodes) (seen : Id → Bool) (n : ℕ) → IsSound s → HasSeen seen s.log → HasQuarters seen → 0 < n → n < 65536
+pub four_small : (s : Nodes) (seen : Id → Bool) (n : ℕ) → IsSoundStore s → HasSeen seen s.log → HasQuarters seen → 0 < n → n < 65536
     → IsSmall s.log (squares s.nodes) (528 + n) × (is_blank_tree (four n) ≡ false)
 four_small s seen n sound marks quarters some low = (
   IsSmall-joined s it (528 + n) number node,
@@ -165,7 +165,7 @@ four_small s seen n sound marks quarters some low = (
     digits : is_digit_id a.id.0 && is_digit_id b.id.0 && is_digit_id c.id.0 && is_digit_id e.id.0 ≡ true
     digits = rw (a.is_digit, b.is_digit, c.is_digit, e.is_digit) refl
 
-    number : number_of it ≡ Some (528 + n)
+    number : small_number_of it ≡ Some (528 + n)
     number =
         let z : (a.id.0 - 512) * 4096 + (b.id.0 - 512) * 256 + (c.id.0 - 512) * 16 + (e.id.0 - 512) ≡ n = omega (arith, a.digit, b.digit, c.digit, e.digit) in
         sym (of_four a.id.0 b.id.0 c.id.0 e.id.0 (by_bits (is_bit_id a.id.0) refl) digits) ∙ ap (λ m. Some (528 + m)) z

@@ -2,7 +2,7 @@
 use Rattle.std.proofs.Common.{◌≡◌, ℕ, ◌+◌, ◌*◌, ◌-◌, ◌/◌, ◌%◌, ◌≤◌, ◌<◌, Bool, true, false, ◌&&◌, ◌==◌, None, Some, refl, sym, ◌∙◌, ap, arith, if◌then◌else◌}
 use Rattle.std.proofs.lemmas.Bool.Decides.{nat_tests}
 use Rattle.life_quad.specs.Store.{id_of, is_bit_id, is_digit_id, digit_id, small_of}
-use Rattle.life_quad.specs.SmallLaws.{IsDigit, digit_0, digit_of, Smalls, of_bits, of_digits, smalls, bits_of, digits_of, below_16}
+use Rattle.life_quad.specs.SmallLaws.{IsDigit, digit_0, digit_of, Smalls, of_bits, of_digits, smalls, bits_of, base_16_digits, below_16}
 
 -- the quarters by division
 pub bits_are : (a b c d k bits : ℕ) → small_of a b c d ≡ Some k → k < 528 → bits ≡ k - 512 → (bits / 8 ≡ a) × (bits / 4 % 2 ≡ b) × (bits / 2 % 2 ≡ c)
@@ -37,7 +37,7 @@ digits_are a b c d k digits h high e = by (smalls a b c d k h)
         let p = a - 512 in let q = b - 512 in let r = c - 512 in let t = d - 512 in
         let la : p < 16 = below_16 a ia in let lb : q < 16 = below_16 b ib in let lc : r < 16 = below_16 c ic in let ld : t < 16 = below_16 d id in
         let n : digits ≡ p * 4096 + q * 256 + r * 16 + t = omega arith in
-        let o = digits_of p q r t la lb lc ld in (
+        let o = base_16_digits p q r t la lb lc ld in (
           id_of-digit a _ ia (ap (λ z. z / 4096) n ∙ o.0),
           id_of-digit b _ ib (ap (λ z. z / 256 % 16) n ∙ o.1),
           id_of-digit c _ ic (ap (λ z. z / 16 % 16) n ∙ o.2),

@@ -3,19 +3,19 @@ use Rattle.std.proofs.Common.{◌≡◌, ℕ, suc, ◌+◌, ◌-◌, ◌^◌, �
 use Rattle.life_base.specs.Tree.{Tree, quad, depth, state_at, IsFull}
 use Rattle.life_base.proofs.Squares.{at_nw, at_ne, at_sw, at_se}
 use Rattle.life_base.proofs.Basics.{double}
-use Rattle.life_quad.specs.declared.runs.Span.{Span}
+use Rattle.life_quad.specs.declared.runs.RowSpan.{RowSpan}
 use Rattle.life_quad.specs.Span.{is_in_span, SetsSpan, SetsHalves}
 
 -- whether a column and a row are in a span
-abbrev pub is_within : Span → ℕ → ℕ → Bool
+abbrev pub is_within : RowSpan → ℕ → ℕ → Bool
 is_within span i j = is_in_span span.column span.row span.len i j
 
 -- a cell of another row is in no span
-pub other_row : (span : Span) (i j : ℕ) → (j == span.row) ≡ false → is_within span i j ≡ false
+pub other_row : (span : RowSpan) (i j : ℕ) → (j == span.row) ≡ false → is_within span i j ≡ false
 other_row span i j h = grind (arith, h)
 
 -- a span in the two northern quarters
-pub SetsSpan-north : (a b c d a' b' : Tree) (span : Span) → IsFull (quad a b c d) → span.row < 2 ^ depth a
+pub SetsSpan-north : (a b c d a' b' : Tree) (span : RowSpan) → IsFull (quad a b c d) → span.row < 2 ^ depth a
     → SetsHalves a b a' b' span → SetsSpan (quad a b c d) (quad a' b' c d) span
 SetsSpan-north a b c d a' b' span full low h =
     record {
@@ -52,14 +52,14 @@ SetsSpan-north a b c d a' b' span full low h =
         ∙ sym (at_se a b c d i j g f) ∙ sym (ap (λ t. if t then span.state else state_at (quad a b c d) i j) other)
 
 -- the rows of the southern quarters begin at half of the side
-pub shifted_row : (span : Span) (half i j : ℕ) → half ≤ span.row → half ≤ j
+pub shifted_row : (span : RowSpan) (half i j : ℕ) → half ≤ span.row → half ≤ j
     → is_within (record span { row = span.row - half }) i (j - half) ≡ is_within span i j
 shifted_row span half i j r s =
     let same : (j - half == span.row - half) ≡ (j == span.row) = grind arith in
     ap (λ b. b && nat_le span.column i && nat_lt i (span.column + span.len)) same
 
 -- a span in the two southern quarters
-pub SetsSpan-south : (a b c d c' d' : Tree) (span : Span) → IsFull (quad a b c d) → 2 ^ depth a ≤ span.row
+pub SetsSpan-south : (a b c d c' d' : Tree) (span : RowSpan) → IsFull (quad a b c d) → 2 ^ depth a ≤ span.row
     → SetsHalves c d c' d' (record span { row = span.row - 2 ^ depth a }) → SetsSpan (quad a b c d) (quad a b c' d') span
 SetsSpan-south a b c d c' d' span full low h =
     record {
@@ -104,7 +104,7 @@ pub half_of : (level whole part : ℕ) → level ≡ whole → part + 1 ≡ whol
 half_of level whole part e f = let same : level - 1 ≡ part = omega arith in ap (λ n. 2 ^ n) same
 
 -- the same spans in a square that has these quarters, by half of its side, where the other two quarters have new names
-module _ (t a b c d : Tree) (level half : ℕ) (span : Span) (full : IsFull t) (is : t ≡ quad a b c d) (top : level ≡ depth t)
+module _ (t a b c d : Tree) (level half : ℕ) (span : RowSpan) (full : IsFull t) (is : t ≡ quad a b c d) (top : level ≡ depth t)
     (one : depth a + 1 ≡ depth t) (side : half ≡ 2 ^ (level - 1)) where
   half_is : half ≡ 2 ^ depth a
   half_is = side ∙ half_of level (depth t) (depth a) top one

@@ -8,7 +8,7 @@ use Rattle.life_base.specs.declared.cell.TheConstants.{MAX_LEVEL}
 use Rattle.life_quad.specs.declared.id.Id.{Id}
 use Rattle.life_quad.specs.declared.id.Node.{Node}
 use Rattle.life_base.specs.Tree.{Tree, point, quad, depth, is_blank_tree, IsFull}
-use Rattle.life_quad.specs.Store.{Nodes, id_of, square_of, small_square, node_square, squares, levels_of, is_blank_id, IsNamed, IsEarlier, IsNode, IsSound, IsIdOf, as_small, as_node, Knows}
+use Rattle.life_quad.specs.Store.{Nodes, id_of, square_of, small_square, node_square, squares, levels_of, is_blank_id, IsIdWithin, IsEarlier, IsNode, IsSoundStore, IsIdOf, as_small, as_node, Knows}
 use Rattle.life_base.proofs.Squares.{is_blank-blank}
 use Rattle.life_quad.specs.StoreLaws.{Kinds, a_state, a_blank, a_small, a_node, kind_of, small_node, Names, the_state, the_blank, the_node, names}
 use Rattle.life_quad.proofs.SmallLemmas.{small_range}
@@ -56,8 +56,8 @@ square_of-append stored more id h = by (kind_of stored id)
         grind arith
 
 -- a node keeps its square when squares are added
-pub node_square-append : (stored more : List Tree) (i : ℕ) (n : Node) → i ≤ length stored → IsNamed i (id_of n.nw) → IsNamed i (id_of n.ne)
-    → IsNamed i (id_of n.sw) → IsNamed i (id_of n.se)
+pub node_square-append : (stored more : List Tree) (i : ℕ) (n : Node) → i ≤ length stored → IsIdWithin i (id_of n.nw) → IsIdWithin i (id_of n.ne)
+    → IsIdWithin i (id_of n.sw) → IsIdWithin i (id_of n.se)
     → node_square (stored ++ more) n ≡ node_square stored n
 node_square-append stored more i n le a b c d =
     let ea = square_of-append stored more (id_of n.nw) (omega (arith, a.below)) in
@@ -126,7 +126,7 @@ IsNode-more log log' stored i n more e = record {
 }
 
 -- the square of a node's Id
-pub square_of-node : (s : Nodes) (i : ℕ) (n : Node) (id : Id) → IsSound s → slice_get s.nodes i ≡ Some n → id.0 ≡ 66064 + i
+pub square_of-node : (s : Nodes) (i : ℕ) (n : Node) (id : Id) → IsSoundStore s → slice_get s.nodes i ≡ Some n → id.0 ≡ 66064 + i
     → square_of (squares s.nodes) id ≡ node_square (squares s.nodes) n
 square_of-node s i n id h at e = by (kind_of (squares s.nodes) id)
   where
@@ -149,7 +149,7 @@ square_of-small S id l u = by (kind_of S id)
     by (a_node m f) = absurd (omega arith)
 
 -- the square of a node's or a small square's Id
-pub square_of-id : (s : Nodes) (n : Node) (id : Id) → IsSound s → IsIdOf s n id → square_of (squares s.nodes) id ≡ node_square (squares s.nodes) n
+pub square_of-id : (s : Nodes) (n : Node) (id : Id) → IsSoundStore s → IsIdOf s n id → square_of (squares s.nodes) id ≡ node_square (squares s.nodes) n
 square_of-id s n id h (as_node i e at) = square_of-node s i n id h at e
 square_of-id s n id h (as_small e there) =
     let r = small_range n.nw n.ne n.sw n.se id.0 e in

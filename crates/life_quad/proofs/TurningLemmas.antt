@@ -8,12 +8,12 @@ use Rattle.life_quad.specs.Cells.{population}
 use Rattle.life_quad.specs.Keeping.{KeepsSquares}
 use Rattle.life_quad.specs.Moves.{AreQuarters}
 use Rattle.life_quad.specs.Refused.{SomePart}
-use Rattle.life_quad.specs.SmallLaws.{digits_of}
+use Rattle.life_quad.specs.SmallLaws.{base_16_digits}
 use Rattle.life_quad.specs.Store.{two, four}
 use Rattle.life_quad.specs.declared.id.Id.{Id}
 use Rattle.life_quad.specs.declared.moves.Quarters.{Quarters}
 use Rattle.life_quad.specs.declared.turning.Turn.{Turn}
-use Rattle.life_quad.specs.Turning.{AreImages, digit_in, end_of, id_of_four, IsImage, one_of_four, side_of, turned_tree}
+use Rattle.life_quad.specs.Turning.{AreImages, digit_in, turned_half, id_of_four, IsRememberedImage, one_of_four, side_of, turned_tree}
 
 -- ---- squares that a turn leaves
 
@@ -27,8 +27,8 @@ turned-blank : (turn : Turn) (k : ℕ) → turned_tree turn (blank k) ≡ blank 
 turned-blank turn zero = refl
 turned-blank turn (suc k) =
     let at = λ (u v : Bool). one-of-same u v (turned_tree turn (blank k)) ∙ turned-blank turn k in
-    λ i. quad (at (side_of turn false false) (end_of turn false false) i) (at (side_of turn true false) (end_of turn true false) i)
-    (at (side_of turn false true) (end_of turn false true) i) (at (side_of turn true true) (end_of turn true true) i)
+    λ i. quad (at (side_of turn false false) (turned_half turn false false) i) (at (side_of turn true false) (turned_half turn true false) i)
+    (at (side_of turn false true) (turned_half turn false true) i) (at (side_of turn true true) (turned_half turn true true) i)
 
 pub blank-turned : (turn : Turn) (t : Tree) → IsFull t → is_blank_tree t ≡ true → t ≡ turned_tree turn t
 blank-turned turn t full e = blank_is t full e ∙ sym (turned-blank turn (depth t)) ∙ ap (turned_tree turn) (sym (blank_is t full e))
@@ -44,7 +44,7 @@ one-depth true true a b c d k p q r s = s
 pub depth-turned : (turn : Turn) (t : Tree) → IsFull t → depth (turned_tree turn t) ≡ depth t
 depth-turned turn (point s) full = refl
 depth-turned turn (quad a b c d) full =
-    ap suc (one-depth (side_of turn false false) (end_of turn false false) _ _ _ _ (depth a) (depth-turned turn a full.0)
+    ap suc (one-depth (side_of turn false false) (turned_half turn false false) _ _ _ _ (depth a) (depth-turned turn a full.0)
     (depth-turned turn b full.1 ∙ full.4) (depth-turned turn c full.2 ∙ full.5) (depth-turned turn d full.3 ∙ full.6))
 
 -- ---- what an image has of its square
@@ -62,14 +62,14 @@ full-turned turn (quad a b c d) full =
     (full-turned turn b full.1) (full-turned turn c full.2) (full-turned turn d full.3) in
     let deep = λ (u v : Bool). one-depth u v (turned_tree turn a) (turned_tree turn b) (turned_tree turn c) (turned_tree turn d) (depth a)
     (depth-turned turn a full.0) (depth-turned turn b full.1 ∙ full.4) (depth-turned turn c full.2 ∙ full.5) (depth-turned turn d full.3 ∙ full.6) in
-    let first = sym (deep (side_of turn false false) (end_of turn false false)) in (
-      each (side_of turn false false) (end_of turn false false),
-      each (side_of turn true false) (end_of turn true false),
-      each (side_of turn false true) (end_of turn false true),
-      each (side_of turn true true) (end_of turn true true),
-      deep (side_of turn true false) (end_of turn true false) ∙ first,
-      deep (side_of turn false true) (end_of turn false true) ∙ first,
-      deep (side_of turn true true) (end_of turn true true) ∙ first,
+    let first = sym (deep (side_of turn false false) (turned_half turn false false)) in (
+      each (side_of turn false false) (turned_half turn false false),
+      each (side_of turn true false) (turned_half turn true false),
+      each (side_of turn false true) (turned_half turn false true),
+      each (side_of turn true true) (turned_half turn true true),
+      deep (side_of turn true false) (turned_half turn true false) ∙ first,
+      deep (side_of turn false true) (turned_half turn false true) ∙ first,
+      deep (side_of turn true true) (turned_half turn true true) ∙ first,
     )
 
 -- the turn that takes images back
@@ -127,8 +127,8 @@ blank-stays turn (quad a b c d) e =
     let one = and_parts _ _ two.0 in
     let at = λ (u v : Bool). one-blank u v (turned_tree turn a) (turned_tree turn b) (turned_tree turn c) (turned_tree turn d) (blank-stays turn a one.0)
     (blank-stays turn b one.1) (blank-stays turn c two.1) (blank-stays turn d three.1) in
-    four-true _ _ _ _ (at (side_of turn false false) (end_of turn false false)) (at (side_of turn true false) (end_of turn true false))
-    (at (side_of turn false true) (end_of turn false true)) (at (side_of turn true true) (end_of turn true true))
+    four-true _ _ _ _ (at (side_of turn false false) (turned_half turn false false)) (at (side_of turn true false) (turned_half turn true false))
+    (at (side_of turn false true) (turned_half turn false true)) (at (side_of turn true true) (turned_half turn true true))
 
 same-answer : (a b : Bool) → (a ≡ true → b ≡ true) → (b ≡ true → a ≡ true) → a ≡ b
 same-answer false false f g = refl
@@ -183,10 +183,10 @@ part-of-image turn P (quad a b c d) (inr rest) =
       | inr (inr (inr p)) ↦ inr (inr (inr (inr (part-of-image turn P d p))))
     ] in
     elim rest [
-      | inl p ↦ among (side_of turn false false) (end_of turn false false) p
-      | inr (inl p) ↦ among (side_of turn true false) (end_of turn true false) p
-      | inr (inr (inl p)) ↦ among (side_of turn false true) (end_of turn false true) p
-      | inr (inr (inr p)) ↦ among (side_of turn true true) (end_of turn true true) p
+      | inl p ↦ among (side_of turn false false) (turned_half turn false false) p
+      | inr (inl p) ↦ among (side_of turn true false) (turned_half turn true false) p
+      | inr (inr (inl p)) ↦ among (side_of turn false true) (turned_half turn false true) p
+      | inr (inr (inr p)) ↦ among (side_of turn true true) (turned_half turn true true) p
     ]
 
 -- ---- small squares
@@ -247,13 +247,13 @@ one-digit turn cells true true = refl
 
 -- four images of the quarters are the image
 pub turned-four : (turn : Turn) (cells a b c d : ℕ) → a < 16 → b < 16 → c < 16 → d < 16
-    → two a ≡ turned_tree turn (two (digit_in (side_of turn false false) (end_of turn false false) cells))
-    → two b ≡ turned_tree turn (two (digit_in (side_of turn true false) (end_of turn true false) cells))
-    → two c ≡ turned_tree turn (two (digit_in (side_of turn false true) (end_of turn false true) cells))
-    → two d ≡ turned_tree turn (two (digit_in (side_of turn true true) (end_of turn true true) cells))
+    → two a ≡ turned_tree turn (two (digit_in (side_of turn false false) (turned_half turn false false) cells))
+    → two b ≡ turned_tree turn (two (digit_in (side_of turn true false) (turned_half turn true false) cells))
+    → two c ≡ turned_tree turn (two (digit_in (side_of turn false true) (turned_half turn false true) cells))
+    → two d ≡ turned_tree turn (two (digit_in (side_of turn true true) (turned_half turn true true) cells))
     → four (a * 4096 + b * 256 + c * 16 + d) ≡ turned_tree turn (four cells)
 turned-four turn cells a b c d la lb lc ld ea eb ec ed =
-    let digits = digits_of a b c d la lb lc ld in
+    let digits = base_16_digits a b c d la lb lc ld in
     let p = ap two digits.0 ∙ ea ∙ one-digit turn cells _ _ in
     let q = ap two digits.1 ∙ eb ∙ one-digit turn cells _ _ in
     let r = ap two digits.2 ∙ ec ∙ one-digit turn cells _ _ in
@@ -273,9 +273,9 @@ quarter-turned turn from q true true = refl
 -- a square by its quarters
 module _ (turn : Turn) (from : Id → Tree) (q : Quarters) (t : Tree) (whole : t ≡ quad (from q.nw) (from q.ne) (from q.sw) (from q.se)) where
   -- the images of the quarters that a turn brings to the four places are the quarters of the image
-  pub quad-turned : (nw ne sw se : Id) → nw ≡ id_of_four (side_of turn false false) (end_of turn false false) q
-      → ne ≡ id_of_four (side_of turn true false) (end_of turn true false) q → sw ≡ id_of_four (side_of turn false true) (end_of turn false true) q
-      → se ≡ id_of_four (side_of turn true true) (end_of turn true true) q → (a b c d : Tree) → a ≡ turned_tree turn (from nw)
+  pub quad-turned : (nw ne sw se : Id) → nw ≡ id_of_four (side_of turn false false) (turned_half turn false false) q
+      → ne ≡ id_of_four (side_of turn true false) (turned_half turn true false) q → sw ≡ id_of_four (side_of turn false true) (turned_half turn false true) q
+      → se ≡ id_of_four (side_of turn true true) (turned_half turn true true) q → (a b c d : Tree) → a ≡ turned_tree turn (from nw)
       → b ≡ turned_tree turn (from ne) → c ≡ turned_tree turn (from sw) → d ≡ turned_tree turn (from se) → quad a b c d ≡ turned_tree turn t
   quad-turned nw ne sw se is-nw is-ne is-sw is-se a b c d ea eb ec ed =
       let image : Id → Tree = λ id. turned_tree turn (from id) in
@@ -286,23 +286,23 @@ module _ (turn : Turn) (from : Id → Tree) (q : Quarters) (t : Tree) (whole : t
       (λ i. quad (p i) (r i) (s i) (u i)) ∙ ap (turned_tree turn) (sym whole)
 
   -- and the parts of their images are parts of the image
-  itself : (let image : Bool → Bool → Tree = λ u v. turned_tree turn (from (id_of_four (side_of turn u v) (end_of turn u v) q)) in
+  itself : (let image : Bool → Bool → Tree = λ u v. turned_tree turn (from (id_of_four (side_of turn u v) (turned_half turn u v) q)) in
       quad (image false false) (image true false) (image false true) (image true true) ≡ turned_tree turn t)
   itself = quad-turned _ _ _ _ refl refl refl refl _ _ _ _ refl refl refl refl
 
-  pub part-nw : (id : Id) → id ≡ id_of_four (side_of turn false false) (end_of turn false false) q → (P : Tree → Type 0)
+  pub part-nw : (id : Id) → id ≡ id_of_four (side_of turn false false) (turned_half turn false false) q → (P : Tree → Type 0)
       → SomePart P (turned_tree turn (from id)) → SomePart P (turned_tree turn t)
   part-nw id is P s = subst (SomePart P) itself (inr (inl (subst (λ (i : Id). SomePart P (turned_tree turn (from i))) is s)))
 
-  pub part-ne : (id : Id) → id ≡ id_of_four (side_of turn true false) (end_of turn true false) q → (P : Tree → Type 0)
+  pub part-ne : (id : Id) → id ≡ id_of_four (side_of turn true false) (turned_half turn true false) q → (P : Tree → Type 0)
       → SomePart P (turned_tree turn (from id)) → SomePart P (turned_tree turn t)
   part-ne id is P s = subst (SomePart P) itself (inr (inr (inl (subst (λ (i : Id). SomePart P (turned_tree turn (from i))) is s))))
 
-  pub part-sw : (id : Id) → id ≡ id_of_four (side_of turn false true) (end_of turn false true) q → (P : Tree → Type 0)
+  pub part-sw : (id : Id) → id ≡ id_of_four (side_of turn false true) (turned_half turn false true) q → (P : Tree → Type 0)
       → SomePart P (turned_tree turn (from id)) → SomePart P (turned_tree turn t)
   part-sw id is P s = subst (SomePart P) itself (inr (inr (inr (inl (subst (λ (i : Id). SomePart P (turned_tree turn (from i))) is s)))))
 
-  pub part-se : (id : Id) → id ≡ id_of_four (side_of turn true true) (end_of turn true true) q → (P : Tree → Type 0)
+  pub part-se : (id : Id) → id ≡ id_of_four (side_of turn true true) (turned_half turn true true) q → (P : Tree → Type 0)
       → SomePart P (turned_tree turn (from id)) → SomePart P (turned_tree turn t)
   part-se id is P s = subst (SomePart P) itself (inr (inr (inr (inr (subst (λ (i : Id). SomePart P (turned_tree turn (from i))) is s)))))
 
@@ -344,7 +344,7 @@ or-else d None = d
 or-else d (Some x) = x
 
 pub image-of : (knows : Id → Type 0) (to from : Id → Tree) (turn : Turn) (id other : Id) → knows other → to other ≡ turned_tree turn (from id)
-    → IsImage knows to from turn id (Some other)
+    → IsRememberedImage knows to from turn id (Some other)
 unfolding or-else
 image-of knows to from turn id other known is another e =
     subst (λ r. knows r × (to r ≡ turned_tree turn (from id))) (ap (or-else other) e) (known, is)

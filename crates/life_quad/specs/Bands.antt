@@ -12,18 +12,18 @@ pub record Piece : Type 0 where
   pub column : ℤ
 
 -- the square, unless it is blank
-abbrev pub kept : Tree → ℤ → List Piece
-kept t column = if is_blank_tree t then [] else record { square = t; column = column } ∷ []
+abbrev pub piece_unless_blank : Tree → ℤ → List Piece
+piece_unless_blank t column = if is_blank_tree t then [] else record { square = t; column = column } ∷ []
 
 -- the northern quarters of a square without blank ones, where half a side has this many columns
 abbrev pub northern : ℕ → Tree → ℤ → List Piece
 northern half (point s) column = []
-northern half (quad nw ne sw se) column = kept nw column ++ kept ne (column +ℤ pos half)
+northern half (quad nw ne sw se) column = piece_unless_blank nw column ++ piece_unless_blank ne (column +ℤ pos half)
 
 -- and the southern ones
 abbrev pub southern : ℕ → Tree → ℤ → List Piece
 southern half (point s) column = []
-southern half (quad nw ne sw se) column = kept sw column ++ kept se (column +ℤ pos half)
+southern half (quad nw ne sw se) column = piece_unless_blank sw column ++ piece_unless_blank se (column +ℤ pos half)
 
 -- the upper and the lower half of a band of squares
 abbrev pub upper : ℕ → List Piece → List Piece
@@ -72,9 +72,9 @@ pair_of low (quad nw ne sw se) =
     else state_at nw 0 0 ∷ state_at ne 0 0 ∷ []
 
 -- the states of a row of a square of level 2: in the southern or in the northern half, the lower or the upper one
-abbrev pub row_of : Bool → Bool → Tree → List ℕ
-row_of south low (point s) = []
-row_of south low (quad nw ne sw se) = if south then pair_of low sw ++ pair_of low se else pair_of low nw ++ pair_of low ne
+abbrev pub row_states : Bool → Bool → Tree → List ℕ
+row_states south low (point s) = []
+row_states south low (quad nw ne sw se) = if south then pair_of low sw ++ pair_of low se else pair_of low nw ++ pair_of low ne
 
 -- the cells of states side by side from (x, y) on, without those of state 0
 abbrev pub live_cells : ℤ → ℤ → List ℕ → List Cell
@@ -83,4 +83,4 @@ live_cells x y (s ∷ states) = (if s == 0 then [] else record { x = x; y = y; s
 
 -- the cells of such a row of a band of level 2
 abbrev pub part_cells : Bool → Bool → ℤ → List Piece → List Cell
-part_cells south low y band = flat_map (λ p. live_cells p.column y (row_of south low p.square)) band
+part_cells south low y band = flat_map (λ p. live_cells p.column y (row_states south low p.square)) band

@@ -26,7 +26,7 @@ pub record SetsRun (old new : Tree) (run : Run) : Type 0 where
   pub others : (x y : ℤ) → ¬ IsInRun run.x run.y run.len x y → cell new x y ≡ cell old x y
 
 -- every cell with a state is in the box, and each side of the box has one
-pub record IsLeastBox (t : Tree) (box : Bounds) : Type 0 where
+pub record IsBoundingBoxOfTree (t : Tree) (box : Bounds) : Type 0 where
   pub inside : (x y : ℤ) → cell t x y ≢ 0 → (box.left ≤ℤ x) × (x ≤ℤ box.right) × (box.top ≤ℤ y) × (y ≤ℤ box.bottom)
   pub at_left : (y : ℤ) × (cell t box.left y ≢ 0)
   pub at_right : (y : ℤ) × (cell t box.right y ≢ 0)

@@ -31,17 +31,17 @@ abbrev pub HasCellInTwo : Side → Tree → Tree → ℕ → Type 0
 HasCellInTwo side a b n = HasCellAt side a n ⊎ HasCellAt side b n
 
 -- the least number with the property
-pub record IsLeast (P : ℕ → Type 0) (n : ℕ) : Type 0 where
+pub record IsLeastNumber (P : ℕ → Type 0) (n : ℕ) : Type 0 where
   pub has : P n
   pub least : (m : ℕ) → P m → n ≤ m
 
 -- the least number with the property, or none if no number has it
 abbrev pub IsLeastOf : (ℕ → Type 0) → Option ℕ → Type 0
-IsLeastOf P o = MatchOption o ((n : ℕ) → P n → ⊥) (IsLeast P)
+IsLeastOf P o = MatchOption o ((n : ℕ) → P n → ⊥) (IsLeastNumber P)
 
 -- what is kept for a square, unless that is the number for none, is the least distance of its nonzero cells from the side
 abbrev pub AreLeast : Side → (Id → Tree) → (Id → ℕ) → Type 0
-AreLeast side content kept = (q : Id) → kept q ≢ UNKNOWN → IsLeast (HasCellAt side (content q)) (kept q)
+AreLeast side content kept = (q : Id) → kept q ≢ UNKNOWN → IsLeastNumber (HasCellAt side (content q)) (kept q)
 
 -- with the side in the north, the quarters of the square are a and b, and behind them c and d
 abbrev pub Faces : Side → Tree → Tree → Tree → Tree → Tree → Type 0

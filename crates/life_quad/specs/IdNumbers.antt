@@ -8,7 +8,7 @@ pub record NumberRoom : Type 0 where
   pub size : ℕ
 
 -- the Ids that have a number, in its order, and which Ids there is room for
-pub record Numbered : Type 0 where
+pub record NumberedIds : Type 0 where
   pub ids : List Id
   pub room : NumberRoom
 

@@ -4,7 +4,7 @@ use Rattle.life_base.specs.declared.cell.Cell.{Cell}
 use Rattle.life_base.specs.Tree.{Tree, depth, IsFull, is_blank_tree, state_at}
 use Rattle.life_base.specs.declared.cell.TheConstants.{MAX_LEVEL}
 use Rattle.life_quad.specs.declared.id.Id.{Id}
-use Rattle.life_quad.specs.Moves.{trimmed, grown}
+use Rattle.life_quad.specs.Moves.{trimmed_square, grown_square}
 use Rattle.life_quad.specs.Store.{Nodes, Knows, IsShared, content}
 use Rattle.life_quad.specs.Cells.{population, IsCellList}
 use Rattle.life_base.specs.Tree.{tree_cell as cell, half_side}
@@ -33,39 +33,39 @@ CellsLieInside =
 
 -- a square one level higher has the same cells on the plane
 abbrev pub GrowingKeepsCells : Type 0
-GrowingKeepsCells = (t : Tree) → IsFull t → 1 ≤ depth t → (x y : ℤ) → cell (grown t) x y ≡ cell t x y
+GrowingKeepsCells = (t : Tree) → IsFull t → 1 ≤ depth t → (x y : ℤ) → cell (grown_square t) x y ≡ cell t x y
 
 -- so has a trimmed square
 abbrev pub TrimmingKeepsCells : Type 0
-TrimmingKeepsCells = (t : Tree) (least : ℕ) → IsFull t → 1 ≤ least → (x y : ℤ) → cell (trimmed t least) x y ≡ cell t x y
+TrimmingKeepsCells = (t : Tree) (least : ℕ) → IsFull t → 1 ≤ least → (x y : ℤ) → cell (trimmed_square t least) x y ≡ cell t x y
 
 -- trimming ignores growth
 abbrev pub TrimmingIgnoresGrowth : Type 0
 TrimmingIgnoresGrowth =
-    (t : Tree) (least : ℕ) → IsFull t → 1 ≤ least → least ≤ depth t → trimmed (grown t) least ≡ trimmed t least
+    (t : Tree) (least : ℕ) → IsFull t → 1 ≤ least → least ≤ depth t → trimmed_square (grown_square t) least ≡ trimmed_square t least
 
 -- a trimmed square is full, and trimming leaves it
 abbrev pub TrimmedIsFixed : Type 0
 TrimmedIsFixed =
-    (t : Tree) (least : ℕ) → IsFull t → 1 ≤ least → IsFull (trimmed t least) × (trimmed (trimmed t least) least ≡ trimmed t least)
+    (t : Tree) (least : ℕ) → IsFull t → 1 ≤ least → IsFull (trimmed_square t least) × (trimmed_square (trimmed_square t least) least ≡ trimmed_square t least)
 
 -- trimming ends at the least level, leaves a square that is not above it, and makes none larger
 abbrev pub TrimmingStops : Type 0
 TrimmingStops =
     (t : Tree) (least : ℕ) → IsFull t → 1 ≤ least
-    → (least ≤ depth t → least ≤ depth (trimmed t least)) × (depth t ≤ least → trimmed t least ≡ t) × (depth (trimmed t least) ≤ depth t)
+    → (least ≤ depth t → least ≤ depth (trimmed_square t least)) × (depth t ≤ least → trimmed_square t least ≡ t) × (depth (trimmed_square t least) ≤ depth t)
 
 -- squares of any levels from the least one on have one trimmed form exactly if they have the same cells on the plane
 abbrev pub TrimmedByCells : Type 0
 TrimmedByCells =
     (s t : Tree) (least : ℕ) → IsFull s → IsFull t → 1 ≤ least → least ≤ depth s → least ≤ depth t
-    → (trimmed s least ≡ trimmed t least) ↔ ((x y : ℤ) → cell s x y ≡ cell t x y)
+    → (trimmed_square s least ≡ trimmed_square t least) ↔ ((x y : ℤ) → cell s x y ≡ cell t x y)
 
 -- no square from the least level on with the same cells is of a lower level than the trimmed one
 abbrev pub TrimmedIsLowest : Type 0
 TrimmedIsLowest =
     (s t : Tree) (least : ℕ) → IsFull s → IsFull t → 1 ≤ least → least ≤ depth s → least ≤ depth t
-    → ((x y : ℤ) → cell s x y ≡ cell t x y) → depth (trimmed t least) ≤ depth s
+    → ((x y : ℤ) → cell s x y ≡ cell t x y) → depth (trimmed_square t least) ≤ depth s
 
 -- a square has one list of its nonzero cells, row by row from the north, and in a row from the west
 abbrev pub CellsAreListed : Type 0

@@ -57,11 +57,11 @@ trim_up_to zero t least = t
 trim_up_to (suc n) t least = if can_trim t least then trim_up_to n (inner t) least else t
 
 -- while the square can be trimmed, the square of its inner grandchildren
-abbrev pub trimmed : Tree → ℕ → Tree
-trimmed t least = trim_up_to (depth t) t least
+abbrev pub trimmed_square : Tree → ℕ → Tree
+trimmed_square t least = trim_up_to (depth t) t least
 
 -- one level higher, with t in the middle of blank squares
-abbrev pub grown : Tree → Tree
-grown (point s) = point s
-grown (quad nw ne sw se) =
+abbrev pub grown_square : Tree → Tree
+grown_square (point s) = point s
+grown_square (quad nw ne sw se) =
     let e = blank (depth nw) in quad (quad e e e nw) (quad e e ne e) (quad e sw e e) (quad se e e e)

@@ -53,9 +53,9 @@ pub bits_of : (a b c d : ℕ) → a < 2 → b < 2 → c < 2 → d < 2
     → (let n = a * 8 + b * 4 + c * 2 + d in (n / 8 ≡ a) × (n / 4 % 2 ≡ b) × (n / 2 % 2 ≡ c) × (n % 2 ≡ d))
 bits_of a b c d la lb lc ld = (omega arith, omega arith, omega arith, omega arith)
 
-pub digits_of : (a b c d : ℕ) → a < 16 → b < 16 → c < 16 → d < 16
+pub base_16_digits : (a b c d : ℕ) → a < 16 → b < 16 → c < 16 → d < 16
     → (let n = a * 4096 + b * 256 + c * 16 + d in (n / 4096 ≡ a) × (n / 256 % 16 ≡ b) × (n / 16 % 16 ≡ c) × (n % 16 ≡ d))
-digits_of a b c d la lb lc ld = (omega arith, omega arith, omega arith, omega arith)
+base_16_digits a b c d la lb lc ld = (omega arith, omega arith, omega arith, omega arith)
 
 pub below_16 : (q : ℕ) → IsDigit q → q - 512 < 16
 below_16 q (digit_0 e) = omega arith
@@ -91,6 +91,6 @@ small_square-is S a b c d k (of_digits ia ib ic id e) =
     let la : p < 16 = below_16 a ia in let lb : q < 16 = below_16 b ib in let lc : r < 16 = below_16 c ic in let ld : t < 16 = below_16 d id in
     let low : nat_lt k 528 ≡ false = grind arith in
     let n : k - 528 ≡ p * 4096 + q * 256 + r * 16 + t = omega arith in
-    let o = digits_of p q r t la lb lc ld in
+    let o = base_16_digits p q r t la lb lc ld in
     rw low (ap four n ∙ (λ i. quad ((ap two o.0 ∙ sym (square_of-digit S a ia)) i) ((ap two o.1 ∙ sym (square_of-digit S b ib)) i)
     ((ap two o.2 ∙ sym (square_of-digit S c ic)) i) ((ap two o.3 ∙ sym (square_of-digit S d id)) i)))

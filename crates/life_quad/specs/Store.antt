@@ -3,7 +3,7 @@ use Rattle.std.specs.Prelude.{◌≡◌, ◌≢◌, ℕ, ◌+◌, ◌*◌, ◌-�
 use Rattle.life_base.specs.declared.cell.TheConstants.{MAX_LEVEL}
 use Rattle.life_base.specs.declared.kind.Kind.{Kind}
 use Rattle.life_base.specs.declared.kind.Kind.TheVariants.{Full, Memory}
-use Rattle.life_quad.specs.Keeping.{IsWantKind}
+use Rattle.life_quad.specs.Keeping.{IsShortageKind}
 use Rattle.life_quad.specs.Moves.{quad_of}
 use Rattle.life_quad.specs.declared.id.Id.{Id}
 use Rattle.life_quad.specs.declared.id.Node.{Node}
@@ -63,8 +63,8 @@ small_of nw ne sw se =
     else None
 
 -- the number of a node's square, where it is small
-abbrev pub number_of : Node → Option ℕ
-number_of n = small_of n.nw n.ne n.sw n.se
+abbrev pub small_number_of : Node → Option ℕ
+small_number_of n = small_of n.nw n.ne n.sw n.se
 
 -- the square of a node, whose quarters are the numbers of Ids
 abbrev pub node_square : List Tree → Node → Tree
@@ -79,7 +79,7 @@ abbrev pub levels_of : List Node → List ℕ
 levels_of nodes = map depth (squares nodes)
 
 -- the Id is a state, a blank square of the greatest level at most, a small square, or one of the first n nodes
-pub record IsNamed (n : ℕ) (id : Id) : Type 0 where
+pub record IsIdWithin (n : ℕ) (id : Id) : Type 0 where
   pub below : id.0 < 66064 + n
   pub blank : id.0 < 512 → id.0 < 256 + MAX_LEVEL
 
@@ -89,7 +89,7 @@ IsJoined log id = 512 ≤ id.0 → id.0 < 66064 → Contains log id.0
 
 -- the Id stands for a square before node number i
 pub record IsEarlier (log : List ℕ) (i : ℕ) (id : Id) : Type 0 where
-  pub named : IsNamed i id
+  pub named : IsIdWithin i id
   pub joined : IsJoined log id
 
 -- whether the Id is that of a blank square
@@ -109,11 +109,11 @@ pub record IsNode (log : List ℕ) (stored : List Tree) (i : ℕ) (n : Node) : T
 -- the number is that of a small square that is not blank and whose quarters were joined
 pub record IsSmall (log : List ℕ) (stored : List Tree) (k : ℕ) : Type 0 where
   pub quarters : Node
-  pub number : number_of quarters ≡ Some k
+  pub number : small_number_of quarters ≡ Some k
   pub is : IsNode log stored 0 quarters
 
 -- every node is sound and has its square, every small square is sound, and there are no more Ids than numbers of 32 bits
-pub record IsSound (s : Nodes) : Type 0 where
+pub record IsSoundStore (s : Nodes) : Type 0 where
   pub entries : (i : ℕ) (n : Node) → slice_get s.nodes i ≡ Some n → IsNode s.log (squares s.nodes) i n
   pub square : (i : ℕ) (n : Node) → slice_get s.nodes i ≡ Some n → slice_get (squares s.nodes) i ≡ Some (node_square (squares s.nodes) n)
   pub small : (k : ℕ) → Contains s.log k → k < 66064 → IsSmall s.log (squares s.nodes) k
@@ -124,7 +124,7 @@ pub record IsSound (s : Nodes) : Type 0 where
 -- store is within its limit.
 pub record IsShared (s : Nodes) : Type 0 where
   pub once : (i j : ℕ) (n : Node) → slice_get s.nodes i ≡ Some n → slice_get s.nodes j ≡ Some n → i ≡ j
-  pub apart : (i : ℕ) (n : Node) → slice_get s.nodes i ≡ Some n → number_of n ≡ None
+  pub apart : (i : ℕ) (n : Node) → slice_get s.nodes i ≡ Some n → small_number_of n ≡ None
   pub logged : (i : ℕ) → i < length s.nodes → Contains s.log (66064 + i)
   pub known : (k : ℕ) → Contains s.log k → k < 66064 + length s.nodes
   pub distinct : AllPairs ◌≢◌ s.log
@@ -132,8 +132,8 @@ pub record IsShared (s : Nodes) : Type 0 where
 
 -- the store is sound, and the Id names one of its squares
 pub record Knows (s : Nodes) (id : Id) : Type 0 where
-  pub sound : IsSound s
-  pub named : IsNamed (length s.nodes) id
+  pub sound : IsSoundStore s
+  pub named : IsIdWithin (length s.nodes) id
   pub joined : IsJoined s.log id
 
 -- the square of an Id of a store
@@ -141,12 +141,12 @@ abbrev pub content : Nodes → Id → Tree
 content s id = square_of (squares s.nodes) id
 
 -- the squares that a store holds, in the order in which they were joined first
-abbrev pub held : Nodes → List Tree
-held s = map (λ k. content s (id_of k)) s.log
+abbrev pub stored_squares : Nodes → List Tree
+stored_squares s = map (λ k. content s (id_of k)) s.log
 
 -- the Id of a node, or of a small square by its quarters
 pub data IsIdOf (s : Nodes) (n : Node) (id : Id) : Type 0 where
-  as_small : number_of n ≡ Some id.0 → Contains s.log id.0 → IsIdOf s n id
+  as_small : small_number_of n ≡ Some id.0 → Contains s.log id.0 → IsIdOf s n id
   as_node : (i : ℕ) → id.0 ≡ 66064 + i → slice_get s.nodes i ≡ Some n → IsIdOf s n id
 
 -- each known Id keeps its square
@@ -155,27 +155,28 @@ KeepsContents old new = (id : Id) → Knows old id × IsShared old → (Knows ne
 
 -- the Id is that of the square, which was there, or which was added last
 pub data Joined (old new : Nodes) (t : Tree) (id : Id) : Type 0 where
-  was_there : new ≡ old → Contains (held old) t → Knows old id × IsShared old → content old id ≡ t → Joined old new t id
-  is_new : ¬ Contains (held old) t → KeepsContents old new → held new ≡ held old ++ t ∷ [] → Knows new id × IsShared new → content new id ≡ t
+  was_there : new ≡ old → Contains (stored_squares old) t → Knows old id × IsShared old → content old id ≡ t → Joined old new t id
+  is_new : ¬ Contains (stored_squares old) t → KeepsContents old new → stored_squares new ≡ stored_squares old ++ t ∷ [] → Knows new id × IsShared new
+      → content new id ≡ t
       → Joined old new t id
 
 -- what a shared store answers to the join of a square that isn't blank
-pub record Answers (old new : Nodes) (t : Tree) (r : Result Id Kind) : Type 0 where
+pub record AnswersJoin (old new : Nodes) (t : Tree) (r : Result Id Kind) : Type 0 where
   pub joined : IfOk r (Joined old new t)
   pub limit : new.limit ≡ old.limit
-  pub full : (r ≡ Err Full) ↔ (¬ Contains (held old) t × (length (held old) ≡ old.limit))
-  pub room : r ≡ Err Memory → length (held new) < new.limit
-  pub refusals : IfErr r (IsWantKind (held new) new.limit)
-  pub needed : OnErr r (¬ Contains (held old) t)
+  pub full : (r ≡ Err Full) ↔ (¬ Contains (stored_squares old) t × (length (stored_squares old) ≡ old.limit))
+  pub room : r ≡ Err Memory → length (stored_squares new) < new.limit
+  pub refusals : IfErr r (IsShortageKind (stored_squares new) new.limit)
+  pub needed : OnErr r (¬ Contains (stored_squares old) t)
   pub unchanged : OnErr r (new ≡ old)
 
 -- the Id is that of the square of these quarters, or has the greatest number, which stands for a square that has no node
-abbrev pub IsFound : Nodes → Quarters → Id → Type 0
-IsFound s quarters id = ((Knows s id × IsShared s) × (content s id ≡ quad_of (content s) quarters)) ⊎ (id.0 ≡ 2 ^ 64 - 1)
+abbrev pub IsFoundId : Nodes → Quarters → Id → Type 0
+IsFoundId s quarters id = ((Knows s id × IsShared s) × (content s id ≡ quad_of (content s) quarters)) ⊎ (id.0 ≡ 2 ^ 64 - 1)
 
 -- each of the first n Ids is such an Id of its quarters
 abbrev pub AreFound : Nodes → List Quarters → List Id → ℕ → Type 0
-AreFound s quarters ids n = (i : ℕ) (q : Quarters) (d : Id) → i < n → IsFound s (get_or quarters i q) (get_or ids i d)
+AreFound s quarters ids n = (i : ℕ) (q : Quarters) (d : Id) → i < n → IsFoundId s (get_or quarters i q) (get_or ids i d)
 
 -- of each small square that is marked, and of no other, the number was joined
 pub record HasSeen (seen : Id → Bool) (log : List ℕ) : Type 0 where

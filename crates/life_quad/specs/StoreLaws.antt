@@ -5,7 +5,7 @@ use Rattle.life_base.specs.declared.cell.TheConstants.{MAX_LEVEL}
 use Rattle.life_quad.specs.declared.id.Id.{Id}
 use Rattle.life_quad.specs.declared.id.Node.{Node}
 use Rattle.life_base.specs.Tree.{Tree, point, quad, depth, blank, is_blank_tree, IsFull}
-use Rattle.life_quad.specs.Store.{Nodes, id_of, square_of, small_square, number_of, node_square, squares, IsEarlier, IsNode, IsShared, IsIdOf, as_small, as_node, Knows}
+use Rattle.life_quad.specs.Store.{Nodes, id_of, square_of, small_square, small_number_of, node_square, squares, IsEarlier, IsNode, IsShared, IsIdOf, as_small, as_node, Knows}
 use Rattle.life_quad.specs.SmallLaws.{smalls, small_square-is}
 use Rattle.life_base.proofs.Squares.{depth-blank, full-blank, is_blank-blank, quad_nw, quad_ne, quad_sw, quad_se, point_state, point≢quad}
 
@@ -27,7 +27,7 @@ kind_of stored id = by (nat_lt id.0 256) refl (nat_lt id.0 512) refl (nat_lt id.
     by false e false f false g = a_node (grind arith) (grind arith)
 
 -- the square of a small square's quarters
-pub small_node : (S : List Tree) (n : Node) (k : ℕ) → number_of n ≡ Some k → small_square k ≡ node_square S n
+pub small_node : (S : List Tree) (n : Node) (k : ℕ) → small_number_of n ≡ Some k → small_square k ≡ node_square S n
 small_node S n k h = small_square-is S n.nw n.ne n.sw n.se k (smalls n.nw n.ne n.sw n.se k h)
 
 -- the square of a known Id, which is a state, a blank square, or the square of a node or of the quarters of a small square

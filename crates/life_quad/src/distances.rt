@@ -1,6 +1,6 @@
 //! How far from the sides of a square its nonzero cells lie.
 ghost use Rattle.std.specs.Prelude.{◌≡◌, ◌≤◌, Option, IfOk, IfErr};
-ghost use Rattle.life_quad.specs.Words.{depth, HasCellAt, HasCellInTwo, IsLeastOf, AreLeast, Faces, lesser_of, AreQuarters, value_of, IsMemory};
+ghost use Rattle.life_quad.specs.Words.{depth, HasCellAt, HasCellInTwo, IsLeastOf, AreLeast, Faces, lesser_of, AreQuarters, value_of_id, IsMemory};
 
 use crate::id_map::IdMap;
 use crate::moves::{Quarters, divide, is_blank_at};
@@ -90,9 +90,9 @@ fn lesser(a: Option<u64>, b: Option<u64>) -> Option<u64>
 fn find<S: Squares>(squares: &S, side: Side, level: u8, id: Id, known: &mut IdMap<u64>) -> Found
     requires known { S.knows squares.now id }
     requires level { level ≡ depth (S.content squares.now id) }
-    requires right { AreLeast side (S.content squares.now) (value_of known.old) }
+    requires right { AreLeast side (S.content squares.now) (value_of_id known.old) }
     ensures least { IfOk result (IsLeastOf (HasCellAt side (S.content squares.now id))) }
-    ensures right { AreLeast side (S.content squares.now) (value_of known.new) }
+    ensures right { AreLeast side (S.content squares.now) (value_of_id known.new) }
     ensures refusals { IfErr result IsMemory }
 {
     if is_blank_at(squares, level, id) {
@@ -132,10 +132,10 @@ fn find_in_two<S: Squares>(
     requires second { S.knows squares.now second }
     requires first_level { level ≡ depth (S.content squares.now first) }
     requires second_level { level ≡ depth (S.content squares.now second) }
-    requires right { AreLeast side (S.content squares.now) (value_of known.old) }
+    requires right { AreLeast side (S.content squares.now) (value_of_id known.old) }
     ensures least { IfOk result (IsLeastOf
         (HasCellInTwo side (S.content squares.now first) (S.content squares.now second))) }
-    ensures right { AreLeast side (S.content squares.now) (value_of known.new) }
+    ensures right { AreLeast side (S.content squares.now) (value_of_id known.new) }
     ensures refusals { IfErr result IsMemory }
 {
     let nearest = find(squares, side, level, first, known)?;

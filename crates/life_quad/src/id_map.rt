@@ -1,6 +1,6 @@
 //! A value for each square.
 ghost use Rattle.std.specs.Prelude.{◌≡◌, ◌≢◌, ◌+◌, ◌<◌, ◌≤◌, ◌++◌, ℕ, length, replicate, slice_index_or, vec_len, OnOk, OnErr, IfErr};
-ghost use Rattle.life_quad.specs.Words.{Memory, IdValue, value_of, HasRoom, SetsValue, index_in, place_of, IsMemory};
+ghost use Rattle.life_quad.specs.Words.{Memory, IdValue, value_of_id, HasPage, SetsValue, index_in, place_of, IsMemory};
 
 use crate::Id;
 use crate::id::FIRST_NODE;
@@ -111,7 +111,7 @@ fn add_page<T: Copy>(values: &mut Vec<T>, value: T) -> Result<(), Kind>
 impl<T: Copy> IdMap<T> {
     /// The absent value for every Id. It takes no memory.
     pub(crate) fn new(alloc: Global, absent: T) -> IdMap<T>
-        ensures { (q : IdValue) → value_of result q ≡ absent }
+        ensures { (q : IdValue) → value_of_id result q ≡ absent }
     {
         let starts = Vec::new(alloc);
         let values = Vec::new(alloc);
@@ -124,7 +124,7 @@ impl<T: Copy> IdMap<T> {
 
     /// The value of an Id.
     pub(crate) fn get(&self, id: Id) -> T
-        ensures { result ≡ value_of self.now id }
+        ensures { result ≡ value_of_id self.now id }
     {
         match self.values.get(index_of(&self.starts, id.0)) {
             Some(value) => *value,
@@ -134,8 +134,8 @@ impl<T: Copy> IdMap<T> {
 
     /// Makes the page of an Id. Each value stays as it was, also where `Memory` refuses the page.
     pub(crate) fn make_room(&mut self, id: Id) -> Result<(), Kind>
-        ensures room { OnOk result (HasRoom self.new id) }
-        ensures same { (q : IdValue) → value_of self.new q ≡ value_of self.old q }
+        ensures room { OnOk result (HasPage self.new id) }
+        ensures same { (q : IdValue) → value_of_id self.new q ≡ value_of_id self.old q }
         ensures refusals { IfErr result IsMemory }
     {
         let start = self.values.len();
@@ -154,9 +154,9 @@ impl<T: Copy> IdMap<T> {
 
     /// Sets the value of an Id whose page was made.
     pub(crate) fn put(&mut self, id: Id, value: T)
-        requires { HasRoom self.old id }
-        ensures set { value_of self.new id ≡ value }
-        ensures others { (q : IdValue) → q ≢ id → value_of self.new q ≡ value_of self.old q }
+        requires { HasPage self.old id }
+        ensures set { value_of_id self.new id ≡ value }
+        ensures others { (q : IdValue) → q ≢ id → value_of_id self.new q ≡ value_of_id self.old q }
     {
         let index = index_of(&self.starts, id.0);
         self.values[index] = value;

@@ -1,6 +1,6 @@
 //! Numbers for the Ids of a store.
 ghost use Rattle.std.specs.Prelude.{◌≡◌, ◌≢◌, ◌^◌, false, ◌++◌, ◌∷◌, ◌-◌, ◌<◌, ◌≤◌, [], length, slice_get, AllPairs, Contains, IfOk, IfErr, OnOk, OnErr, IfSome, MatchOption, Some};
-ghost use Rattle.life_quad.specs.Words.{Memory, IdValue, depth, is_blank_tree, Knows, content, value_of, HasNumberRoom, first_of, number_by, IsMemory};
+ghost use Rattle.life_quad.specs.Words.{Memory, IdValue, depth, is_blank_tree, Knows, content, value_of_id, HasNumberRoom, first_of, number_by, IsMemory};
 
 use crate::id::FIRST_NODE;
 use crate::id_map::IdMap;
@@ -29,14 +29,14 @@ pub struct IdNumbers {
 impl Model for IdNumbers {
     ghost use Rattle.std.specs.Prelude.{◌≡◌, ◌<◌, ◌≤◌, ◌^◌, length, map};
     ghost use Rattle.life_quad.specs.Store.{id_of};
-    ghost use Rattle.life_quad.specs.IdNumbers.{HasPlaces, Numbered, number_by};
-    ghost use Rattle.life_quad.specs.IdMap.{value_of};
+    ghost use Rattle.life_quad.specs.IdNumbers.{HasPlaces, NumberedIds, number_by};
+    ghost use Rattle.life_quad.specs.IdMap.{value_of_id};
 
-    ghost Value = { Numbered };
+    ghost Value = { NumberedIds };
 
     ghost view = { λ a. record { ids = map id_of a.log.ids; room = record { first = a.first; size = length a.numbers.items } } };
 
-    ghost invariant = { λ a. HasPlaces (map id_of a.log.ids) (number_by a.first a.numbers.items (value_of a.pages)) × (a.count ≡ length (map id_of a.log.ids)) × (length a.numbers.items < 2 ^ 32) × (a.first ≤ 66064) };
+    ghost invariant = { λ a. HasPlaces (map id_of a.log.ids) (number_by a.first a.numbers.items (value_of_id a.pages)) × (a.count ≡ length (map id_of a.log.ids)) × (length a.numbers.items < 2 ^ 32) × (a.first ≤ 66064) };
 }
 
 // The least number of the Id of a square of this level or a higher one that isn't blank: small squares, whose Ids come before those of nodes, are of
@@ -61,7 +61,7 @@ fn index_from(first: u64, id: Id) -> usize
 fn number_in(first: u64, numbers: &[u32], pages: &IdMap<u32>, id: Id) -> u32
     requires first { first ≤ 66064 }
     requires few { length numbers.now < 2 ^ 32 }
-    ensures { result ≡ number_by first numbers.now (value_of pages.now) id }
+    ensures { result ≡ number_by first numbers.now (value_of_id pages.now) id }
 {
     match numbers.get(index_from(first, id)) {
         Some(number) => *number,

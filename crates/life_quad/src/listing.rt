@@ -5,7 +5,7 @@
 //! entered, and each band has at most as many squares as there are cells. If the list has capacity for all cells that a band of level 2
 //! may have, its four rows are taken from its squares at once.
 ghost use Rattle.std.specs.Prelude.{◌≡◌, ◌⊎◌, ◌+◌, ◌-◌, ◌^◌, ◌<◌, ◌≤◌, ◌+ℤ◌, ◌≤ℤ◌, pos, neg_ℤ, [], ◌∷◌, ◌++◌, length, All, Err, OnOk, IfOk, IfErr};
-ghost use Rattle.life_quad.specs.Words.{Memory, TooManyCells, depth, state_at, IsCellList, population, InBand, IsPlaced, pieces, kept, northern, southern, upper, lower, row_cells, band_cells, pair_of, row_of, live_cells, part_cells, two, four, IsMemory};
+ghost use Rattle.life_quad.specs.Words.{Memory, TooManyCells, depth, state_at, IsCellList, population, InBand, IsPlaced, pieces, piece_unless_blank, northern, southern, upper, lower, row_cells, band_cells, pair_of, row_states, live_cells, part_cells, two, four, IsMemory};
 
 use crate::moves::{Quarters, divide, is_blank_at};
 use crate::runs::half_side;
@@ -97,7 +97,7 @@ fn keep<S: Squares>(
         (All (IsPlaced (S.knows squares.now) (S.content squares.now) level) band.new.items) }
     ensures pieces { OnOk result (pieces (S.content squares.now) band.new.items
         ≡ pieces (S.content squares.now) band.old.items
-        ++ kept (S.content squares.now square) column) }
+        ++ piece_unless_blank (S.content squares.now square) column) }
     ensures refusals { IfErr result IsMemory }
 {
     if is_blank_at(squares, level, square) {
@@ -206,7 +206,7 @@ fn digit_states(digit: u16, low: bool) -> [State; 2]
 /// the lower or the upper one.
 #[inline(always)]
 fn small_states(cells: u16, south: bool, low: bool) -> (State, State, State, State)
-    ensures { result.0 ∷ result.1 ∷ result.2 ∷ result.3 ∷ [] ≡ row_of south low (four cells) }
+    ensures { result.0 ∷ result.1 ∷ result.2 ∷ result.3 ∷ [] ≡ row_states south low (four cells) }
 {
     let (west, east) = if south {
         (cells / 16 % 16, cells % 16)
@@ -247,7 +247,7 @@ fn row_of<S: Squares>(squares: &S, id: Id, south: bool, low: bool) -> (State, St
     requires known { S.knows squares.now id }
     requires level { depth (S.content squares.now id) ≡ 2 }
     ensures { result.0 ∷ result.1 ∷ result.2 ∷ result.3 ∷ []
-        ≡ row_of south low (S.content squares.now id) }
+        ≡ row_states south low (S.content squares.now id) }
 {
     if let Some(cells) = squares.small_cells(id) {
         return small_states(cells, south, low);

@@ -1,6 +1,6 @@
 //! What was answered for squares amid their neighbours.
 ghost use Rattle.std.specs.Prelude.{◌≡◌, ◌⊎◌, List, map, IfSome};
-ghost use Rattle.life_quad.specs.Words.{IdValue, SlotValue, Recalls, Holds, number};
+ghost use Rattle.life_quad.specs.Words.{IdValue, SlotValue, Recalls, SlotHolds, number_of_id};
 
 use crate::{Id, Seed};
 use std::alloc::Global;
@@ -51,14 +51,14 @@ impl Model for NeighbourhoodMemory {
 
 /// The number of an Id, where 32 bits hold it.
 fn number_of(id: Id) -> Option<u32>
-    ensures { IfSome result (λ n. n ≡ number id) }
+    ensures { IfSome result (λ n. n ≡ number_of_id id) }
 {
     u32::try_from(id.0).ok()
 }
 
 /// The numbers of nine Ids, where 32 bits hold each.
 fn numbers_of(ids: &[Id; 9]) -> Option<[u32; 9]>
-    ensures { IfSome result (λ numbers. numbers ≡ map number ids.now) }
+    ensures { IfSome result (λ numbers. numbers ≡ map number_of_id ids.now) }
 {
     let [nw, n, ne, w, here, e, sw, s, se] = *ids;
     Some([
@@ -85,7 +85,7 @@ fn hash(words: &[u64; 9], numbers: &[u32; 9]) -> u64 {
 
 /// Makes the first slots, or four times as many.
 fn make_slots(slots: &mut Vec<Slot>)
-    ensures { (p : SlotValue) → Holds slots.new.items p → Holds slots.old.items p }
+    ensures { (p : SlotValue) → SlotHolds slots.new.items p → SlotHolds slots.old.items p }
 {
     let count = if slots.is_empty() {
         FIRST_SLOTS
@@ -97,7 +97,8 @@ fn make_slots(slots: &mut Vec<Slot>)
 
 /// Sets a slot, if it is there.
 fn set_slot(slots: &mut Vec<Slot>, index: usize, slot: Slot)
-    ensures { (p : SlotValue) → Holds slots.new.items p → Holds slots.old.items p ⊎ (p ≡ slot) }
+    ensures { (p : SlotValue) → SlotHolds slots.new.items p → SlotHolds slots.old.items p
+        ⊎ (p ≡ slot) }
 {
     if index < slots.len() {
         slots[index] = slot;
@@ -123,7 +124,7 @@ impl NeighbourhoodMemory {
 
     /// Makes more slots where they are of use.
     fn grow(&mut self)
-        ensures { (p : SlotValue) → Holds self.new p → Holds self.old p }
+        ensures { (p : SlotValue) → SlotHolds self.new p → SlotHolds self.old p }
     {
         let count = self.slots.len();
         let enough = count.saturating_mul(count) / USE;

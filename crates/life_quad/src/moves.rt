@@ -1,6 +1,6 @@
 //! Squares made of other squares.
 ghost use Rattle.std.specs.Prelude.{◌≡◌, ◌&&◌, ◌+◌, ◌<◌, ◌≤◌, is_some, IfSome};
-ghost use Rattle.life_quad.specs.Words.{quad, depth, is_blank_tree, AreQuarters, quad_of, grown, trimmed, inner, can_trim, SomePart, TrimmedTo, MakesSquare};
+ghost use Rattle.life_quad.specs.Words.{quad, depth, is_blank_tree, AreQuarters, quad_of, grown_square, trimmed_square, inner, can_trim, SomePart, TrimmedTo, MakesSquare};
 
 use crate::{Id, Squares};
 use life_base::{Kind, MAX_LEVEL};
@@ -44,8 +44,9 @@ pub fn grow<S: Squares>(squares: &mut S, id: Id) -> Result<Id, Kind>
     requires known { S.knows squares.old id }
     requires low { 1 ≤ depth (S.content squares.old id) }
     requires high { depth (S.content squares.old id) < MAX_LEVEL }
-    ensures { MakesSquare S.Squares squares.old squares.new (grown (S.content squares.old id))
-        (λ P. SomePart P (grown (S.content squares.old id))) result }
+    ensures { MakesSquare S.Squares squares.old squares.new
+        (grown_square (S.content squares.old id))
+        (λ P. SomePart P (grown_square (S.content squares.old id))) result }
 {
     let Quarters { nw, ne, sw, se } = divide(squares, id);
     let e = squares.empty(squares.level(nw));
@@ -132,7 +133,7 @@ fn innermost<S: Squares>(squares: &S, quarters: Quarters, least: u8) -> Quarters
         (quad_of (S.content squares.now) quarters) quarters }
     requires positive { 1 ≤ least }
     ensures square { quad_of (S.content squares.now) result
-        ≡ trimmed (quad_of (S.content squares.now) quarters) least }
+        ≡ trimmed_square (quad_of (S.content squares.now) quarters) least }
     ensures low { depth (S.content squares.now result.nw)
         ≤ depth (S.content squares.now quarters.nw) }
     ensures quarters { AreQuarters (S.knows squares.now) (S.content squares.now)
@@ -153,7 +154,7 @@ pub fn trim<S: Squares>(squares: &mut S, id: Id, least: u8) -> Result<Id, Kind>
     requires known { S.knows squares.old id }
     requires positive { 1 ≤ least }
     ensures { MakesSquare S.Squares squares.old squares.new
-        (trimmed (S.content squares.old id) least)
+        (trimmed_square (S.content squares.old id) least)
         (λ P. TrimmedTo P (S.content squares.old id) least) result }
 {
     if squares.level(id) <= least {

@@ -1,6 +1,6 @@
 //! A store that keeps each join as a node of its own.
 ghost use Rattle.std.specs.Prelude.{◌≡◌, ◌<◌, ◌≤◌, ◌^◌, ◌+◌, [], ◌∷◌, ◌++◌, length, false, ◌↔◌, ◌⊎◌, Err, OnOk, OnErr, IfOk, IfErr};
-ghost use Rattle.life_quad.specs.Words.{Full, Memory, depth, is_blank_tree, full_content, low_content, squares, content, node_square, Knows, IsNode, IsSound};
+ghost use Rattle.life_quad.specs.Words.{Full, Memory, depth, is_blank_tree, full_content, low_content, squares, content, node_square, Knows, IsNode, IsSoundStore};
 
 use crate::id::{FIRST_NODE, Node, are_blank, no_room};
 use crate::{Id, Squares};
@@ -19,13 +19,13 @@ pub struct Plain {
 
 impl Model for Plain {
     ghost use Rattle.std.specs.Prelude.{[], ◌≡◌, ◌≤◌, length};
-    ghost use Rattle.life_quad.specs.Store.{Nodes, IsSound, levels_of};
+    ghost use Rattle.life_quad.specs.Store.{Nodes, IsSoundStore, levels_of};
 
     ghost Value = { Nodes };
 
     ghost view = { λ s. record { nodes = s.nodes.items; log = []; limit = s.limit } };
 
-    ghost invariant = { λ s. IsSound (record { nodes = s.nodes.items; log = []; limit = s.limit }) × (length s.nodes.items ≤ s.limit) × (s.levels.items ≡ levels_of s.nodes.items) };
+    ghost invariant = { λ s. IsSoundStore (record { nodes = s.nodes.items; log = []; limit = s.limit }) × (length s.nodes.items ≤ s.limit) × (s.levels.items ≡ levels_of s.nodes.items) };
 }
 
 impl Plain {
@@ -51,7 +51,7 @@ impl Plain {
         ensures stored { OnOk result (self.new ≡ record
             { nodes = self.old.nodes ++ node ∷ []; log = self.old.log; limit = self.old.limit }) }
         ensures id { IfOk result (λ id. id.0 ≡ FIRST_NODE + length self.old.nodes) }
-        ensures sound { IsSound self.new }
+        ensures sound { IsSoundStore self.new }
         ensures within { length self.old.nodes ≤ self.old.limit }
         ensures limit { self.new.limit ≡ self.old.limit }
         ensures full { (result ≡ Err Full) ↔ (length self.old.nodes ≡ self.old.limit) }

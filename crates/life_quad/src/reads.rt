@@ -1,6 +1,6 @@
 //! What a square has: the number of its nonzero cells, and their bounding box.
 ghost use Rattle.std.specs.Prelude.{◌≡◌, ◌+◌, ◌^◌, ◌+ℤ◌, pos, ◌<◌, ◌≤◌, true, IfOk, IfErr, IfSome, MatchOption};
-ghost use Rattle.life_quad.specs.Words.{IdValue, depth, is_blank_tree, population, IsLeastBox, value_of, IsMemory};
+ghost use Rattle.life_quad.specs.Words.{IdValue, depth, is_blank_tree, population, IsBoundingBoxOfTree, value_of_id, IsMemory};
 
 use crate::distances::{Side, least_distance};
 use crate::id_map::IdMap;
@@ -81,11 +81,11 @@ pub fn leaf_population<S: Squares>(squares: &S, level: u8, id: Id) -> u128
 fn count<S: Squares>(squares: &S, level: u8, id: Id, known: &mut IdMap<u128>) -> Result<u128, Kind>
     requires known { S.knows squares.now id }
     requires level { level ≡ depth (S.content squares.now id) }
-    requires right { (q : IdValue) → 0 < value_of known.old q
-        → value_of known.old q ≡ population (S.content squares.now q) }
+    requires right { (q : IdValue) → 0 < value_of_id known.old q
+        → value_of_id known.old q ≡ population (S.content squares.now q) }
     ensures number { IfOk result (λ n. n ≡ population (S.content squares.now id)) }
-    ensures right { (q : IdValue) → 0 < value_of known.new q
-        → value_of known.new q ≡ population (S.content squares.now q) }
+    ensures right { (q : IdValue) → 0 < value_of_id known.new q
+        → value_of_id known.new q ≡ population (S.content squares.now q) }
     ensures refusals { IfErr result IsMemory }
 {
     if let Some(cells) = squares.small_cells(id) {
@@ -125,7 +125,7 @@ pub fn bounds<S: SharedSquares>(alloc: Global, squares: &S, id: Id) -> Result<Op
     requires high { 1 ≤ depth (S.content squares.now id) }
     ensures least { IfOk result (λ o. MatchOption o
         (is_blank_tree (S.content squares.now id) ≡ true)
-        (λ b. IsLeastBox (S.content squares.now id) b)) }
+        (λ b. IsBoundingBoxOfTree (S.content squares.now id) b)) }
     ensures refusals { IfErr result IsMemory }
 {
     let Some(west) = least_distance(alloc, squares, Side::West, id)? else {

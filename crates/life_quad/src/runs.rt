@@ -8,7 +8,7 @@ use life_base::{Kind, MAX_LEVEL, Run, State};
 
 /// Cells of one state, side by side in a row of a square: columns and rows are counted from its north-west corner.
 #[derive(Clone, Copy)]
-struct Span {
+struct RowSpan {
     column: u64,
     row: u64,
     len: u64,
@@ -38,7 +38,7 @@ fn offset(x: i64, half: u64) -> u64
 /// The square with a span of one row set. The span goes down both halves, and one half serves for
 /// both where it covers both and they are one square.
 #[cycle(span)]
-fn set_span<S: Squares>(squares: &mut S, id: Id, span: Span) -> Result<Id, Kind>
+fn set_span<S: Squares>(squares: &mut S, id: Id, span: RowSpan) -> Result<Id, Kind>
     requires known { S.knows squares.old id }
     requires positive { 1 ≤ span.len }
     requires columns { span.column + span.len ≤ 2 ^ depth (S.content squares.old id) }
@@ -57,7 +57,7 @@ fn set_span<S: Squares>(squares: &mut S, id: Id, span: Span) -> Result<Id, Kind>
         squares.join(left, right, sw, se)
     } else {
         let row = span.row - half;
-        let (left, right) = set_halves(squares, sw, se, half, Span { row, ..span })?;
+        let (left, right) = set_halves(squares, sw, se, half, RowSpan { row, ..span })?;
         squares.join(nw, ne, left, right)
     }
 }
@@ -69,7 +69,7 @@ fn set_halves<S: Squares>(
     left: Id,
     right: Id,
     half: u64,
-    span: Span,
+    span: RowSpan,
 ) -> Result<(Id, Id), Kind>
     requires left { S.knows squares.old left }
     requires right { S.knows squares.old right }
@@ -93,9 +93,9 @@ fn set_halves<S: Squares>(
     }
     if half <= span.column {
         let column = span.column - half;
-        return Ok((left, set_span(squares, right, Span { column, ..span })?));
+        return Ok((left, set_span(squares, right, RowSpan { column, ..span })?));
     }
-    let first = Span {
+    let first = RowSpan {
         len: half - span.column,
         ..span
     };
@@ -103,7 +103,7 @@ fn set_halves<S: Squares>(
     if left == right && span.len == half + half {
         return Ok((new_left, new_left));
     }
-    let rest = Span {
+    let rest = RowSpan {
         column: 0,
         len: end - half,
         ..span
@@ -126,7 +126,7 @@ pub fn set_run<S: Squares>(squares: &mut S, root: Id, run: Run) -> Result<Id, Ki
         (λ t. SetsRun (S.content squares.old root) t run) result }
 {
     let half = half_side(squares.level(root));
-    let span = Span {
+    let span = RowSpan {
         column: offset(run.x, half),
         row: offset(run.y, half),
         len: run.len,

@@ -16,9 +16,9 @@ pub struct Lanes {
 }
 
 /// The number of four bytes, the lowest first.
-#[tactic(auto, unfolding(crate::specs::Lanes::number))]
+#[tactic(auto, unfolding(crate::specs::Lanes::number_of_bytes))]
 fn number(bytes: &[u8]) -> u64
-    ensures { result ≡ lanes.number bytes.now }
+    ensures { result ≡ lanes.number_of_bytes bytes.now }
 {
     if bytes.len() != 4 {
         return 0;

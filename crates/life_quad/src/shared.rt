@@ -1,6 +1,6 @@
 //! A store that keeps each square once.
 ghost use Rattle.std.specs.Prelude.{◌≡◌, All, ◌≢◌, ◌++◌, ◌∷◌, AllPairs, ◌<◌, ◌≤◌, ◌^◌, [], length, Contains, false, None};
-ghost use Rattle.life_quad.specs.Words.{IdValue, Tree, depth, is_blank_tree, FIRST_NODE, value_of, full_content, low_content, same_id, squares, content, held, node_square, number_of, small_square, NodeValue, Knows, IsShared, IsNode, IsSmall, Answers, AreFound, CanJoin, IsFound};
+ghost use Rattle.life_quad.specs.Words.{IdValue, Tree, depth, is_blank_tree, FIRST_NODE, value_of_id, full_content, low_content, same_id, squares, content, stored_squares, node_square, small_number_of, small_square, NodeValue, Knows, IsShared, IsNode, IsSmall, AnswersJoin, AreFound, CanJoin, IsFoundId};
 
 use crate::id::{FIRST_NODE, FIRST_SMALL, LEVEL_TWO, Node, are_blank, no_room, small_number};
 use crate::join_log::JoinLog;
@@ -32,14 +32,14 @@ pub struct Shared {
 
 impl Model for Shared {
     ghost use Rattle.std.specs.Prelude.{◌≡◌, ◌+◌, length};
-    ghost use Rattle.life_quad.specs.IdMap.{value_of};
-    ghost use Rattle.life_quad.specs.Store.{Nodes, IsSound, IsShared, HasSeen, levels_of};
+    ghost use Rattle.life_quad.specs.IdMap.{value_of_id};
+    ghost use Rattle.life_quad.specs.Store.{Nodes, IsSoundStore, IsShared, HasSeen, levels_of};
 
     ghost Value = { Nodes };
 
     ghost view = { λ s. record { nodes = s.nodes.keys; log = s.log.ids; limit = s.limit } };
 
-    ghost invariant = { λ s. IsSound (record { nodes = s.nodes.keys; log = s.log.ids; limit = s.limit }) × IsShared (record { nodes = s.nodes.keys; log = s.log.ids; limit = s.limit }) × HasSeen (value_of s.seen) s.log.ids × (length s.log.ids ≡ length s.nodes.keys + s.small) × (s.levels.items ≡ levels_of s.nodes.keys) };
+    ghost invariant = { λ s. IsSoundStore (record { nodes = s.nodes.keys; log = s.log.ids; limit = s.limit }) × IsShared (record { nodes = s.nodes.keys; log = s.log.ids; limit = s.limit }) × HasSeen (value_of_id s.seen) s.log.ids × (length s.log.ids ≡ length s.nodes.keys + s.small) × (s.levels.items ≡ levels_of s.nodes.keys) };
 }
 
 /// Takes back the node that was stored last.
@@ -60,7 +60,7 @@ impl Shared {
     /// alone: two stores with different ones hold the same squares by the same Ids.
     pub fn seeded(alloc: Global, seed: Seed, limit: u64) -> Shared
         requires { limit ≤ 2 ^ 62 }
-        ensures stored { held result ≡ [] }
+        ensures stored { stored_squares result ≡ [] }
         ensures most { result.limit ≡ limit }
     {
         Shared {
@@ -78,7 +78,7 @@ impl Shared {
     /// time in proportion to the squares stored. `Shared::seeded` takes a seed of your own.
     pub fn new(alloc: Global, limit: u64) -> Shared
         requires { limit ≤ 2 ^ 62 }
-        ensures stored { held result ≡ [] }
+        ensures stored { stored_squares result ≡ [] }
         ensures most { result.limit ≡ limit }
     {
         Shared::seeded(alloc, Seed::fixed(), limit)
@@ -87,12 +87,12 @@ impl Shared {
     /// How many distinct nonblank squares of level 1 and up were joined: none is counted twice, and each that has an Id is among
     /// them.
     pub fn len(&self) -> u64
-        ensures len { result ≡ length (held self.now) }
-        ensures distinct { AllPairs ◌≢◌ (held self.now) }
+        ensures len { result ≡ length (stored_squares self.now) }
+        ensures distinct { AllPairs ◌≢◌ (stored_squares self.now) }
         ensures all { (id : IdValue) → Knows self.now id
             → is_blank_tree (content self.now id) ≡ false → 0 < depth (content self.now id)
-            → Contains (held self.now) (content self.now id) }
-        ensures only { (t : Tree) → Contains (held self.now) t
+            → Contains (stored_squares self.now) (content self.now id) }
+        ensures only { (t : Tree) → Contains (stored_squares self.now) t
             → (is_blank_tree t ≡ false) × (0 < depth t)
             × ((id : IdValue) × Knows self.now id × (content self.now id ≡ t)) }
     {
@@ -104,7 +104,7 @@ impl Shared {
         requires small { IsSmall self.old.log (squares self.old.nodes) number }
         requires first { FIRST_SMALL ≤ number }
         requires last { number < FIRST_NODE }
-        ensures { Answers self.old self.new (small_square number) result }
+        ensures { AnswersJoin self.old self.new (small_square number) result }
     {
         let id = Id(number);
         if self.seen.get(id) {
@@ -120,7 +120,7 @@ impl Shared {
         requires first { FIRST_SMALL ≤ number }
         requires last { number < FIRST_NODE }
         requires new { ¬ Contains self.old.log number }
-        ensures { Answers self.old self.new (small_square number) result }
+        ensures { AnswersJoin self.old self.new (small_square number) result }
     {
         let id = Id(number);
         if self.nodes.len() as u64 + self.small == self.limit {
@@ -137,9 +137,9 @@ impl Shared {
     #[inline(never)]
     fn intern(&mut self, node: Node, level: u8) -> Result<Id, Kind>
         requires sound { IsNode self.old.log (squares self.old.nodes) (length self.old.nodes) node }
-        requires large { number_of node ≡ None }
+        requires large { small_number_of node ≡ None }
         requires level { level ≡ depth (node_square (squares self.old.nodes) node) }
-        ensures { Answers self.old self.new (node_square (squares self.old.nodes) node) result }
+        ensures { AnswersJoin self.old self.new (node_square (squares self.old.nodes) node) result }
     {
         let nodes = self.nodes.len() as u64;
         if let Some(kind) = no_room(nodes + self.small, nodes, self.limit) {
@@ -165,7 +165,7 @@ impl Shared {
     fn find(&self, quarters: Quarters) -> Id
         requires { CanJoin (λ id. Knows self.now id × IsShared self.now) (content self.now)
             quarters }
-        ensures { IsFound self.now quarters result }
+        ensures { IsFoundId self.now quarters result }
     {
         let Quarters { nw, ne, sw, se } = quarters;
         match self.nodes.get_index_of(&Node::of(nw, ne, sw, se)) {
@@ -216,11 +216,11 @@ impl Squares for Shared {
 
     ghost content = { content };
 
-    ghost stored = { held };
+    ghost stored = { stored_squares };
 
     ghost most = { λ s. s.limit };
 
-    ghost needs_node = { λ s t. (is_blank_tree t ≡ false) × ¬ Contains (held s) t };
+    ghost needs_node = { λ s t. (is_blank_tree t ≡ false) × ¬ Contains (stored_squares s) t };
 
     fn empty(&self, level: u8) -> Id {
         // To read a field opens the invariant to the proof: an Id is known in a sound store.

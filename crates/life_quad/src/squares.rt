@@ -2,7 +2,7 @@
 ghost use Rattle.std.specs.Prelude.{◌≡◌, ◌↔◌, ℕ, ◌<◌, ◌≤◌, List, [], ◌∷◌, ◌++◌, length, map, All, Err, MatchOption, IfSome, IfOk, IfErr, OnOk, OnErr};
 ghost use Rattle.life_base.specs.Tree.{Tree, point, quad, depth, blank, quarters, IsFull};
 ghost use Rattle.life_base.specs.declared.kind.Kind.TheVariants.{Full, Memory};
-ghost use Rattle.life_quad.specs.Keeping.{KeepsSquares, AddsOnly, IsWantKind, MakesOneSquare};
+ghost use Rattle.life_quad.specs.Keeping.{KeepsSquares, AddsOnly, IsShortageKind, MakesOneSquare};
 ghost use Rattle.life_quad.specs.Moves.{CanJoin, quads_of};
 ghost use Rattle.life_quad.specs.Refused.{SomeOf, SomePart};
 ghost use Rattle.life_quad.specs.Store.{two, four};
@@ -81,7 +81,7 @@ pub trait Squares {
             (content self.old sw) (content self.old se) in (result ≡ Err Full)
             ↔ (needs_node self.old t × (length (stored self.old) ≡ most self.old)) }
         ensures room { result ≡ Err Memory → length (stored self.new) < most self.new }
-        ensures refusals { IfErr result (IsWantKind (stored self.new) (most self.new)) }
+        ensures refusals { IfErr result (IsShortageKind (stored self.new) (most self.new)) }
         ensures needed { let t = quad (content self.old nw) (content self.old ne)
             (content self.old sw) (content self.old se) in OnErr result (needs_node self.old t) }
         ensures unchanged { OnErr result (self.new ≡ self.old) };
@@ -103,7 +103,7 @@ pub trait Squares {
         ensures adds { AddsOnly stored
             (λ P. SomeOf P (quads_of (content self.old) quarters.now)) self.old self.new }
         ensures room { result ≡ Err Memory → length (stored self.new) < most self.new }
-        ensures refusals { IfErr result (IsWantKind (stored self.new) (most self.new)) }
+        ensures refusals { IfErr result (IsShortageKind (stored self.new) (most self.new)) }
         ensures needed { OnErr result
             (SomeOf (needs_node self.new) (quads_of (content self.old) quarters.now)) }
     {

@@ -1,8 +1,8 @@
 //! Squares, turned about their middle.
 ghost use Rattle.std.specs.Prelude.{◌≡◌, ◌<◌, ◌≤◌, ◌^◌, ◌*◌, ◌/◌, ◌%◌, ℕ, Some, IfOk};
-ghost use Rattle.life_quad.specs.Words.{quad, depth, value_of, AreQuarters, IdValue, SomePart, two, four};
+ghost use Rattle.life_quad.specs.Words.{quad, depth, value_of_id, AreQuarters, IdValue, SomePart, two, four};
 ghost use Rattle.life_quad.specs.Grows.{Grows};
-ghost use Rattle.life_quad.specs.Turning.{turned_tree, id_of_four, digit_in, side_of, end_of, AreImages};
+ghost use Rattle.life_quad.specs.Turning.{turned_tree, id_of_four, digit_in, side_of, turned_half, AreImages};
 
 use crate::id_map::IdMap;
 use crate::moves::{Quarters, divide, is_blank_at};
@@ -25,7 +25,7 @@ pub struct Turn {
 /// Where the quarter was that a turn brings to this place: whether in the east, and whether in the south.
 fn place_before(turn: Turn, east: bool, south: bool) -> (bool, bool)
     ensures side { result.0 ≡ side_of turn east south }
-    ensures end { result.1 ≡ end_of turn east south }
+    ensures end { result.1 ≡ turned_half turn east south }
 {
     let (side, end) = if turn.exchange {
         (south, east)
@@ -37,7 +37,7 @@ fn place_before(turn: Turn, east: bool, south: bool) -> (bool, bool)
 
 /// The quarter that a turn brings to this place.
 fn placed(turn: Turn, four: Quarters, east: bool, south: bool) -> Id
-    ensures { result ≡ id_of_four (side_of turn east south) (end_of turn east south) four }
+    ensures { result ≡ id_of_four (side_of turn east south) (turned_half turn east south) four }
 {
     match place_before(turn, east, south) {
         (false, false) => four.nw,
@@ -100,7 +100,7 @@ fn turned_quarter(quarters: u64, turn: Turn, cells: u16, east: bool, south: bool
     requires { (d : ℕ) → d < 16 → two (quarters / 2 ^ (4 * d) % 16) ≡ turned_tree turn (two d) }
     ensures low { result < 16 }
     ensures square { two result ≡ turned_tree turn
-        (two (digit_in (side_of turn east south) (end_of turn east south) cells)) }
+        (two (digit_in (side_of turn east south) (turned_half turn east south) cells)) }
 {
     let (side, end) = place_before(turn, east, south);
     let shift = 4 * quarter_cells(cells, side, end);
@@ -152,13 +152,13 @@ fn turn_square<S: Squares, T: Squares>(
     requires level { depth (S.content from.now id) ≡ level }
     requires known { S.knows from.now id }
     requires right { AreImages (T.knows to.old) (T.content to.old) (S.content from.now) turn
-        (value_of known.old) }
+        (value_of_id known.old) }
     ensures known { IfOk result (T.knows to.new) }
     ensures level { IfOk result (λ image. depth (T.content to.new image) ≡ level) }
     ensures square { IfOk result
         (λ image. T.content to.new image ≡ turned_tree turn (S.content from.now id)) }
     ensures right { AreImages (T.knows to.new) (T.content to.new) (S.content from.now) turn
-        (value_of known.new) }
+        (value_of_id known.new) }
     ensures grows { Grows T.Squares to.old to.new result
         (λ P. SomePart P (turned_tree turn (S.content from.now id))) }
 {

@@ -7,13 +7,13 @@ use Rattle.std.specs.List.{prefix_len}
 use Rattle.life_base.proofs.FrontDigits.{list_all-front}
 use Rattle.life_base.proofs.Numbers.{own}
 use Rattle.life_base.proofs.WordEnds.{length-trim_start}
-use Rattle.life_base.specs.Lines.{joined}
+use Rattle.life_base.specs.Lines.{joined_lines}
 use Rattle.life_base.specs.Text.{trim_start, value_of}
 use Rattle.life_base.specs.declared.kind.Kind.TheVariants.{ZeroCount, TooLarge}
-use Rattle.life_rle.specs.States.{state_at}
+use Rattle.life_rle.specs.States.{leading_state}
 use Rattle.life_rle.specs.declared.item.Item.{Item}
 use Rattle.life_rle.specs.declared.item.Item.TheVariants.{RowEnds}
-use Rattle.life_rle.specs.Items.{front_digits, behind_digits, Next, End, Mark, Spelled, Broken, cells_of, item_behind, counted, item_in, next_of, Spells}
+use Rattle.life_rle.specs.Items.{leading_digits, after_digits_of, Next, End, Mark, Spelled, Broken, next_of_cells, item_after, item_with_digits, item_in, next_of, Spells}
 use Rattle.life_rle.specs.Cursor.{item_count}
 use Rattle.life_rle.specs.Grammar.{LineSpells, BodySpells, IsUnmarked, IsRle}
 use Rattle.life_rle.specs.Pattern.{Rle}
@@ -37,28 +37,28 @@ pays-one n front count bytes rest w le =
     omega (arith, w, all)
 
 cells_of-pays : (n front count : ℕ) (o : Option (ℕ × List ℕ)) (bytes : List ℕ) → weights n count ≤ 14 * (front + 1) * 2 ^ n → LeavesState bytes o
-    → Pays n front bytes (cells_of count o)
+    → Pays n front bytes (next_of_cells count o)
 cells_of-pays n front count None bytes w h = tt
 cells_of-pays n front count (Some found) bytes w h = pays-one n front count bytes found.1 w h
 
-item_behind-pays : (n front count : ℕ) (bytes : List ℕ) → weights n count ≤ 14 * (front + 1) * 2 ^ n → Pays n front bytes (item_behind count bytes)
+item_behind-pays : (n front count : ℕ) (bytes : List ℕ) → weights n count ≤ 14 * (front + 1) * 2 ^ n → Pays n front bytes (item_after count bytes)
 item_behind-pays n front count [] w = tt
 item_behind-pays n front count (b ∷ bytes) w =
-    elim (eqb b 36) as (λ t. Pays n front (b ∷ bytes) (cond t (Spelled (RowEnds count) bytes) (cells_of count (state_at (b ∷ bytes))))) [
+    elim (eqb b 36) as (λ t. Pays n front (b ∷ bytes) (cond t (Spelled (RowEnds count) bytes) (next_of_cells count (leading_state (b ∷ bytes))))) [
       | true ↦ pays-one n front count (b ∷ bytes) bytes w (omega arith)
-      | false ↦ cells_of-pays n front count (state_at (b ∷ bytes)) (b ∷ bytes) w (state_at-leaves (b ∷ bytes))
+      | false ↦ cells_of-pays n front count (leading_state (b ∷ bytes)) (b ∷ bytes) w (state_at-leaves (b ∷ bytes))
     ]
 
-counted-pays : (n level : ℕ) (digits bytes : List ℕ) → value_of digits < 10 ^ length digits → Pays n (length digits) bytes (counted level digits bytes)
+counted-pays : (n level : ℕ) (digits bytes : List ℕ) → value_of digits < 10 ^ length digits → Pays n (length digits) bytes (item_with_digits level digits bytes)
 counted-pays n level [] bytes h = item_behind-pays n 0 1 bytes (let w = byte-pays n in omega (arith, w))
 counted-pays n level (d ∷ digits) bytes h =
     let v = value_of (d ∷ digits) in
     let front = length (d ∷ digits) in
     let one : front ≡ suc (length digits) = omega arith in
     let w = digits-pay n (length digits) v (subst (λ k. v < 10 ^ k) one h) in
-    elim (eqb v 0) as (λ t. Pays n front bytes (cond t (Broken ZeroCount) (cond (ltb (2 ^ level) v) (Broken TooLarge) (item_behind v bytes)))) [
+    elim (eqb v 0) as (λ t. Pays n front bytes (cond t (Broken ZeroCount) (cond (ltb (2 ^ level) v) (Broken TooLarge) (item_after v bytes)))) [
       | true ↦ tt
-      | false ↦ elim (ltb (2 ^ level) v) as (λ t. Pays n front bytes (cond t (Broken TooLarge) (item_behind v bytes)))
+      | false ↦ elim (ltb (2 ^ level) v) as (λ t. Pays n front bytes (cond t (Broken TooLarge) (item_after v bytes)))
           [ true ↦ tt | false ↦ item_behind-pays n front v bytes (rw one (omega (arith, w))) ]
     ]
 
@@ -71,10 +71,10 @@ Pays-longer n front short long (Spelled item rest) le h =
     let all = mul-le-mul_right (2 ^ n) more in
     omega (arith, h, all)
 
-digits-small : (bytes : List ℕ) → value_of (front_digits bytes) < 10 ^ length (front_digits bytes)
-digits-small bytes = digits_value_short own (front_digits bytes) (length (front_digits bytes)) (list_all-front is_ascii_digit bytes) (omega arith)
+digits-small : (bytes : List ℕ) → value_of (leading_digits bytes) < 10 ^ length (leading_digits bytes)
+digits-small bytes = digits_value_short own (leading_digits bytes) (length (leading_digits bytes)) (list_all-front is_ascii_digit bytes) (omega arith)
 
-digits-apart : (bytes : List ℕ) → length (front_digits bytes) + length (behind_digits bytes) ≤ length bytes
+digits-apart : (bytes : List ℕ) → length (leading_digits bytes) + length (after_digits_of bytes) ≤ length bytes
 digits-apart bytes =
     let p = prefix_len is_ascii_digit bytes in
     let whole = ap (λ (l : List ℕ). length l) (take-append-drop p bytes) in
@@ -84,11 +84,11 @@ digits-apart bytes =
 item_in-pays : (n level : ℕ) (bytes : List ℕ) → Pays n 0 bytes (item_in level bytes)
 item_in-pays n level [] = tt
 item_in-pays n level (b ∷ bytes) =
-    let front = front_digits (b ∷ bytes) in
-    let rest = behind_digits (b ∷ bytes) in
-    elim (eqb b 33) as (λ t. Pays n 0 (b ∷ bytes) (cond t Mark (counted level front rest))) [
+    let front = leading_digits (b ∷ bytes) in
+    let rest = after_digits_of (b ∷ bytes) in
+    elim (eqb b 33) as (λ t. Pays n 0 (b ∷ bytes) (cond t Mark (item_with_digits level front rest))) [
       | true ↦ tt
-      | false ↦ Pays-longer n (length front) rest (b ∷ bytes) (counted level front rest) (digits-apart (b ∷ bytes))
+      | false ↦ Pays-longer n (length front) rest (b ∷ bytes) (item_with_digits level front rest) (digits-apart (b ∷ bytes))
           (counted-pays n level front rest (digits-small (b ∷ bytes)))
     ]
 
@@ -118,10 +118,10 @@ all_weigh-append : (n : ℕ) (xs ys : List Item) → all_weigh n (xs ++ ys) ≡ 
 all_weigh-append n [] ys = omega arith
 all_weigh-append n (x ∷ xs) ys = let rest = all_weigh-append n xs ys in omega (arith, rest)
 
-joined-length : (line : List ℕ) (lines : List (List ℕ)) → length (joined (line ∷ lines)) ≡ length line + 1 + length (joined lines)
-joined-length line lines = let e = length-append line (10 ∷ joined lines) in omega (arith, e)
+joined-length : (line : List ℕ) (lines : List (List ℕ)) → length (joined_lines (line ∷ lines)) ≡ length line + 1 + length (joined_lines lines)
+joined-length line lines = let e = length-append line (10 ∷ joined_lines lines) in omega (arith, e)
 
-pub joined-append : (xs ys : List (List ℕ)) → length (joined (xs ++ ys)) ≡ length (joined xs) + length (joined ys)
+pub joined-append : (xs ys : List (List ℕ)) → length (joined_lines (xs ++ ys)) ≡ length (joined_lines xs) + length (joined_lines ys)
 joined-append [] ys = omega arith
 joined-append (x ∷ xs) ys =
     let rest = joined-append xs ys in
@@ -130,38 +130,39 @@ joined-append (x ∷ xs) ys =
     omega (arith, rest, a, b)
 
 BodySpells-pays : (n level : ℕ) (lines : List (List ℕ)) (items : List Item) → BodySpells level lines items
-    → all_weigh n items ≤ 14 * length (joined lines) * 2 ^ n
+    → all_weigh n items ≤ 14 * length (joined_lines lines) * 2 ^ n
 BodySpells-pays n level [] items h = none-pay n 0 items h
 BodySpells-pays n level (line ∷ lines) items h =
     let first = LineSpells-pays n level line h.0 End h.3 in
     let rest = BodySpells-pays n level lines h.1 h.4 in
     let both = all_weigh-append n h.0 h.1 in
     let size = joined-length line lines in
-    let more : 14 * (length line + length (joined lines)) ≤ 14 * length (joined (line ∷ lines)) = omega (arith, size) in
+    let more : 14 * (length line + length (joined_lines lines)) ≤ 14 * length (joined_lines (line ∷ lines)) = omega (arith, size) in
     let all = mul-le-mul_right (2 ^ n) more in
-    subst (λ (is : List Item). all_weigh n is ≤ 14 * length (joined (line ∷ lines)) * 2 ^ n) (sym h.2) (omega (arith, first, rest, both, all))
+    subst (λ (is : List Item). all_weigh n is ≤ 14 * length (joined_lines (line ∷ lines)) * 2 ^ n) (sym h.2) (omega (arith, first, rest, both, all))
 
 -- ---- of a file
 
-IsUnmarked-pays : (n level : ℕ) (lines : List (List ℕ)) (file : Rle) → IsUnmarked level lines file → all_weigh n file.items ≤ 14 * length (joined lines) * 2 ^ n
+IsUnmarked-pays : (n level : ℕ) (lines : List (List ℕ)) (file : Rle) → IsUnmarked level lines file
+    → all_weigh n file.items ≤ 14 * length (joined_lines lines) * 2 ^ n
 IsUnmarked-pays n level lines file b =
     let items = BodySpells-pays n level b.body file.items b.items in
-    let whole = ap (λ (ls : List (List ℕ)). length (joined ls)) b.whole in
+    let whole = ap (λ (ls : List (List ℕ)). length (joined_lines ls)) b.whole in
     let apart = joined-append b.before (b.header ∷ b.body) in
     let size = joined-length b.header b.body in
-    let more : 14 * length (joined b.body) ≤ 14 * length (joined lines) = omega (arith, whole, apart, size) in
+    let more : 14 * length (joined_lines b.body) ≤ 14 * length (joined_lines lines) = omega (arith, whole, apart, size) in
     let all = mul-le-mul_right (2 ^ n) more in
     omega (arith, items, all)
 
-pub file-pays : (n level : ℕ) (lines : List (List ℕ)) (file : Rle) → IsRle level lines file → all_weigh n file.items ≤ 14 * length (joined lines) * 2 ^ n
+pub file-pays : (n level : ℕ) (lines : List (List ℕ)) (file : Rle) → IsRle level lines file → all_weigh n file.items ≤ 14 * length (joined_lines lines) * 2 ^ n
 file-pays n level lines file (inl b) = IsUnmarked-pays n level lines file b
 file-pays n level lines file (inr b) =
     let begun = IsUnmarked-pays n level b.front (record file { items = b.earlier }) b.begun in
     let last = LineSpells-pays n level b.last b.final Mark b.marked in
     let both = all_weigh-append n b.earlier b.final in
-    let whole = ap (λ (ls : List (List ℕ)). length (joined ls)) b.whole in
+    let whole = ap (λ (ls : List (List ℕ)). length (joined_lines ls)) b.whole in
     let apart = joined-append b.front (b.last ∷ b.free) in
     let size = joined-length b.last b.free in
-    let more : 14 * (length (joined b.front) + length b.last) ≤ 14 * length (joined lines) = omega (arith, whole, apart, size) in
+    let more : 14 * (length (joined_lines b.front) + length b.last) ≤ 14 * length (joined_lines lines) = omega (arith, whole, apart, size) in
     let all = mul-le-mul_right (2 ^ n) more in
-    subst (λ (is : List Item). all_weigh n is ≤ 14 * length (joined lines) * 2 ^ n) (sym b.items) (omega (arith, begun, last, both, all))
+    subst (λ (is : List Item). all_weigh n is ≤ 14 * length (joined_lines lines) * 2 ^ n) (sym b.items) (omega (arith, begun, last, both, all))

@@ -1,15 +1,15 @@
 -- The longest front of lines that breaks no rule has all runs that any front of them has.
 use Rattle.std.proofs.Common.{◌≡◌, ℕ, ◌+◌, ◌*◌, ◌≤◌, List, [], ◌∷◌, ◌++◌, length, refl, sym, ap, ◌∙◌, subst, inl, inr, ◌⊎◌, append_assoc, length-append, arith, ℤ, append-nil, Option, Some, None, Result, Ok, Err}
 use Rattle.std.proofs.lemmas.List.{nil_from_length}
-use Rattle.life_base.specs.Lines.{joined}
+use Rattle.life_base.specs.Lines.{joined_lines}
 use Rattle.life_base.specs.Rules.{default_rule}
 use Rattle.life_base.specs.declared.cell.Run.{Run}
 use Rattle.life_base.specs.declared.kind.Kind.{Kind}
 use Rattle.life_rle.specs.Position.{default_position}
-use Rattle.life_rle.specs.File.{HasRuns, IsFrontOf}
-use Rattle.life_rle.specs.Pattern.{Rle, placed, placed_behind, cell}
+use Rattle.life_rle.specs.File.{HasRuns, IsPrefixOfRuns}
+use Rattle.life_rle.specs.Pattern.{Rle, placed_items, placed_after, rle_cell}
 use Rattle.life_rle.specs.Runs.{runs_of}
-use Rattle.life_rle.specs.RunsLaw.{state_by}
+use Rattle.life_rle.specs.RunsLaw.{rle_state_by}
 use Rattle.life_rle.specs.Items.{Next, End, Mark, Spelled, Broken}
 use Rattle.life_rle.specs.declared.item.Item.{Item}
 use Rattle.life_rle.specs.declared.line.Later.{Later}
@@ -45,22 +45,22 @@ refused level (Refused kind) lines n g = subst IsGood (progress-Refused level ki
 
 abbrev runs_in : Progress → List Run
 runs_in (Before position) = []
-runs_in (Begun file) = runs_of (placed file)
-runs_in (Ended file) = runs_of (placed file)
+runs_in (Begun file) = runs_of (placed_items file)
+runs_in (Ended file) = runs_of (placed_items file)
 runs_in (Refused kind) = []
 
-more-runs : (file : Rle) (items : List Item) → IsFrontOf (runs_of (placed file)) (runs_of (placed (with_items file items)))
+more-runs : (file : Rle) (items : List Item) → IsPrefixOfRuns (runs_of (placed_items file)) (runs_of (placed_items (with_items file items)))
 more-runs file items = (
-  runs_of (placed_behind file.position file.items items),
+  runs_of (placed_after file.position file.items items),
   ap runs_of (placed_behind-append file.position [] file.items items)
-      ∙ runs_of-append (placed file) (placed_behind file.position file.items items),
+      ∙ runs_of-append (placed_items file) (placed_after file.position file.items items),
 )
 
-no-more : (runs : List Run) → IsFrontOf runs runs
+no-more : (runs : List Run) → IsPrefixOfRuns runs runs
 no-more runs = ([], sym (append-nil runs))
 
 after-grow : (file : Rle) (items : List Item) (next : Next) (k : Option Kind) → IsGood (after_items file items next k)
-    → IsFrontOf (runs_of (placed file)) (runs_in (after_items file items next k))
+    → IsPrefixOfRuns (runs_of (placed_items file)) (runs_in (after_items file items next k))
 after-grow file items End None g = more-runs file items
 after-grow file items Mark None g = more-runs file items
 after-grow file items (Spelled i r) None g = absurd g
@@ -71,22 +71,22 @@ after-grow file items (Spelled i r) (Some kind) g = absurd g
 after-grow file items (Broken k) (Some kind) g = absurd g
 
 later-grow : (level : ℕ) (file : Rle) (line : List ℕ) (r : Result Later Kind) → IsGood (later_step level file line r)
-    → IsFrontOf (runs_of (placed file)) (runs_in (later_step level file line r))
+    → IsPrefixOfRuns (runs_of (placed_items file)) (runs_in (later_step level file line r))
 later-grow level file line (Err kind) g = absurd g
-later-grow level file line (Ok Passed) g = no-more (runs_of (placed file))
+later-grow level file line (Ok Passed) g = no-more (runs_of (placed_items file))
 later-grow level file line (Ok Data) g =
     after-grow file (line_items level line) (line_last level line) (items_fault level file (line_items level line) (line_last level line)) g
 
-step-grow : (level : ℕ) (p : Progress) (line : List ℕ) → IsGood (step level p line) → IsFrontOf (runs_in p) (runs_in (step level p line))
+step-grow : (level : ℕ) (p : Progress) (line : List ℕ) → IsGood (step level p line) → IsPrefixOfRuns (runs_in p) (runs_in (step level p line))
 step-grow level (Before position) line g = (runs_in (step level (Before position) line), refl)
 step-grow level (Begun file) line g = later-grow level file line (later_of line) g
-step-grow level (Ended file) line g = no-more (runs_of (placed file))
+step-grow level (Ended file) line g = no-more (runs_of (placed_items file))
 step-grow level (Refused kind) line g = no-more []
 
-front-front : (a b c : List Run) → IsFrontOf a b → IsFrontOf b c → IsFrontOf a c
+front-front : (a b c : List Run) → IsPrefixOfRuns a b → IsPrefixOfRuns b c → IsPrefixOfRuns a c
 front-front a b c f g = (f.0 ++ g.0, g.1 ∙ ap (λ (l : List Run). l ++ g.0) f.1 ∙ append_assoc a f.0 g.0)
 
-grow : (level : ℕ) (p : Progress) (lines : List (List ℕ)) → IsGood (progress level p lines) → IsFrontOf (runs_in p) (runs_in (progress level p lines))
+grow : (level : ℕ) (p : Progress) (lines : List (List ℕ)) → IsGood (progress level p lines) → IsPrefixOfRuns (runs_in p) (runs_in (progress level p lines))
 grow level p [] g = no-more (runs_in p)
 grow level p (line ∷ lines) g = elim (good_or_not (step level p line)) [
   | inl here ↦ front-front (runs_in p) (runs_in (step level p line)) (runs_in (progress level (step level p line) lines)) (step-grow level p line here)
@@ -161,7 +161,7 @@ longest level front (line ∷ lines) g = elim (good_or_not (progress level start
 -- ---- its runs
 
 fronts-runs : (level : ℕ) (lines : Lines) (l : Longest level lines) (f b : Lines) (before : List Run) → lines ≡ f ++ b → HasRuns level f before
-    → IsFrontOf before (runs_in (progress level start l.front))
+    → IsPrefixOfRuns before (runs_in (progress level start l.front))
 fronts-runs level lines l f b before e h =
     let has = has-runs level f before h in
     let m = l.most f b e has.0 in
@@ -169,23 +169,24 @@ fronts-runs level lines l f b before e h =
     let g = grow level (progress level start f) m.0 (subst IsGood all l.good) in
     (g.0, ap runs_in all ∙ g.1 ∙ ap (λ (r : List Run). r ++ g.0) (sym has.1))
 
-shorter : (top : ℕ) (lines front behind : Lines) → lines ≡ front ++ behind → 14 * length (joined front) + 4 * top ≤ 14 * length (joined lines) + 4 * top
+shorter : (top : ℕ) (lines front behind : Lines) → lines ≡ front ++ behind → 14 * length (joined_lines front) + 4 * top ≤ 14 * length (joined_lines lines)
+    + 4 * top
 shorter top lines front behind e =
-    let a = ap (λ (l : Lines). length (joined l)) e in
+    let a = ap (λ (l : Lines). length (joined_lines l)) e in
     let b = joined-append front behind in
     omega (arith, a, b)
 
 of-file : (top : ℕ) (lines front behind : Lines) (file : Rle) → lines ≡ front ++ behind → IsRle top front file
-    → ((f b : Lines) (before : List Run) → lines ≡ f ++ b → HasRuns top f before → IsFrontOf before (runs_of (placed file)))
-    → ((other : Rle) → IsRle top lines other → runs_of (placed file) ≡ runs_of (placed other)) → HasFewBlocks top lines
+    → ((f b : Lines) (before : List Run) → lines ≡ f ++ b → HasRuns top f before → IsPrefixOfRuns before (runs_of (placed_items file)))
+    → ((other : Rle) → IsRle top lines other → runs_of (placed_items file) ≡ runs_of (placed_items other)) → HasFewBlocks top lines
 of-file top lines front behind file e h most whole =
     let few = few_blocks top front file h in
     let laws = runs_are_cells top front file h in
-    let same : cell file ≡ state_by (runs_of (placed file)) = (λ i x y. laws.2 x y i) in
+    let same : rle_cell file ≡ rle_state_by (runs_of (placed_items file)) = (λ i x y. laws.2 x y i) in
     let less = shorter top lines front behind e in
     record {
       rule = file.rule;
-      runs = runs_of (placed file);
+      runs = runs_of (placed_items file);
       good = laws.0;
       order = laws.1;
       blocks = few.0;
@@ -196,8 +197,8 @@ of-file top lines front behind file e h most whole =
     }
 
 fronts-blocks : (top : ℕ) (lines front behind : Lines) (p : Progress) → lines ≡ front ++ behind → Stands top front p → IsGood p
-    → ((f b : Lines) (before : List Run) → lines ≡ f ++ b → HasRuns top f before → IsFrontOf before (runs_in p))
-    → ((other : Rle) → IsRle top lines other → runs_in p ≡ runs_of (placed other)) → HasFewBlocks top lines
+    → ((f b : Lines) (before : List Run) → lines ≡ f ++ b → HasRuns top f before → IsPrefixOfRuns before (runs_in p))
+    → ((other : Rle) → IsRle top lines other → runs_in p ≡ runs_of (placed_items other)) → HasFewBlocks top lines
 fronts-blocks top lines front behind (Before position) e s g most whole = record {
   rule = default_rule;
   runs = [];
@@ -215,9 +216,9 @@ fronts-blocks top lines front behind (Refused kind) e s g most whole = absurd g
 
 -- of a file it is all lines
 whole-runs : (level : ℕ) (lines : Lines) (l : Longest level lines) (file : Rle) → IsRle level lines file
-    → runs_in (progress level start l.front) ≡ runs_of (placed file)
+    → runs_in (progress level start l.front) ≡ runs_of (placed_items file)
 whole-runs level lines l file h =
-    let has = has-runs level lines (runs_of (placed file)) (inr (file, h, refl)) in
+    let has = has-runs level lines (runs_of (placed_items file)) (inr (file, h, refl)) in
     let m = l.most lines [] (sym (append-nil lines)) has.0 in
     let a = ap (λ (ls : Lines). length ls) m.1 ∙ length-append lines m.0 in
     let b = ap (λ (ls : Lines). length ls) l.whole ∙ length-append l.front l.behind in

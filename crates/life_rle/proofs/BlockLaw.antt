@@ -5,11 +5,11 @@ use Rattle.std.proofs.lemmas.Bool.Decides.{nat_tests}
 use Rattle.std.proofs.lemmas.Int.{ints}
 use Rattle.std.proofs.lemmas.Bool.{cases_Bool}
 use Rattle.std.proofs.Math.Nat.{le_of_mul-le-mul_right}
-use Rattle.life_base.specs.Lines.{joined}
+use Rattle.life_base.specs.Lines.{joined_lines}
 use Rattle.life_rle.specs.declared.item.Item.{Item}
 use Rattle.life_rle.specs.declared.item.Item.TheVariants.{Cells, RowEnds}
-use Rattle.life_rle.specs.Plane.{edge}
-use Rattle.life_rle.specs.Pattern.{Rle, Placed, cell_among, cell}
+use Rattle.life_rle.specs.Plane.{rle_plane_end}
+use Rattle.life_rle.specs.Pattern.{Rle, PlacedItem, cell_among, rle_cell}
 use Rattle.life_rle.specs.Blocks.{AreAllBlocks, FewBlocks}
 use Rattle.life_rle.proofs.BlockItems.{places, block_at, all_blocks, state_from, Among}
 use Rattle.life_rle.proofs.Places.{placed_from}
@@ -92,14 +92,14 @@ all_blocks-have (suc n) level left y items p low high h = elim (last level n hig
 
 -- ---- of a file
 
-module _ (top left y : ℕ) (file : Rle) (x_is : file.position.x ≡ pos left -ℤ edge top) (y_is : file.position.y ≡ pos y -ℤ edge top) where
-  cell-at : (c r : ℕ) → cell file (pos c -ℤ edge top) (pos r -ℤ edge top) ≡ state_from left left y file.items c r
+module _ (top left y : ℕ) (file : Rle) (x_is : file.position.x ≡ pos left -ℤ rle_plane_end top) (y_is : file.position.y ≡ pos y -ℤ rle_plane_end top) where
+  cell-at : (c r : ℕ) → rle_cell file (pos c -ℤ rle_plane_end top) (pos r -ℤ rle_plane_end top) ≡ state_from left left y file.items c r
   cell-at c r =
-      ap (λ (ps : List Placed). cell_among ps (pos c -ℤ edge top) (pos r -ℤ edge top)) (placed-from file)
-      ∙ (λ i. cell_among (placed_from (x_is i) (x_is i) (y_is i) file.items) (pos c -ℤ edge top) (pos r -ℤ edge top))
-      ∙ state-cell (edge top) left left y file.items c r
+      ap (λ (ps : List PlacedItem). cell_among ps (pos c -ℤ rle_plane_end top) (pos r -ℤ rle_plane_end top)) (placed-from file)
+      ∙ (λ i. cell_among (placed_from (x_is i) (x_is i) (y_is i) file.items) (pos c -ℤ rle_plane_end top) (pos r -ℤ rle_plane_end top))
+      ∙ state-cell (rle_plane_end top) left left y file.items c r
 
-  all-blocks : AreAllBlocks top (cell file) (all_blocks top left y file.items)
+  all-blocks : AreAllBlocks top (rle_cell file) (all_blocks top left y file.items)
   all-blocks b i j low high li lj some =
       let m = 2 ^ b.level in
       let found = cover m left (pow_pos b.level) y file.items b.row b.column i j li lj
@@ -115,9 +115,9 @@ module _ (top left y : ℕ) (file : Rle) (x_is : file.position.x ≡ pos left -�
 pub few_blocks : FewBlocks
 few_blocks top lines file h =
     let plane = IsRle-plane top lines file h in
-    let left = from_edge (edge top) file.position.x (low-side (edge top) file.position.x plane.0) in
-    let y = from_edge (edge top) file.position.y (low-side (edge top) file.position.y plane.1) in
+    let left = from_edge (rle_plane_end top) file.position.x (low-side (rle_plane_end top) file.position.x plane.0) in
+    let y = from_edge (rle_plane_end top) file.position.y (low-side (rle_plane_end top) file.position.y plane.1) in
     let few = all-few top left.0 y.0 file.items in
     let pays = file-pays top top lines file h in
-    let all : length (all_blocks top left.0 y.0 file.items) * 2 ^ top ≤ (14 * length (joined lines) + 4 * top) * 2 ^ top = omega (arith, few, pays) in
+    let all : length (all_blocks top left.0 y.0 file.items) * 2 ^ top ≤ (14 * length (joined_lines lines) + 4 * top) * 2 ^ top = omega (arith, few, pays) in
     (all_blocks top left.0 y.0 file.items, all-blocks top left.0 y.0 file left.1 y.1, le_of_mul-le-mul_right all (pow_pos top))

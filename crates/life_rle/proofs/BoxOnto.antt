@@ -4,12 +4,12 @@ use Rattle.std.specs.Int.{int_min, int_max}
 use Rattle.std.proofs.lemmas.Int.{ints}
 use Rattle.life_base.specs.declared.cell.Cell.{Cell}
 use Rattle.life_base.specs.declared.bounds.Bounds.{Bounds}
-use Rattle.life_rle.specs.Written.{joined, box_of, box_of_cell}
+use Rattle.life_rle.specs.Written.{box_around, box_of, box_of_cell}
 
 -- the least box around a box and cells
 abbrev pub bounds_onto : Bounds → List Cell → Bounds
 bounds_onto box [] = box
-bounds_onto box (c ∷ cells) = joined box (box_of c cells)
+bounds_onto box (c ∷ cells) = box_around box (box_of c cells)
 
 min-assoc : (a b c : ℤ) → int_min (int_min a b) c ≡ int_min a (int_min b c)
 min-assoc a b c = grind (arith, ints)
@@ -17,7 +17,7 @@ min-assoc a b c = grind (arith, ints)
 max-assoc : (a b c : ℤ) → int_max (int_max a b) c ≡ int_max a (int_max b c)
 max-assoc a b c = grind (arith, ints)
 
-joined-assoc : (a b c : Bounds) → joined (joined a b) c ≡ joined a (joined b c)
+joined-assoc : (a b c : Bounds) → box_around (box_around a b) c ≡ box_around a (box_around b c)
 joined-assoc a b c =
     ap (λ z. record {
       left = z;
@@ -45,7 +45,7 @@ joined-assoc a b c =
     }) (max-assoc a.bottom b.bottom c.bottom)
 
 -- one more cell
-pub bounds_onto-cell : (box : Bounds) (c : Cell) (cells : List Cell) → bounds_onto (joined box (box_of_cell c)) cells ≡ bounds_onto box (c ∷ cells)
+pub bounds_onto-cell : (box : Bounds) (c : Cell) (cells : List Cell) → bounds_onto (box_around box (box_of_cell c)) cells ≡ bounds_onto box (c ∷ cells)
 bounds_onto-cell box c [] = refl
 bounds_onto-cell box c (d ∷ cells) = joined-assoc box (box_of_cell c) (box_of d cells)
 

@@ -8,11 +8,11 @@ use Rattle.life_base.specs.declared.rule.Rule.{Rule}
 use Rattle.life_base.specs.declared.rule.Rule.TheVariants.{Life, Named}
 use Rattle.life_rle.specs.declared.item.Item.{Item}
 use Rattle.life_rle.specs.declared.item.Item.TheVariants.{Cells, RowEnds}
-use Rattle.life_rle.specs.Plane.{edge, most_count}
+use Rattle.life_rle.specs.Plane.{rle_plane_end, most_count}
 use Rattle.life_rle.specs.Pattern.{cell_among}
 use Rattle.life_rle.specs.States.{is_state_of}
 use Rattle.life_rle.specs.Written.{with_gap, with_cells, items_from}
-use Rattle.life_rle.specs.Sorted.{state_in}
+use Rattle.life_rle.specs.Sorted.{state_in_cells}
 use Rattle.life_rle.specs.Writer.{IsGoodCell, Follow}
 use Rattle.life_rle.proofs.Places.{placed_from, cond_zero}
 use Rattle.life_base.specs.declared.cell.TheConstants.{MAX_LEVEL}
@@ -62,9 +62,9 @@ with_cell-state left column row s (Cells m t ∷ items) x y =
 abbrev pub AreGood : Rule → ℤ → ℤ → ℤ → List Item → Type 0
 AreGood rule left column row [] = Unit {0}
 AreGood rule left column row (Cells n s ∷ items) =
-    (0 < n) × (n ≤ most_count MAX_LEVEL) × (is_state_of rule s ≡ true) × (row <ℤ edge MAX_LEVEL) × ((column +ℤ pos n) ≤ℤ edge MAX_LEVEL)
+    (0 < n) × (n ≤ most_count MAX_LEVEL) × (is_state_of rule s ≡ true) × (row <ℤ rle_plane_end MAX_LEVEL) × ((column +ℤ pos n) ≤ℤ rle_plane_end MAX_LEVEL)
     × AreGood rule left (column +ℤ pos n) row items
-AreGood rule left column row (RowEnds n ∷ items) = (0 < n) × (n ≤ most_count MAX_LEVEL) × ((row +ℤ pos n) ≤ℤ edge MAX_LEVEL)
+AreGood rule left column row (RowEnds n ∷ items) = (0 < n) × (n ≤ most_count MAX_LEVEL) × ((row +ℤ pos n) ≤ℤ rle_plane_end MAX_LEVEL)
     × AreGood rule left left (row +ℤ pos n) items
 
 -- they lie behind their place
@@ -91,15 +91,17 @@ with_gap-state rule left column row (suc n) items x y g =
     cond_zero (int_eq y row && (int_le column x && int_lt x (column +ℤ pos (suc n)))) (state_from left (column +ℤ pos (suc n)) row items x y)
     (λ e. AreGood-behind rule left (column +ℤ pos (suc n)) row items x y g (inr (grind (arith, ints), grind (arith, ints))))
 
-AreGood-with_cell : (rule : Rule) (left column row : ℤ) (s : ℕ) (items : List Item) → neg_ℤ (edge MAX_LEVEL) ≤ℤ column → (column +ℤ pos 1) ≤ℤ edge MAX_LEVEL
-    → row <ℤ edge MAX_LEVEL → is_state_of rule s ≡ true → AreGood rule left (column +ℤ pos 1) row items → AreGood rule left column row (with_cells 1 s items)
+AreGood-with_cell : (rule : Rule) (left column row : ℤ) (s : ℕ) (items : List Item) → neg_ℤ (rle_plane_end MAX_LEVEL) ≤ℤ column
+    → (column +ℤ pos 1) ≤ℤ rle_plane_end MAX_LEVEL
+    → row <ℤ rle_plane_end MAX_LEVEL → is_state_of rule s ≡ true → AreGood rule left (column +ℤ pos 1) row items
+    → AreGood rule left column row (with_cells 1 s items)
 AreGood-with_cell rule left column row s [] low high inside state g = (omega arith, omega arith, state, inside, high, tt)
 AreGood-with_cell rule left column row s (RowEnds n ∷ items) low high inside state g = (omega arith, omega arith, state, inside, high, g)
 AreGood-with_cell rule left column row s (Cells m t ∷ items) low high inside state g =
     elim (eqb s t) as (λ same. AreGood rule left column row (cond same (Cells (1 + m) s ∷ items) (Cells 1 s ∷ Cells m t ∷ items))) [
       | true ↦
           let far : (column +ℤ pos 1) +ℤ pos m ≡ column +ℤ pos (1 + m) = omega (arith, ints) in
-          let wide : (column +ℤ pos (1 + m)) ≤ℤ edge MAX_LEVEL = subst (λ c. c ≤ℤ edge MAX_LEVEL) far g.4 in
+          let wide : (column +ℤ pos (1 + m)) ≤ℤ rle_plane_end MAX_LEVEL = subst (λ c. c ≤ℤ rle_plane_end MAX_LEVEL) far g.4 in
           (omega arith, omega (arith, ints, wide, low), state, inside, wide, subst (λ c. AreGood rule left c row items) far g.5)
       | false ↦ (omega arith, omega arith, state, inside, high, g)
     ]
@@ -108,8 +110,9 @@ state_of_zero : (rule : Rule) → is_state_of rule 0 ≡ true
 state_of_zero (Life sets) = refl
 state_of_zero (Named name) = refl
 
-AreGood-with_gap : (rule : Rule) (left column row : ℤ) (n : ℕ) (items : List Item) → neg_ℤ (edge MAX_LEVEL) ≤ℤ column → (column +ℤ pos n) ≤ℤ edge MAX_LEVEL
-    → row <ℤ edge MAX_LEVEL → AreGood rule left (column +ℤ pos n) row items → AreGood rule left column row (with_gap n items)
+AreGood-with_gap : (rule : Rule) (left column row : ℤ) (n : ℕ) (items : List Item) → neg_ℤ (rle_plane_end MAX_LEVEL) ≤ℤ column
+    → (column +ℤ pos n) ≤ℤ rle_plane_end MAX_LEVEL
+    → row <ℤ rle_plane_end MAX_LEVEL → AreGood rule left (column +ℤ pos n) row items → AreGood rule left column row (with_gap n items)
 AreGood-with_gap rule left column row zero items low high inside g = subst (λ c. AreGood rule left c row items) (omega (arith, ints)) g
 AreGood-with_gap rule left column row (suc n) items low high inside g = (omega arith, omega (arith, ints, low, high), state_of_zero rule, inside, high, g)
 
@@ -125,21 +128,24 @@ abbrev stepped : Bool → ℤ → ℤ → ℤ → Cell → List Cell → List It
 stepped same left column row c cells = cond same (with_gap (nat_abs (c.x -ℤ column)) (behind left c cells))
     (RowEnds (nat_abs (c.y -ℤ row)) ∷ with_gap (nat_abs (c.x -ℤ left)) (behind left c cells))
 
-gap-good : (rule : Rule) (left column row : ℤ) (c : Cell) (items : List Item) → neg_ℤ (edge MAX_LEVEL) ≤ℤ column → IsGoodCell rule c → c.y ≡ row → column ≤ℤ c.x
+gap-good : (rule : Rule) (left column row : ℤ) (c : Cell) (items : List Item) → neg_ℤ (rle_plane_end MAX_LEVEL) ≤ℤ column → IsGoodCell rule c → c.y ≡ row
+    → column ≤ℤ c.x
     → AreGood rule left c.x c.y items → AreGood rule left column row (with_gap (nat_abs (c.x -ℤ column)) items)
 gap-good rule left column row c items low good same near g =
     let way = distance column c.x near in
-    AreGood-with_gap rule left column row (nat_abs (c.x -ℤ column)) items low (subst (λ z. z ≤ℤ edge MAX_LEVEL) (sym way) (omega (arith, ints, good.right)))
-    (subst (λ z. z <ℤ edge MAX_LEVEL) same good.bottom)
+    AreGood-with_gap rule left column row (nat_abs (c.x -ℤ column)) items low
+    (subst (λ z. z ≤ℤ rle_plane_end MAX_LEVEL) (sym way) (omega (arith, ints, good.right)))
+    (subst (λ z. z <ℤ rle_plane_end MAX_LEVEL) same good.bottom)
     (subst (λ z. AreGood rule left z row items) (sym way) (subst (λ r. AreGood rule left c.x r items) same g))
 
 -- the items lie in the plane
-pub items_from-good : (rule : Rule) (left column row : ℤ) (cells : List Cell) → neg_ℤ (edge MAX_LEVEL) ≤ℤ left → neg_ℤ (edge MAX_LEVEL) ≤ℤ column
-    → neg_ℤ (edge MAX_LEVEL) ≤ℤ row → Follow rule left column row cells → AreGood rule left column row (items_from left column row cells)
+pub items_from-good : (rule : Rule) (left column row : ℤ) (cells : List Cell) → neg_ℤ (rle_plane_end MAX_LEVEL) ≤ℤ left
+    → neg_ℤ (rle_plane_end MAX_LEVEL) ≤ℤ column
+    → neg_ℤ (rle_plane_end MAX_LEVEL) ≤ℤ row → Follow rule left column row cells → AreGood rule left column row (items_from left column row cells)
 items_from-good rule left column row [] l x y f = tt
 items_from-good rule left column row (c ∷ cells) l x y f =
     let good = f.0 in
-    let next : neg_ℤ (edge MAX_LEVEL) ≤ℤ (c.x +ℤ pos 1) = omega (arith, ints, good.left) in
+    let next : neg_ℤ (rle_plane_end MAX_LEVEL) ≤ℤ (c.x +ℤ pos 1) = omega (arith, ints, good.left) in
     let more = items_from-good rule left (c.x +ℤ pos 1) c.y cells l next good.top f.2 in
     let rest = AreGood-with_cell rule left c.x c.y c.state (items_from left (c.x +ℤ pos 1) c.y cells) good.left (omega (arith, ints, good.right)) good.bottom
     good.state more in
@@ -154,7 +160,8 @@ items_from-good rule left column row (c ∷ cells) l x y f =
           let down = distance row c.y below in
           let some : 0 < nat_abs (c.y -ℤ row) = omega (arith, ints, down, h.0) in
           let few : nat_abs (c.y -ℤ row) ≤ most_count MAX_LEVEL = omega (arith, ints, down, good.bottom, y) in
-          let inside : (row +ℤ pos (nat_abs (c.y -ℤ row))) ≤ℤ edge MAX_LEVEL = subst (λ z. z ≤ℤ edge MAX_LEVEL) (sym down) (omega (arith, ints, good.bottom)) in
+          let inside : (row +ℤ pos (nat_abs (c.y -ℤ row))) ≤ℤ rle_plane_end MAX_LEVEL = subst (λ z. z ≤ℤ rle_plane_end MAX_LEVEL) (sym down)
+          (omega (arith, ints, good.bottom)) in
           subst (λ t. AreGood rule left column row (stepped t left column row c cells)) (sym off) (
             some,
             few,
@@ -174,19 +181,21 @@ gap-state rule left column row c items x y same near g =
     ∙ ap (λ r. state_from left c.x r items x y) (sym same)
 
 -- the items stand for the cells
-pub items_from-state : (rule : Rule) (left column row : ℤ) (cells : List Cell) (x y : ℤ) → neg_ℤ (edge MAX_LEVEL) ≤ℤ left → neg_ℤ (edge MAX_LEVEL) ≤ℤ column
-    → neg_ℤ (edge MAX_LEVEL) ≤ℤ row → Follow rule left column row cells → state_from left column row (items_from left column row cells) x y ≡ state_in cells x y
+pub items_from-state : (rule : Rule) (left column row : ℤ) (cells : List Cell) (x y : ℤ) → neg_ℤ (rle_plane_end MAX_LEVEL) ≤ℤ left
+    → neg_ℤ (rle_plane_end MAX_LEVEL) ≤ℤ column
+    → neg_ℤ (rle_plane_end MAX_LEVEL) ≤ℤ row → Follow rule left column row cells → state_from left column row (items_from left column row cells) x y
+    ≡ state_in_cells cells x y
 items_from-state rule left column row [] x y lo1 lo2 lo3 f = refl
 items_from-state rule left column row (c ∷ cells) x y lo1 lo2 lo3 f =
     let good = f.0 in
-    let next : neg_ℤ (edge MAX_LEVEL) ≤ℤ (c.x +ℤ pos 1) = omega (arith, ints, good.left) in
+    let next : neg_ℤ (rle_plane_end MAX_LEVEL) ≤ℤ (c.x +ℤ pos 1) = omega (arith, ints, good.left) in
     let more = items_from-good rule left (c.x +ℤ pos 1) c.y cells lo1 next good.top f.2 in
     let rest = AreGood-with_cell rule left c.x c.y c.state (items_from left (c.x +ℤ pos 1) c.y cells) good.left (omega (arith, ints, good.right)) good.bottom
     good.state more in
-    let here : state_from left c.x c.y (behind left c cells) x y ≡ state_in (c ∷ cells) x y =
+    let here : state_from left c.x c.y (behind left c cells) x y ≡ state_in_cells (c ∷ cells) x y =
     with_cell-state left c.x c.y c.state (items_from left (c.x +ℤ pos 1) c.y cells) x y
     ∙ ap (cond (int_eq y c.y && int_eq x c.x) c.state) (items_from-state rule left (c.x +ℤ pos 1) c.y cells x y lo1 next good.top f.2) in
-    elim f.1 as (λ _. state_from left column row (items_from left column row (c ∷ cells)) x y ≡ state_in (c ∷ cells) x y) [
+    elim f.1 as (λ _. state_from left column row (items_from left column row (c ∷ cells)) x y ≡ state_in_cells (c ∷ cells) x y) [
       | inl h ↦
           let on : int_eq c.y row ≡ true = eq-int_eq c.y row h.0 in
           ap (λ t. state_from left column row (stepped t left column row c cells) x y) on

@@ -11,8 +11,8 @@ use Rattle.life_rle.specs.declared.line.Later.TheVariants.{Passed, Data}
 use Rattle.life_rle.specs.Items.{Next, End, Mark, Spelled, Broken, next_of, Spells}
 use Rattle.life_rle.specs.Position.{default_position}
 use Rattle.std.specs.Option.{option_or}
-use Rattle.life_rle.specs.Pattern.{Rle, placed_item, placed_behind, placed_fault, first_fault}
-use Rattle.life_rle.specs.Grammar.{opening_of, later_of, IsPreamble, IsUnmarked, IsRle, IsSomeRle, Breaks, before_header, by_form, by_text, by_item}
+use Rattle.life_rle.specs.Pattern.{Rle, placed_item, placed_after, placed_fault, first_fault}
+use Rattle.life_rle.specs.Grammar.{opening_of, later_of, IsPreamble, IsUnmarked, IsRle, IsSomeRle, BreaksRle, before_header, by_form, by_text, by_item}
 use Rattle.life_rle.specs.Decided.{LacksHeader, HasBroken}
 use Rattle.life_rle.proofs.ReadSteps.{last_read, line-Spells}
 use Rattle.life_rle.proofs.Shrinks.{IsStop, next_of-shorter}
@@ -44,13 +44,13 @@ record FirstBad (level : ℕ) (rule : Rule) (position : Position) (before items 
   item : Item
   post : List Item
   whole : items ≡ pre ++ item ∷ post
-  sound : first_fault level rule (placed_behind position before pre) ≡ None
+  sound : first_fault level rule (placed_after position before pre) ≡ None
   bad : placed_fault level rule (placed_item position (before ++ pre) item) ≡ Some kind
 
 bad-here : (level : ℕ) (rule : Rule) (position : Position) (before items : List Item) (item : Item) (kind : Kind) (o : Option Kind)
     → placed_fault level rule (placed_item position before item) ≡ o
-    → option_or o (first_fault level rule (placed_behind position (before ++ item ∷ []) items)) ≡ Some kind
-    → (first_fault level rule (placed_behind position (before ++ item ∷ []) items) ≡ Some kind → FirstBad level rule position (before ++ item ∷ []) items kind)
+    → option_or o (first_fault level rule (placed_after position (before ++ item ∷ []) items)) ≡ Some kind
+    → (first_fault level rule (placed_after position (before ++ item ∷ []) items) ≡ Some kind → FirstBad level rule position (before ++ item ∷ []) items kind)
     → FirstBad level rule position before (item ∷ items) kind
 bad-here level rule position before items item kind (Some k) f g next = record {
   pre = [];
@@ -67,12 +67,12 @@ bad-here level rule position before items item kind None f g next =
       item = more.item;
       post = more.post;
       whole = ap (λ is. item ∷ is) more.whole;
-      sound = ap (λ o. option_or o (first_fault level rule (placed_behind position (before ++ item ∷ []) more.pre))) f ∙ more.sound;
+      sound = ap (λ o. option_or o (first_fault level rule (placed_after position (before ++ item ∷ []) more.pre))) f ∙ more.sound;
       bad = ap (λ b. placed_fault level rule (placed_item position b more.item)) (sym (append_assoc before (item ∷ []) more.pre)) ∙ more.bad;
     }
 
 first-bad : (level : ℕ) (rule : Rule) (position : Position) (before items : List Item) (kind : Kind)
-    → first_fault level rule (placed_behind position before items) ≡ Some kind → FirstBad level rule position before items kind
+    → first_fault level rule (placed_after position before items) ≡ Some kind → FirstBad level rule position before items kind
 first-bad level rule position before [] kind e = cc
 first-bad level rule position before (item ∷ items) kind e =
     bad-here level rule position before items item kind (placed_fault level rule (placed_item position before item)) refl e
@@ -87,8 +87,8 @@ Spells-front level (i ∷ pre) item post bytes last h = let more = Spells-front 
 
 data-Breaks : (level : ℕ) (front : List (List ℕ)) (file : Rle) (line : List ℕ) (items : List Item) (last : Next) (kind : Kind) → IsUnmarked level front file
     → later_of line ≡ Ok Data
-    → Spells level line items last → items_fault level file items last ≡ Some kind → Breaks level front line kind
-data-Breaks level front file line items last kind b form s e = choose (first_fault level file.rule (placed_behind file.position file.items items)) refl e
+    → Spells level line items last → items_fault level file items last ≡ Some kind → BreaksRle level front line kind
+data-Breaks level front file line items last kind b form s e = choose (first_fault level file.rule (placed_after file.position file.items items)) refl e
   where
     behind : (last : Next) → fault_of_next last ≡ Some kind → last ≡ Broken kind
     behind End f = cc
@@ -96,8 +96,8 @@ data-Breaks level front file line items last kind b form s e = choose (first_fau
     behind (Spelled item rest) f = cc
     behind (Broken k) f = let q : k ≡ kind = cc in ap Broken q
 
-    choose : (o : Option Kind) → first_fault level file.rule (placed_behind file.position file.items items) ≡ o → option_or o (fault_of_next last) ≡ Some kind
-        → Breaks level front line kind
+    choose : (o : Option Kind) → first_fault level file.rule (placed_after file.position file.items items) ≡ o → option_or o (fault_of_next last) ≡ Some kind
+        → BreaksRle level front line kind
     choose (Some k) f g =
         let bad = first-bad level file.rule file.position file.items items kind (f ∙ g) in
         let r = Spells-front level bad.pre bad.item bad.post line last (subst (λ is. Spells level line is last) bad.whole s) in
@@ -107,12 +107,12 @@ data-Breaks level front file line items last kind b form s e = choose (first_fau
 after-Breaks : (level : ℕ) (front : List (List ℕ)) (file : Rle) (line : List ℕ) (items : List Item) (last : Next) (o : Option Kind) (kind : Kind)
     → IsUnmarked level front file → later_of line ≡ Ok Data
     → Spells level line items last → IsStop last → items_fault level file items last ≡ o → after_items file items last o ≡ Refused kind
-    → Breaks level front line kind
+    → BreaksRle level front line kind
 after-Breaks level front file line items End None kind b form s stop e r = cc
 after-Breaks level front file line items Mark None kind b form s stop e r = cc
 after-Breaks level front file line items (Spelled item rest) None kind b form s stop e r = absurd stop
 after-Breaks level front file line items (Broken k) None kind b form s stop e r =
-    let no = (option_or-both (first_fault level file.rule (placed_behind file.position file.items items)) (Some k) e).1 in cc
+    let no = (option_or-both (first_fault level file.rule (placed_after file.position file.items items)) (Some k) e).1 in cc
 after-Breaks level front file line items End (Some k) kind b form s stop e r = let q : k ≡ kind = cc in
     data-Breaks level front file line items End kind b form s (e ∙ ap Some q)
 after-Breaks level front file line items Mark (Some k) kind b form s stop e r = let q : k ≡ kind = cc in
@@ -122,7 +122,7 @@ after-Breaks level front file line items (Broken k') (Some k) kind b form s stop
     data-Breaks level front file line items (Broken k') kind b form s (e ∙ ap Some q)
 
 later-Breaks : (level : ℕ) (front : List (List ℕ)) (file : Rle) (line : List ℕ) (r : Result Later Kind) (kind : Kind) → IsUnmarked level front file
-    → later_of line ≡ r → later_step level file line r ≡ Refused kind → Breaks level front line kind
+    → later_of line ≡ r → later_step level file line r ≡ Refused kind → BreaksRle level front line kind
 later-Breaks level front file line (Err k) kind b e s = let q : k ≡ kind = cc in by_form file b (e ∙ ap Err q)
 later-Breaks level front file line (Ok Passed) kind b e s = cc
 later-Breaks level front file line (Ok Data) kind b e s =
@@ -130,14 +130,14 @@ later-Breaks level front file line (Ok Data) kind b e s =
     kind b e (line-Spells level (length line) line) (line-IsStop level line) refl s
 
 open-Breaks : (level : ℕ) (front : List (List ℕ)) (position : Position) (line : List ℕ) (r : Result Opening Kind) (kind : Kind)
-    → IsPreamble level default_position front position → opening_of level line ≡ r → open_step position r ≡ Refused kind → Breaks level front line kind
+    → IsPreamble level default_position front position → opening_of level line ≡ r → open_step position r ≡ Refused kind → BreaksRle level front line kind
 open-Breaks level front position line (Err k) kind h e s = let q : k ≡ kind = cc in before_header position h (e ∙ ap Err q)
 open-Breaks level front position line (Ok Comment) kind h e s = cc
 open-Breaks level front position line (Ok (PositionLine here)) kind h e s = cc
 open-Breaks level front position line (Ok (Header rule)) kind h e s = cc
 
 step-Breaks : (level : ℕ) (front : List (List ℕ)) (p : Progress) (line : List ℕ) (kind : Kind) → Stands level front p → Goes p
-    → step level p line ≡ Refused kind → Breaks level front line kind
+    → step level p line ≡ Refused kind → BreaksRle level front line kind
 step-Breaks level front (Before position) line kind h g e = open-Breaks level front position line (opening_of level line) kind h refl e
 step-Breaks level front (Begun file) line kind h g e = later-Breaks level front file line (later_of line) kind h refl e
 step-Breaks level front (Ended file) line kind h g e = cc

@@ -6,10 +6,10 @@ use Rattle.std.proofs.Math.Seq.{drop-cons}
 use Rattle.std.proofs.lemmas.Bool.Decides.{nat_tests}
 use Rattle.std.proofs.lemmas.Str.{digit_value_digit}
 use Rattle.life_base.proofs.FrontDigits.{digit_text_in_front}
-use Rattle.life_base.specs.Numbers.{capped}
+use Rattle.life_base.specs.Numbers.{capped_number}
 use Rattle.life_base.specs.Text.{is_digit_text, is_whitespace, value_of}
 use Rattle.life_base.specs.declared.cell.TheConstants.{MAX_LEVEL}
-use Rattle.life_rle.specs.Items.{counted, front_digits, behind_digits, item_behind, next_of}
+use Rattle.life_rle.specs.Items.{item_with_digits, leading_digits, after_digits_of, item_after, next_of}
 use Rattle.life_rle.specs.Plane.{most_count}
 
 -- the text from a place on
@@ -18,7 +18,7 @@ text_at line at h = rw (add-one, drop-cons line at 0) refl
 
 -- digits in front
 pub digits_in_front : (level b : ℕ) (rest : List ℕ) → is_ascii_digit b ≡ true
-    → next_of level (b ∷ rest) ≡ counted level (front_digits (b ∷ rest)) (behind_digits (b ∷ rest))
+    → next_of level (b ∷ rest) ≡ item_with_digits level (leading_digits (b ∷ rest)) (after_digits_of (b ∷ rest))
 digits_in_front level b rest digit =
     let space : is_whitespace b ≡ false = grind (arith, nat_tests) in
     let mark : (b == 33) ≡ false = grind (arith, nat_tests) in
@@ -30,12 +30,12 @@ one_digit b rest digit = rw digit (omega arith)
 -- a number at a place, whose digits end at another
 pub record NumberAt (level : ℕ) (line : List ℕ) (at number count : ℕ) : Type 0 where
   pub some : 0 < count
-  pub digits : is_digit_text (front_digits (drop at line)) ≡ true
-  pub value : number ≡ capped (value_of (front_digits (drop at line)))
-  pub told : next_of level (drop at line) ≡ counted level (front_digits (drop at line)) (drop (at + count) line)
+  pub digits : is_digit_text (leading_digits (drop at line)) ≡ true
+  pub value : number ≡ capped_number (value_of (leading_digits (drop at line)))
+  pub told : next_of level (drop at line) ≡ item_with_digits level (leading_digits (drop at line)) (drop (at + count) line)
 
 pub number_at : (level : ℕ) (line text : List ℕ) (at number count : ℕ) → at < length line → is_ascii_digit (get_or line at 0) ≡ true → text ≡ drop at line
-    → number ≡ capped (value_of (front_digits text)) → count ≡ prefix_len is_ascii_digit text → NumberAt level line at number count
+    → number ≡ capped_number (value_of (leading_digits text)) → count ≡ prefix_len is_ascii_digit text → NumberAt level line at number count
 number_at level line text at number count inside digit whole value e =
     let parts : drop at line ≡ get_or line at 0 ∷ drop (at + 1) line = text_at line at inside in
     let some : 0 < prefix_len is_ascii_digit (drop at line) = rw parts (one_digit (get_or line at 0) (drop (at + 1) line) digit) in
@@ -43,16 +43,16 @@ number_at level line text at number count inside digit whole value e =
     record {
       some = omega (arith, some, end);
       digits = digit_text_in_front (drop at line) some;
-      value = value ∙ ap (λ t. capped (value_of (front_digits t))) whole;
+      value = value ∙ ap (λ t. capped_number (value_of (leading_digits t))) whole;
       told =
           ap (next_of level) parts ∙ digits_in_front level (get_or line at 0) (drop (at + 1) line) digit
-          ∙ ap (λ t. counted level (front_digits t) (behind_digits t)) (sym parts)
-          ∙ ap (counted level (front_digits (drop at line)))
+          ∙ ap (λ t. item_with_digits level (leading_digits t) (after_digits_of t)) (sym parts)
+          ∙ ap (item_with_digits level (leading_digits (drop at line)))
           (drop-drop (prefix_len is_ascii_digit (drop at line)) at line ∙ ap (λ n. drop (at + n) line) (sym end));
     }
 
 -- a digit in front of a byte that is none
-pub digit_in_front : (d b : ℕ) (rest : List ℕ) → 49 ≤ d → d ≤ 57 → is_ascii_digit b ≡ false → next_of MAX_LEVEL (d ∷ b ∷ rest) ≡ item_behind (d - 48) (b ∷ rest)
+pub digit_in_front : (d b : ℕ) (rest : List ℕ) → 49 ≤ d → d ≤ 57 → is_ascii_digit b ≡ false → next_of MAX_LEVEL (d ∷ b ∷ rest) ≡ item_after (d - 48) (b ∷ rest)
 digit_in_front d b rest low high other =
     let space : is_whitespace d ≡ false = grind (arith, nat_tests) in
     let mark : (d == 33) ≡ false = grind (arith, nat_tests) in

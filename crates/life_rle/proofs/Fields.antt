@@ -8,7 +8,7 @@ use Rattle.life_base.specs.Numbers.{u64_of}
 use Rattle.life_rle.specs.declared.position.Position.{Position}
 use Rattle.life_rle.specs.Plane.{is_coordinate}
 use Rattle.life_rle.specs.Reader.{IsNumberRead}
-use Rattle.life_rle.specs.Position.{Field, Corner, Generation, Other, corner_of, corner_in, field_of, with_field, and_then, position_with}
+use Rattle.life_rle.specs.Position.{Field, Corner, Generation, Other, corner_of, corner_in, field_of, position_with_field, and_then, position_with}
 
 pub corner-no_second : (level : ℕ) (z : ℤ) (sx sy : Option ℤ) (f : Field → Result Position Kind) → IsNumberRead level (Some z) sx → IsNumberRead level None sy
     → and_then (corner_of level sx sy) f ≡ Err BadNumber
@@ -57,11 +57,11 @@ pub field-generation : (level : ℕ) (text : List ℕ) (f : Field → Result Pos
 field-generation level text f e g = ap (λ t. chosen level text f t (begins_with text (codes "Gen="))) e ∙ ap (chosen level text f false) g
 
 pub position-stop : (level : ℕ) (p : Position) (kind : Kind) (field : List ℕ) (fields : List (List ℕ))
-    → Err kind ≡ and_then (field_of level field) (λ found. Ok (with_field p found)) → position_with level p (field ∷ fields) ≡ Err kind
+    → Err kind ≡ and_then (field_of level field) (λ found. Ok (position_with_field p found)) → position_with level p (field ∷ fields) ≡ Err kind
 position-stop level p kind field fields e = step (field_of level field) e
   where
-    step : (f : Result Field Kind) → Err kind ≡ and_then f (λ found. Ok (with_field p found))
-        → and_then f (λ found. position_with level (with_field p found) fields) ≡ Err kind
+    step : (f : Result Field Kind) → Err kind ≡ and_then f (λ found. Ok (position_with_field p found))
+        → and_then f (λ found. position_with level (position_with_field p found) fields) ≡ Err kind
     step (Ok found) e = cc
     step (Err other) e = let q : kind ≡ other = cc in ap Err (sym q)
 

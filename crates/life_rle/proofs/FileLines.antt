@@ -14,12 +14,12 @@ use Rattle.life_rle.specs.declared.item.Item.{Item}
 use Rattle.life_rle.specs.declared.item.Item.TheVariants.{Cells, RowEnds}
 use Rattle.life_rle.specs.Items.{Next, End, Spelled, next_of, Spells}
 use Rattle.life_rle.specs.Position.{is_position_line}
-use Rattle.life_rle.specs.Pattern.{Rle, placed_behind, first_fault}
-use Rattle.life_rle.specs.States.{is_state_of, state_text, lettered}
+use Rattle.life_rle.specs.Pattern.{Rle, placed_after, first_fault}
+use Rattle.life_rle.specs.States.{is_state_of, state_text, state_letters}
 use Rattle.life_rle.specs.declared.line.Later.{Later}
 use Rattle.life_rle.specs.declared.line.Later.TheVariants.{Passed, Data}
 use Rattle.life_rle.specs.Grammar.{later_of, IsUnmarked, IsMarked}
-use Rattle.life_rle.specs.Written.{wrapped, item_text, count_text}
+use Rattle.life_rle.specs.Written.{wrapped_lines, item_text, count_text}
 use Rattle.life_rle.specs.Laws.{StatesReadBack}
 use Rattle.life_rle.proofs.Progress.{with_items, with_items-nil, IsUnmarked-push, IsMarked-begun}
 use Rattle.life_rle.proofs.Unique.{fault-parts, with_items-twice}
@@ -115,7 +115,7 @@ BeginsAsItem-count n tag high h =
     elim (eqb n 1) as (λ t. BeginsAsItem (cond t [] (decimal n) ++ tag))
     [ true ↦ h | false ↦ BeginsAsItem-digits (decimal n) tag (decimal-is_digit_text n (omega arith)) ]
 
-lettered-BeginsAsItem : (state : ℕ) → is_state_of (Named []) state ≡ true → BeginsAsItem (lettered state)
+lettered-BeginsAsItem : (state : ℕ) → is_state_of (Named []) state ≡ true → BeginsAsItem (state_letters state)
 lettered-BeginsAsItem state h =
     elim (eqb state 0) as (λ t. BeginsAsItem
     (cond t (46 ∷ []) (cond (leb state 24) ((64 + state) ∷ []) ((111 + (state - 1) / 24) ∷ (65 + (state - 1) % 24) ∷ [])))) [
@@ -141,7 +141,7 @@ count_text-short : (n : ℕ) → n ≤ most_count MAX_LEVEL → length (count_te
 count_text-short n high = elim (eqb n 1) as (λ t. length (cond t [] (decimal n)) ≤ 20)
     [ true ↦ omega arith | false ↦ length-decimal-le 20 n (omega arith) (omega arith) (omega arith) ]
 
-lettered-short : (state : ℕ) → length (lettered state) ≤ 2
+lettered-short : (state : ℕ) → length (state_letters state) ≤ 2
 lettered-short state =
     elim (eqb state 0) as (λ t. length (cond t (46 ∷ []) (cond (leb state 24) ((64 + state) ∷ []) ((111 + (state - 1) / 24) ∷ (65 + (state - 1) % 24) ∷ [])))
     ≤ 2) [
@@ -176,14 +176,14 @@ Starts-full line now n (inl z) h e = let none : length line ≡ 0 = ap length z.
 
 -- a full line is read
 full-IsUnmarked : (front : List (List ℕ)) (file : Rle) (line : List ℕ) (now : List Item) → IsUnmarked MAX_LEVEL front file → Fronts line now → BeginsAsItem line
-    → length line ≤ 70 → first_fault MAX_LEVEL file.rule (placed_behind file.position file.items now) ≡ None
+    → length line ≤ 70 → first_fault MAX_LEVEL file.rule (placed_after file.position file.items now) ≡ None
     → IsUnmarked MAX_LEVEL (front ++ line ∷ []) (with_items file now)
 full-IsUnmarked front file line now begun h start short sound =
     IsUnmarked-push MAX_LEVEL front file line now begun
     (inr (later_of-items line start short, subst (λ bs. Spells MAX_LEVEL bs now End) (append-nil line) (h []))) sound
 
 last-IsMarked : (front : List (List ℕ)) (file : Rle) (line : List ℕ) (now : List Item) → IsUnmarked MAX_LEVEL front file → Fronts line now → Starts line now
-    → length line + 1 ≤ 70 → first_fault MAX_LEVEL file.rule (placed_behind file.position file.items now) ≡ None
+    → length line + 1 ≤ 70 → first_fault MAX_LEVEL file.rule (placed_after file.position file.items now) ≡ None
     → IsMarked MAX_LEVEL (front ++ (line ++ 33 ∷ []) ∷ []) (with_items file now)
 last-IsMarked front file line now begun h start short sound =
     let size = length-append line (33 ∷ []) in
@@ -193,13 +193,13 @@ last-IsMarked front file line now begun h start short sound =
 -- each wrapped line is read, and the mark ends the last
 pub wrapped-IsMarked : StatesReadBack → (front : List (List ℕ)) (file : Rle) (line : List ℕ) (now items : List Item) → IsUnmarked MAX_LEVEL front file
     → Fronts line now → Starts line now → length line ≤ 70 → AreWritten file.rule items
-    → first_fault MAX_LEVEL file.rule (placed_behind file.position file.items (now ++ items)) ≡ None
-    → IsMarked MAX_LEVEL (front ++ wrapped line (map (item_text file.rule) items ++ (33 ∷ []) ∷ [])) (with_items file (now ++ items))
+    → first_fault MAX_LEVEL file.rule (placed_after file.position file.items (now ++ items)) ≡ None
+    → IsMarked MAX_LEVEL (front ++ wrapped_lines line (map (item_text file.rule) items ++ (33 ∷ []) ∷ [])) (with_items file (now ++ items))
 wrapped-IsMarked states front file line now [] begun h start short w sound =
     let only : now ++ [] ≡ now = append-nil now in
-    let sound' : first_fault MAX_LEVEL file.rule (placed_behind file.position file.items now)
-    ≡ None = subst (λ xs. first_fault MAX_LEVEL file.rule (placed_behind file.position file.items xs) ≡ None) only sound in
-    subst (λ xs. IsMarked MAX_LEVEL (front ++ wrapped line ((33 ∷ []) ∷ [])) (with_items file xs)) (sym only)
+    let sound' : first_fault MAX_LEVEL file.rule (placed_after file.position file.items now)
+    ≡ None = subst (λ xs. first_fault MAX_LEVEL file.rule (placed_after file.position file.items xs) ≡ None) only sound in
+    subst (λ xs. IsMarked MAX_LEVEL (front ++ wrapped_lines line ((33 ∷ []) ∷ [])) (with_items file xs)) (sym only)
     (elim (leb (length line + 1) 70)
     as (λ t. leb (length line + 1) 70 ≡ t → IsMarked MAX_LEVEL (front ++ cond t ((line ++ 33 ∷ []) ∷ []) (line ∷ (33 ∷ []) ∷ [])) (with_items file now)) [
       | true ↦ λ e. last-IsMarked front file line now begun h start (grind (arith, nat_tests)) sound'
@@ -217,17 +217,18 @@ wrapped-IsMarked states front file line now (item ∷ items) begun h start short
     let group : (now ++ item ∷ []) ++ items ≡ now ++ item ∷ items = append_assoc now (item ∷ []) items in
     let parts = fault-parts MAX_LEVEL file now (item ∷ items) sound in
     elim (leb (length line + length text) 70)
-    as (λ t. leb (length line + length text) 70 ≡ t → IsMarked MAX_LEVEL (front ++ cond t (wrapped (line ++ text) texts) (line ∷ wrapped text texts))
+    as (λ t. leb (length line + length text) 70 ≡ t
+    → IsMarked MAX_LEVEL (front ++ cond t (wrapped_lines (line ++ text) texts) (line ∷ wrapped_lines text texts))
     (with_items file (now ++ item ∷ items))) [
       | true ↦ λ e.
-          subst (λ xs. IsMarked MAX_LEVEL (front ++ wrapped (line ++ text) texts) (with_items file xs)) group
+          subst (λ xs. IsMarked MAX_LEVEL (front ++ wrapped_lines (line ++ text) texts) (with_items file xs)) group
           (wrapped-IsMarked states front file (line ++ text) (now ++ item ∷ []) items begun (Fronts-push states rule line now item h w.0)
           (inr (Starts-append line text now start (item_text-BeginsAsItem rule item w.0))) (grind (arith, nat_tests)) w.1
-          (subst (λ xs. first_fault MAX_LEVEL rule (placed_behind file.position file.items xs) ≡ None) (sym group) sound))
+          (subst (λ xs. first_fault MAX_LEVEL rule (placed_after file.position file.items xs) ≡ None) (sym group) sound))
       | false ↦ λ e.
           let full = full-IsUnmarked front file line now begun h (Starts-full line now (length text) start (item_text-short rule item w.0) e) short parts.0 in
-          subst (λ ls. IsMarked MAX_LEVEL ls (with_items file (now ++ item ∷ items))) (append_assoc front (line ∷ []) (wrapped text texts))
-          (subst (IsMarked MAX_LEVEL ((front ++ line ∷ []) ++ wrapped text texts)) (with_items-twice file now (item ∷ items))
+          subst (λ ls. IsMarked MAX_LEVEL ls (with_items file (now ++ item ∷ items))) (append_assoc front (line ∷ []) (wrapped_lines text texts))
+          (subst (IsMarked MAX_LEVEL ((front ++ line ∷ []) ++ wrapped_lines text texts)) (with_items-twice file now (item ∷ items))
           (wrapped-IsMarked states (front ++ line ∷ []) (with_items file now) text (item ∷ []) items full
           (Fronts-push states rule [] [] item (λ rest. refl) w.0)
           (inr (item_text-BeginsAsItem rule item w.0)) (item_text-short rule item w.0) w.1 parts.1))

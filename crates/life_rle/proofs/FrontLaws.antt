@@ -8,9 +8,9 @@ use Rattle.life_base.specs.Text.{begins_with, is_too_long}
 use Rattle.life_rle.specs.declared.line.Opening.{Opening}
 use Rattle.life_rle.specs.Position.{default_position}
 use Rattle.life_rle.specs.Pattern.{Rle}
-use Rattle.life_rle.specs.Grammar.{opening_of, later_of, IsMarked, IsSomeRle, Breaks, before_header, by_form}
+use Rattle.life_rle.specs.Grammar.{opening_of, later_of, IsMarked, IsSomeRle, BreaksRle, before_header, by_form}
 use Rattle.life_rle.specs.Decided.{LacksHeader, HasBroken}
-use Rattle.life_rle.specs.FrontLaws.{LinesBehindMarkAreFree, IsMarkDecided, FrontsOfFronts, FrontsAreFiles, BeginsAsRle, MacrocellLineBreaks, LongLinesBreak}
+use Rattle.life_rle.specs.FrontLaws.{LinesAfterMarkAreFree, IsMarkDecided, PrefixesOfPrefixes, RlePrefixesAreFiles, BeginsAsRle, MacrocellLineBreaks, LongRleLinesBreak}
 use Rattle.life_rle.proofs.Progress.{progress, open_step, progress-Refused, IsMarked-append}
 use Rattle.life_rle.proofs.Refusal.{Goes, Goes-Prefix, Prefix-Goes, Goes-front, IsRle-Goes, IsPreamble-Prefix}
 use Rattle.life_rle.proofs.Unique.{Breaks-unique, Breaks-no_more, Breaks-no_prefix, IsUnmarked-progress, IsMarked-progress}
@@ -24,7 +24,7 @@ mark_is_decided level lines file other u m = let x = IsUnmarked-progress level l
 
 -- ---- behind the mark
 
-pub lines_behind_mark_are_free : LinesBehindMarkAreFree
+pub lines_behind_mark_are_free : LinesAfterMarkAreFree
 lines_behind_mark_are_free level lines more file m =
     let on : IsMarked level (lines ++ more) file = IsMarked-append level lines more file m in (
       on,
@@ -34,7 +34,7 @@ lines_behind_mark_are_free level lines more file m =
 
 -- ---- fronts
 
-pub fronts_of_fronts : FrontsOfFronts
+pub fronts_of_fronts : PrefixesOfPrefixes
 fronts_of_fronts level lines more p = Goes-Prefix level lines (Goes-front level lines more (Prefix-Goes level (lines ++ more) p))
 
 -- none of its lines breaks a rule
@@ -53,7 +53,7 @@ file-front : (level : ℕ) (lines : List (List ℕ)) → IsSomeRle level lines �
 file-front level lines (inl f) = Goes-Prefix level lines (IsRle-Goes level lines f.0 f.1)
 file-front level lines (inr h) = IsPreamble-Prefix level lines h.0 h.1
 
-pub fronts_are_files : FrontsAreFiles
+pub fronts_are_files : RlePrefixesAreFiles
 fronts_are_files level lines = (λ p. front-file level lines p (decided level lines).0, file-front level lines)
 
 -- ---- the first line of a macrocell file
@@ -103,15 +103,15 @@ long-later : (line : List ℕ) → is_too_long line ≡ true → later_of line �
 long-later line h = rw h refl
 
 long-Breaks : (level : ℕ) (front : List (List ℕ)) (line : List ℕ) → is_too_long line ≡ true → ((file : Rle) → IsMarked level front file → ⊥)
-    → IsSomeRle level front ⊎ LacksHeader level front → Breaks level front line LineTooLong
+    → IsSomeRle level front ⊎ LacksHeader level front → BreaksRle level front line LineTooLong
 long-Breaks level front line h n (inl (file, inl u)) = by_form file u (long-later line h)
 long-Breaks level front line h n (inl (file, inr m)) = absurd (n file m)
 long-Breaks level front line h n (inr p) = before_header p.0 p.1 (long-opening level line h)
 
-pub long_lines_break : LongLinesBreak
+pub long_lines_break : LongRleLinesBreak
 long_lines_break level front line = (
   Breaks-long level front line,
   λ h p n kind.
-      let b : Breaks level front line LineTooLong = long-Breaks level front line h n ((fronts_are_files level front).0 p) in
-      (λ other. Breaks-unique level front line kind LineTooLong other b, λ e. subst (Breaks level front line) (sym e) b),
+      let b : BreaksRle level front line LineTooLong = long-Breaks level front line h n ((fronts_are_files level front).0 p) in
+      (λ other. Breaks-unique level front line kind LineTooLong other b, λ e. subst (BreaksRle level front line) (sym e) b),
 )

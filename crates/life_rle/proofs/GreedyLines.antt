@@ -3,7 +3,7 @@ use Rattle.std.proofs.Common.{◌≡◌, ℕ, ◌+◌, ◌≤◌, ◌<◌, true,
 use Rattle.std.proofs.lemmas.Bool.Decides.{nat_tests}
 use Rattle.life_base.specs.declared.rule.Rule.{Rule}
 use Rattle.life_rle.specs.declared.item.Item.{Item}
-use Rattle.life_rle.specs.Written.{wrapped, item_text, items_from, box_of}
+use Rattle.life_rle.specs.Written.{wrapped_lines, item_text, items_from, box_of}
 use Rattle.life_rle.specs.Laws.{IsWrapped, WrappedGreedily}
 use Rattle.life_rle.proofs.FileLines.{AreWritten, item_text-short}
 use Rattle.life_rle.proofs.CellsLaw.{items_from-good}
@@ -39,14 +39,14 @@ groups-texts group line (text ∷ texts) =
     ]
 
 groups-lines : (group : List (List ℕ)) (line : List ℕ) (texts : List (List ℕ)) → line ≡ joined-texts group
-    → wrapped line texts ≡ map joined-texts (groups-of group line texts)
+    → wrapped_lines line texts ≡ map joined-texts (groups-of group line texts)
 groups-lines group line [] e = ap (λ l. l ∷ []) e
 groups-lines group line (text ∷ texts) e =
     elim (leb (length line + length text) 70)
-    as (λ t. cond t (wrapped (line ++ text) texts) (line ∷ wrapped text texts)
+    as (λ t. cond t (wrapped_lines (line ++ text) texts) (line ∷ wrapped_lines text texts)
     ≡ map joined-texts (cond t (groups-of (group ++ text ∷ []) (line ++ text) texts) (group ∷ groups-of (text ∷ []) text texts))) [
       | true ↦ groups-lines (group ++ text ∷ []) (line ++ text) texts (ap (λ l. l ++ text) e ∙ sym (joined-push group text))
-      | false ↦ ap (λ l. l ∷ wrapped text texts) e ∙ ap (λ ls. joined-texts group ∷ ls) (groups-lines (text ∷ []) text texts (sym (append-nil text)))
+      | false ↦ ap (λ l. l ∷ wrapped_lines text texts) e ∙ ap (λ ls. joined-texts group ∷ ls) (groups-lines (text ∷ []) text texts (sym (append-nil text)))
     ]
 
 -- the first group begins with these texts

@@ -12,13 +12,13 @@ use Rattle.life_rle.specs.declared.item.Item.TheVariants.{Cells, RowEnds}
 use Rattle.life_rle.specs.Items.{Broken, Spells}
 use Rattle.life_rle.specs.declared.position.Position.{Position}
 use Rattle.life_rle.specs.Position.{and_then, is_position_line, position_of}
-use Rattle.life_rle.specs.Plane.{edge}
+use Rattle.life_rle.specs.Plane.{rle_plane_end}
 use Rattle.life_rle.specs.Header.{header_form, rule_in, header_of}
 use Rattle.life_rle.specs.Pattern.{item_fault, rows_in, columns_in}
 use Rattle.life_rle.specs.States.{is_state_of}
 use Rattle.life_rle.specs.declared.line.Opening.{Opening}
 use Rattle.life_rle.specs.declared.line.Opening.TheVariants.{Comment, PositionLine, Header}
-use Rattle.life_rle.specs.Grammar.{opening_of, later_of, Breaks, before_header, by_form, by_text, by_item, is_rle_kind}
+use Rattle.life_rle.specs.Grammar.{opening_of, later_of, BreaksRle, before_header, by_form, by_text, by_item, is_rle_kind}
 use Rattle.life_rle.specs.declared.line.Later.{Later}
 use Rattle.life_rle.specs.declared.line.Later.TheVariants.{Passed, Data}
 use Rattle.life_rle.proofs.ShortKinds.{is_short_kind, IsLineKind, short-line, line-rle, only-long}
@@ -97,11 +97,12 @@ cells-choice false true = tt
 cells-choice false false = refl
 
 item-kind : (level : ℕ) (rule : Rule) (row column : ℤ) (item : Item) → IsLive (item_fault level rule row column item)
-item-kind level rule row column (Cells n s) = cells-choice (not (is_state_of rule s)) (int_lt row (edge level) && int_le (column +ℤ pos n) (edge level))
-item-kind level rule row column (RowEnds n) = elim (int_le (row +ℤ pos n) (edge level)) as (λ t. IsLive (cond t None (Some OutOfPlane)))
+item-kind level rule row column (Cells n s) = cells-choice (not (is_state_of rule s))
+    (int_lt row (rle_plane_end level) && int_le (column +ℤ pos n) (rle_plane_end level))
+item-kind level rule row column (RowEnds n) = elim (int_le (row +ℤ pos n) (rle_plane_end level)) as (λ t. IsLive (cond t None (Some OutOfPlane)))
     [ true ↦ tt | false ↦ refl ]
 
-Breaks-line_kind : (level : ℕ) (front : List (List ℕ)) (line : List ℕ) (kind : Kind) → Breaks level front line kind → IsLineKind (is_too_long line) kind
+Breaks-line_kind : (level : ℕ) (front : List (List ℕ)) (line : List ℕ) (kind : Kind) → BreaksRle level front line kind → IsLineKind (is_too_long line) kind
 Breaks-line_kind level front line kind (before_header o h e) = subst (IsTameOpening level (is_too_long line)) e (opening-tame level line)
 Breaks-line_kind level front line kind (by_form file h e) = subst (IsTameLater (is_too_long line)) e (later-tame line)
 Breaks-line_kind level front line kind (by_text file items h form s sound) = short-line (is_too_long line) kind (text-kind level items line kind s)
@@ -110,18 +111,18 @@ Breaks-line_kind level front line kind (by_item file items item rest h form s so
     (subst IsLive fault (item-kind level file.rule (file.position.y +ℤ pos (rows_in (file.items ++ items)))
     (file.position.x +ℤ pos (columns_in (file.items ++ items))) item))
 
-pub Breaks-kind : (level : ℕ) (front : List (List ℕ)) (line : List ℕ) (kind : Kind) → Breaks level front line kind → is_rle_kind kind ≡ true
+pub Breaks-kind : (level : ℕ) (front : List (List ℕ)) (line : List ℕ) (kind : Kind) → BreaksRle level front line kind → is_rle_kind kind ≡ true
 Breaks-kind level front line kind b = line-rle (is_too_long line) kind (Breaks-line_kind level front line kind b)
 
 -- only a line that is too long breaks the rule of lengths
-pub Breaks-long : (level : ℕ) (front : List (List ℕ)) (line : List ℕ) → Breaks level front line LineTooLong → is_too_long line ≡ true
+pub Breaks-long : (level : ℕ) (front : List (List ℕ)) (line : List ℕ) → BreaksRle level front line LineTooLong → is_too_long line ≡ true
 Breaks-long level front line b = only-long (is_too_long line) (Breaks-line_kind level front line LineTooLong b)
 
 -- each of these kinds names a line
 pub names_line : (kind : Kind) → is_rle_kind kind ≡ true → is_placeless kind ≡ false
 names_line = kinds_name_lines is_rle_kind refl
 
-pub Breaks-placed : (level : ℕ) (front : List (List ℕ)) (line : List ℕ) (kind : Kind) → Breaks level front line kind → is_placeless kind ≡ false
+pub Breaks-placed : (level : ℕ) (front : List (List ℕ)) (line : List ℕ) (kind : Kind) → BreaksRle level front line kind → is_placeless kind ≡ false
 Breaks-placed level front line kind b = names_line kind (Breaks-kind level front line kind b)
 
 -- an answer that isn't want of memory is the definition's

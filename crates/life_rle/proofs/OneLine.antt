@@ -5,12 +5,12 @@ use Rattle.std.proofs.lemmas.Bool.Decides.{nat_tests}
 use Rattle.std.proofs.lemmas.List.Folds.{list_all-append}
 use Rattle.std.specs.Char.{is_ascii_digit}
 use Rattle.life_base.proofs.NamesRead.{all_pass}
-use Rattle.life_rle.specs.Written.{wrapped, count_text, item_text}
+use Rattle.life_rle.specs.Written.{wrapped_lines, count_text, item_text}
 use Rattle.life_base.specs.declared.rule.Rule.{Rule}
 use Rattle.life_base.specs.declared.rule.Rule.TheVariants.{Life, Named}
 use Rattle.life_rle.specs.declared.item.Item.{Item}
 use Rattle.life_rle.specs.declared.item.Item.TheVariants.{Cells, RowEnds}
-use Rattle.life_rle.specs.States.{state_text, lettered}
+use Rattle.life_rle.specs.States.{state_text, state_letters}
 use Rattle.life_rle.specs.Cursor.{item_count}
 use Rattle.life_rle.proofs.Texts.{decimal-is_digit_text}
 use Rattle.life_rle.proofs.ReadBack.{is_one_line, AreLines, digits-all}
@@ -21,10 +21,10 @@ pub one_line-append : (xs ys : List ℕ) → is_one_line xs ≡ true → is_one_
 one_line-append xs ys h k = list_all-append (λ b. not (eqb b 10)) xs ys ∙ ap (λ t. t && is_one_line ys) h ∙ k
 
 -- texts without a line feed make lines without one
-pub wrapped-AreLines : (line : List ℕ) (texts : List (List ℕ)) → is_one_line line ≡ true → AreLines texts → AreLines (wrapped line texts)
+pub wrapped-AreLines : (line : List ℕ) (texts : List (List ℕ)) → is_one_line line ≡ true → AreLines texts → AreLines (wrapped_lines line texts)
 wrapped-AreLines line [] h t = (h, tt)
 wrapped-AreLines line (text ∷ texts) h t =
-    elim (leb (length line + length text) 70) as (λ b. AreLines (cond b (wrapped (line ++ text) texts) (line ∷ wrapped text texts)))
+    elim (leb (length line + length text) 70) as (λ b. AreLines (cond b (wrapped_lines (line ++ text) texts) (line ∷ wrapped_lines text texts)))
     [ true ↦ wrapped-AreLines (line ++ text) texts (one_line-append line text h t.0) t.1 | false ↦ (h, wrapped-AreLines text texts t.0 t.1) ]
 
 digit-inner : (d : ℕ) → is_ascii_digit d ≡ true → not (eqb d 10) ≡ true
@@ -42,7 +42,7 @@ count_text-one_line n h = elim (eqb n 1) as (λ t. is_one_line (cond t [] (decim
 above-inner : (k n : ℕ) → 10 < k → not (eqb (k + n) 10) ≡ true
 above-inner k n h = grind (arith, nat_tests)
 
-pub lettered-one_line : (n : ℕ) → is_one_line (lettered n) ≡ true
+pub lettered-one_line : (n : ℕ) → is_one_line (state_letters n) ≡ true
 lettered-one_line n =
     elim (eqb n 0) as (λ t. is_one_line (cond t (46 ∷ []) (cond (leb n 24) ((64 + n) ∷ []) ((111 + (n - 1) / 24) ∷ (65 + (n - 1) % 24) ∷ []))) ≡ true) [
       | true ↦ refl

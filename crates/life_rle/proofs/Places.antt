@@ -7,7 +7,7 @@ use mathlib.Core.Bool.{or-false, or-true}
 use Rattle.life_rle.specs.declared.item.Item.{Item}
 use Rattle.life_rle.specs.declared.item.Item.TheVariants.{Cells, RowEnds}
 use Rattle.life_rle.specs.declared.position.Position.{Position}
-use Rattle.life_rle.specs.Pattern.{Placed, placed_item, placed_behind, rows_in, columns_in, is_row_end}
+use Rattle.life_rle.specs.Pattern.{PlacedItem, placed_item, placed_after, rows_in, columns_in, is_row_end}
 
 pub regroup : (z : ℤ) (a b : ℕ) → z +ℤ pos (a + b) ≡ (z +ℤ pos a) +ℤ pos b
 regroup z a b = omega (arith, ints)
@@ -50,13 +50,13 @@ columns_in-RowEnds (Cells m t ∷ before) n =
 columns_in-RowEnds (RowEnds m ∷ before) n = columns_in-RowEnds before n
 
 -- the items from a place on, rows beginning at the column `left`
-abbrev pub placed_from : ℤ → ℤ → ℤ → List Item → List Placed
+abbrev pub placed_from : ℤ → ℤ → ℤ → List Item → List PlacedItem
 placed_from left column row [] = []
 placed_from left column row (Cells n s ∷ items) = record { row = row; column = column; item = Cells n s } ∷ placed_from left (column +ℤ pos n) row items
 placed_from left column row (RowEnds n ∷ items) = record { row = row; column = column; item = RowEnds n } ∷ placed_from left left (row +ℤ pos n) items
 
 -- the running places are those of the sums
-pub placed_behind-from : (position : Position) (before items : List Item) → placed_behind position before items ≡ placed_from position.x
+pub placed_behind-from : (position : Position) (before items : List Item) → placed_after position before items ≡ placed_from position.x
     (position.x +ℤ pos (columns_in before)) (position.y +ℤ pos (rows_in before)) items
 placed_behind-from position before [] = refl
 placed_behind-from position before (Cells n s ∷ items) =

@@ -6,11 +6,11 @@ use Rattle.std.specs.List.{list_all, prefix_len}
 use Rattle.life_base.specs.declared.kind.Kind.{Kind}
 use Rattle.life_base.specs.declared.kind.Kind.TheVariants.{ZeroCount, TooLarge, BadItem}
 use Rattle.life_base.specs.Text.{is_digit_text, trim_start, value_of}
-use Rattle.life_rle.specs.States.{state_at}
+use Rattle.life_rle.specs.States.{leading_state}
 use Rattle.life_rle.specs.declared.item.Item.{Item}
 use Rattle.life_rle.specs.declared.item.Item.TheVariants.{Cells, RowEnds}
 use Rattle.life_rle.specs.Plane.{most_count}
-use Rattle.life_rle.specs.Items.{front_digits, behind_digits, Mark, Spelled, Broken, cells_of, item_behind, counted, item_in, next_of}
+use Rattle.life_rle.specs.Items.{leading_digits, after_digits_of, Mark, Spelled, Broken, next_of_cells, item_after, item_with_digits, item_in, next_of}
 use Rattle.life_rle.specs.Plain.{IsCountText, HasNoIndent, HasNoDigit, HasNoState, HasItemPlace, IsNoItem, zero_count, large_count, no_state, FaultsArePlain}
 use Rattle.life_base.proofs.FrontDigits.{list_all-front}
 use Rattle.life_rle.proofs.Texts.{Stops, front-stop, behind-stop}
@@ -25,62 +25,63 @@ plain-Stops [] h = tt
 plain-Stops (b ∷ rest) h = h
 
 -- what is in front of an item's place
-next_of-place : (level : ℕ) (bytes : List ℕ) → HasItemPlace bytes → next_of level bytes ≡ counted level (front_digits bytes) (behind_digits bytes)
+next_of-place : (level : ℕ) (bytes : List ℕ) → HasItemPlace bytes → next_of level bytes ≡ item_with_digits level (leading_digits bytes) (after_digits_of bytes)
 next_of-place level [] h = absurd h
 next_of-place level (b ∷ bytes) h =
     let all = b ∷ bytes in
     let other : eqb b 33 ≡ false = elim (eqb b 33) as (λ t. eqb b 33 ≡ t → t ≡ false)
     [ true ↦ λ e. absurd (h.1 (grind (arith, nat_tests, e))) | false ↦ λ _. refl ] refl in
-    ap (item_in level) (ap (λ t. cond t (trim_start bytes) all) h.0) ∙ ap (λ t. cond t Mark (counted level (front_digits all) (behind_digits all))) other
+    ap (item_in level) (ap (λ t. cond t (trim_start bytes) all) h.0)
+    ∙ ap (λ t. cond t Mark (item_with_digits level (leading_digits all) (after_digits_of all))) other
 
 next_of-counted : (level : ℕ) (digits rest bytes : List ℕ) → HasItemPlace bytes → bytes ≡ digits ++ rest → list_all is_ascii_digit digits ≡ true
-    → HasNoDigit rest → next_of level bytes ≡ counted level digits rest
+    → HasNoDigit rest → next_of level bytes ≡ item_with_digits level digits rest
 next_of-counted level digits rest bytes place e h s =
     next_of-place level bytes place
-    ∙ ap (λ (t : List ℕ). counted level (front_digits t) (behind_digits t)) e
-    ∙ ap (λ (front : List ℕ). counted level front (behind_digits (digits ++ rest))) (front-stop is_ascii_digit digits rest h (plain-Stops rest s))
-    ∙ ap (counted level digits) (behind-stop is_ascii_digit digits rest h (plain-Stops rest s))
+    ∙ ap (λ (t : List ℕ). item_with_digits level (leading_digits t) (after_digits_of t)) e
+    ∙ ap (λ (front : List ℕ). item_with_digits level front (after_digits_of (digits ++ rest))) (front-stop is_ascii_digit digits rest h (plain-Stops rest s))
+    ∙ ap (item_with_digits level digits) (behind-stop is_ascii_digit digits rest h (plain-Stops rest s))
 
-counted-zero : (level : ℕ) (digits rest : List ℕ) → is_digit_text digits ≡ true → value_of digits ≡ 0 → counted level digits rest ≡ Broken ZeroCount
+counted-zero : (level : ℕ) (digits rest : List ℕ) → is_digit_text digits ≡ true → value_of digits ≡ 0 → item_with_digits level digits rest ≡ Broken ZeroCount
 counted-zero level [] rest h v = cc
 counted-zero level (d ∷ digits) rest h v =
     let n = value_of (d ∷ digits) in
     let e : eqb n 0 ≡ true = grind (arith, nat_tests, v) in
-    ap (λ t. cond t (Broken ZeroCount) (cond (ltb (most_count level) n) (Broken TooLarge) (item_behind n rest))) e
+    ap (λ t. cond t (Broken ZeroCount) (cond (ltb (most_count level) n) (Broken TooLarge) (item_after n rest))) e
 
 counted-large : (level : ℕ) (digits rest : List ℕ) → is_digit_text digits ≡ true → most_count level < value_of digits
-    → counted level digits rest ≡ Broken TooLarge
+    → item_with_digits level digits rest ≡ Broken TooLarge
 counted-large level [] rest h v = cc
 counted-large level (d ∷ digits) rest h v =
     let n = value_of (d ∷ digits) in
     let e : eqb n 0 ≡ false = grind (arith, nat_tests, v) in
     let f : ltb (most_count level) n ≡ true = grind (arith, nat_tests, v) in
-    ap (λ t. cond t (Broken ZeroCount) (cond (ltb (most_count level) n) (Broken TooLarge) (item_behind n rest))) e
-    ∙ ap (λ t. cond t (Broken TooLarge) (item_behind n rest)) f
+    ap (λ t. cond t (Broken ZeroCount) (cond (ltb (most_count level) n) (Broken TooLarge) (item_after n rest))) e
+    ∙ ap (λ t. cond t (Broken TooLarge) (item_after n rest)) f
 
-counted-count : (level count : ℕ) (digits rest : List ℕ) → IsCountText level digits count → counted level digits rest ≡ item_behind count rest
-counted-count level count digits rest (inl h) = ap (λ (ds : List ℕ). counted level ds rest) h.0 ∙ ap (λ n. item_behind n rest) (sym h.1)
+counted-count : (level count : ℕ) (digits rest : List ℕ) → IsCountText level digits count → item_with_digits level digits rest ≡ item_after count rest
+counted-count level count digits rest (inl h) = ap (λ (ds : List ℕ). item_with_digits level ds rest) h.0 ∙ ap (λ n. item_after n rest) (sym h.1)
 counted-count level count [] rest (inr h) = cc
 counted-count level count (d ∷ digits) rest (inr h) =
     let e : eqb count 0 ≡ false = grind (arith, nat_tests, h.2) in
     let f : ltb (most_count level) count ≡ false = grind (arith, nat_tests, h.3) in
-    ap (λ m. cond (eqb m 0) (Broken ZeroCount) (cond (ltb (most_count level) m) (Broken TooLarge) (item_behind m rest))) (sym h.1)
-    ∙ ap (λ t. cond t (Broken ZeroCount) (cond (ltb (most_count level) count) (Broken TooLarge) (item_behind count rest))) e
-    ∙ ap (λ t. cond t (Broken TooLarge) (item_behind count rest)) f
+    ap (λ m. cond (eqb m 0) (Broken ZeroCount) (cond (ltb (most_count level) m) (Broken TooLarge) (item_after m rest))) (sym h.1)
+    ∙ ap (λ t. cond t (Broken ZeroCount) (cond (ltb (most_count level) count) (Broken TooLarge) (item_after count rest))) e
+    ∙ ap (λ t. cond t (Broken TooLarge) (item_after count rest)) f
 
 count-digits : (level count : ℕ) (digits : List ℕ) → IsCountText level digits count → list_all is_ascii_digit digits ≡ true
 count-digits level count digits (inl h) = ap (list_all is_ascii_digit) h.0
 count-digits level count [] (inr h) = refl
 count-digits level count (d ∷ digits) (inr h) = h.0
 
-no_state-None : (bytes : List ℕ) → HasNoState bytes → state_at bytes ≡ None
-no_state-None bytes h = step (state_at bytes) refl
+no_state-None : (bytes : List ℕ) → HasNoState bytes → leading_state bytes ≡ None
+no_state-None bytes h = step (leading_state bytes) refl
   where
-    step : (o : Option (ℕ × List ℕ)) → state_at bytes ≡ o → o ≡ None
+    step : (o : Option (ℕ × List ℕ)) → leading_state bytes ≡ o → o ≡ None
     step None e = refl
     step (Some found) e = let s = state_at-text bytes found.1 found.0 e in absurd (h.0 s.0 found.1 found.0 s.1 s.2)
 
-item_behind-none : (count : ℕ) (bytes : List ℕ) → HasNoState bytes → item_behind count bytes ≡ Broken BadItem
+item_behind-none : (count : ℕ) (bytes : List ℕ) → HasNoState bytes → item_after count bytes ≡ Broken BadItem
 item_behind-none count [] h = refl
 item_behind-none count (b ∷ bytes) h =
     let other : eqb b 36 ≡ false =
@@ -88,7 +89,8 @@ item_behind-none count (b ∷ bytes) h =
       | true ↦ λ e. let v : b ≡ 36 = grind (arith, nat_tests, e) in absurd (h.1 bytes (ap (λ (n : ℕ). n ∷ bytes) v))
       | false ↦ λ _. refl
     ] refl in
-    ap (λ t. cond t (Spelled (RowEnds count) bytes) (cells_of count (state_at (b ∷ bytes)))) other ∙ ap (cells_of count) (no_state-None (b ∷ bytes) h)
+    ap (λ t. cond t (Spelled (RowEnds count) bytes) (next_of_cells count (leading_state (b ∷ bytes)))) other
+    ∙ ap (next_of_cells count) (no_state-None (b ∷ bytes) h)
 
 IsNoItem-Broken : (level : ℕ) (bytes : List ℕ) (kind : Kind) → HasItemPlace bytes → IsNoItem level bytes kind → next_of level bytes ≡ Broken kind
 IsNoItem-Broken level bytes kind place (zero_count digits rest e h s v k) = next_of-counted level digits rest bytes place e (digits-all digits h) s
@@ -101,7 +103,7 @@ IsNoItem-Broken level bytes kind place (no_state digits rest count e c s h k) =
 
 -- where a fault is found no item stands
 
-behind-HasNoDigit : (bytes : List ℕ) → HasNoDigit (behind_digits bytes)
+behind-HasNoDigit : (bytes : List ℕ) → HasNoDigit (after_digits_of bytes)
 behind-HasNoDigit [] = tt
 behind-HasNoDigit (b ∷ bytes) =
     elim (is_ascii_digit b) as (λ t. is_ascii_digit b ≡ t → HasNoDigit (drop (cond t (1 + prefix_len is_ascii_digit bytes) 0) (b ∷ bytes))) [
@@ -109,40 +111,40 @@ behind-HasNoDigit (b ∷ bytes) =
       | false ↦ λ e. e
     ] refl
 
-cells_of-kind : (count : ℕ) (kind : Kind) (o : Option (ℕ × List ℕ)) → cells_of count o ≡ Broken kind → kind ≡ BadItem
+cells_of-kind : (count : ℕ) (kind : Kind) (o : Option (ℕ × List ℕ)) → next_of_cells count o ≡ Broken kind → kind ≡ BadItem
 cells_of-kind count kind None h = cc
 cells_of-kind count kind (Some found) h = cc
 
-item_behind-kind : (count : ℕ) (bytes : List ℕ) (kind : Kind) → item_behind count bytes ≡ Broken kind → kind ≡ BadItem
+item_behind-kind : (count : ℕ) (bytes : List ℕ) (kind : Kind) → item_after count bytes ≡ Broken kind → kind ≡ BadItem
 item_behind-kind count [] kind h = cc
 item_behind-kind count (b ∷ bytes) kind h =
-    elim (eqb b 36) as (λ t. cond t (Spelled (RowEnds count) bytes) (cells_of count (state_at (b ∷ bytes))) ≡ Broken kind → kind ≡ BadItem)
-    [ true ↦ λ h. cc | false ↦ λ h. cells_of-kind count kind (state_at (b ∷ bytes)) h ] h
+    elim (eqb b 36) as (λ t. cond t (Spelled (RowEnds count) bytes) (next_of_cells count (leading_state (b ∷ bytes))) ≡ Broken kind → kind ≡ BadItem)
+    [ true ↦ λ h. cc | false ↦ λ h. cells_of-kind count kind (leading_state (b ∷ bytes)) h ] h
 
 broken_or_spelled : (kind : Kind) (item : Item) (rest : List ℕ) → Broken kind ≡ Spelled item rest → ⊥
 broken_or_spelled kind item rest h = cc
 
-item_behind-HasNoState : (count : ℕ) (bytes : List ℕ) (kind : Kind) → item_behind count bytes ≡ Broken kind → HasNoState bytes
+item_behind-HasNoState : (count : ℕ) (bytes : List ℕ) (kind : Kind) → item_after count bytes ≡ Broken kind → HasNoState bytes
 item_behind-HasNoState count bytes kind h = (
-  (λ text rest state s e. broken_or_spelled kind (Cells count state) rest (sym h ∙ ap (item_behind count) e ∙ (IsRead-text count state text rest s).1)),
-  (λ rest e. broken_or_spelled kind (RowEnds count) rest (sym h ∙ ap (item_behind count) e)),
+  (λ text rest state s e. broken_or_spelled kind (Cells count state) rest (sym h ∙ ap (item_after count) e ∙ (IsRead-text count state text rest s).1)),
+  (λ rest e. broken_or_spelled kind (RowEnds count) rest (sym h ∙ ap (item_after count) e)),
 )
 
 behind-IsNoItem : (level count : ℕ) (digits rest bytes : List ℕ) (kind : Kind) → bytes ≡ digits ++ rest → IsCountText level digits count → HasNoDigit rest
-    → item_behind count rest ≡ Broken kind → IsNoItem level bytes kind
+    → item_after count rest ≡ Broken kind → IsNoItem level bytes kind
 behind-IsNoItem level count digits rest bytes kind e c s h = no_state digits rest count e c s (item_behind-HasNoState count rest kind h)
     (item_behind-kind count rest kind h)
 
 counted-IsNoItem : (level : ℕ) (digits rest bytes : List ℕ) (kind : Kind) → bytes ≡ digits ++ rest → list_all is_ascii_digit digits ≡ true → HasNoDigit rest
-    → counted level digits rest ≡ Broken kind → IsNoItem level bytes kind
+    → item_with_digits level digits rest ≡ Broken kind → IsNoItem level bytes kind
 counted-IsNoItem level [] rest bytes kind e a s = behind-IsNoItem level 1 [] rest bytes kind e (inl (refl, refl)) s
 counted-IsNoItem level (d ∷ digits) rest bytes kind e a s =
     let n = value_of (d ∷ digits) in
-    elim (eqb n 0) as (λ t. eqb n 0 ≡ t → cond t (Broken ZeroCount) (cond (ltb (most_count level) n) (Broken TooLarge) (item_behind n rest)) ≡ Broken kind
+    elim (eqb n 0) as (λ t. eqb n 0 ≡ t → cond t (Broken ZeroCount) (cond (ltb (most_count level) n) (Broken TooLarge) (item_after n rest)) ≡ Broken kind
     → IsNoItem level bytes kind) [
       | true ↦ λ z h. zero_count (d ∷ digits) rest e a s (grind (arith, nat_tests, z)) cc
       | false ↦ λ z. elim (ltb (most_count level) n)
-          as (λ t. ltb (most_count level) n ≡ t → cond t (Broken TooLarge) (item_behind n rest) ≡ Broken kind → IsNoItem level bytes kind) [
+          as (λ t. ltb (most_count level) n ≡ t → cond t (Broken TooLarge) (item_after n rest) ≡ Broken kind → IsNoItem level bytes kind) [
             | true ↦ λ l h. large_count (d ∷ digits) rest e a s (grind (arith, nat_tests, l)) cc
             | false ↦ λ l h. behind-IsNoItem level n (d ∷ digits) rest bytes kind e (inr (a, refl, grind (arith, nat_tests, z), grind (arith, nat_tests, l))) s
                 h
@@ -154,12 +156,12 @@ item_in-IsNoItem : (level : ℕ) (bytes : List ℕ) (kind : Kind) → HasNoInden
 item_in-IsNoItem level [] kind n h = cc
 item_in-IsNoItem level (b ∷ bytes) kind n read =
     let all = b ∷ bytes in
-    elim (eqb b 33) as (λ t. eqb b 33 ≡ t → cond t Mark (counted level (front_digits all) (behind_digits all)) ≡ Broken kind → HasItemPlace all
+    elim (eqb b 33) as (λ t. eqb b 33 ≡ t → cond t Mark (item_with_digits level (leading_digits all) (after_digits_of all)) ≡ Broken kind → HasItemPlace all
     × IsNoItem level all kind) [
       | true ↦ λ _ h. cc
       | false ↦ λ e h. (
         (n, λ v. let same : eqb b 33 ≡ true = grind (arith, nat_tests, v) in cc),
-        counted-IsNoItem level (front_digits all) (behind_digits all) all kind (sym (take-append-drop (prefix_len is_ascii_digit all) all))
+        counted-IsNoItem level (leading_digits all) (after_digits_of all) all kind (sym (take-append-drop (prefix_len is_ascii_digit all) all))
             (list_all-front is_ascii_digit all) (behind-HasNoDigit all) h,
       )
     ] refl read

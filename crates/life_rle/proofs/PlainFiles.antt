@@ -16,16 +16,16 @@ use Rattle.life_rle.specs.declared.line.Opening.{Opening}
 use Rattle.life_rle.specs.declared.line.Opening.TheVariants.{Comment, PositionLine, Header}
 use Rattle.life_rle.specs.declared.line.Later.{Later}
 use Rattle.life_rle.specs.declared.line.Later.TheVariants.{Passed, Data}
-use Rattle.life_rle.specs.Plane.{edge}
+use Rattle.life_rle.specs.Plane.{rle_plane_end}
 use Rattle.life_rle.specs.States.{is_state_of}
 use Rattle.life_rle.specs.Items.{End, Mark}
 use Rattle.life_rle.specs.Position.{default_position, is_position_line, position_of, and_then}
 use Rattle.life_rle.specs.Header.{header_form, rule_in, header_of}
 use Rattle.std.specs.Option.{option_or}
-use Rattle.life_rle.specs.Pattern.{Rle, Placed, placed, item_fault, placed_fault, first_fault}
+use Rattle.life_rle.specs.Pattern.{Rle, PlacedItem, placed_items, item_fault, placed_fault, first_fault}
 use Rattle.life_rle.specs.Grammar.{opening_of, later_of, IsPreamble, LineSpells, BodySpells, IsUnmarked, IsMarked, IsRle}
 use Rattle.life_rle.specs.PlainPosition.{IsPositionText}
-use Rattle.life_rle.specs.PlainFile.{IsShort, IsComment, ArePreamble, IsRuleLine, IsData, IsBodyLine, IsLastLine, AreBody, MayStand, IsOpenFile, IsEndedFile, FilesArePlain}
+use Rattle.life_rle.specs.PlainFile.{IsShortLine, IsRleComment, ArePreamble, IsRleRuleLine, IsData, IsBodyLine, IsLastLine, AreBody, MayStand, IsOpenFile, IsEndedFile, FilesArePlain}
 use Rattle.life_rle.proofs.Openings.{opened, opening-is}
 use Rattle.life_rle.proofs.Progress.{option_or-both, IsOpenBy-map, IsEndedBy-map}
 use Rattle.life_rle.proofs.PlainItems.{items_are_plain}
@@ -36,10 +36,10 @@ use Rattle.life_base.proofs.Basics.{int_le-true, int_lt-true, le-int_le, lt-int_
 
 -- ---- lengths
 
-short-of : (line : List ℕ) → is_too_long line ≡ false → IsShort line
+short-of : (line : List ℕ) → is_too_long line ≡ false → IsShortLine line
 short-of line h = grind (arith, nat_tests)
 
-not-long : (line : List ℕ) → IsShort line → is_too_long line ≡ false
+not-long : (line : List ℕ) → IsShortLine line → is_too_long line ≡ false
 not-long line h = grind (arith, nat_tests)
 
 -- ---- how a position line begins
@@ -75,20 +75,20 @@ position-is : (a b c d e : Bool) (p : Result Position Kind) (h : Result Rule Kin
     → opened a b c d e p h ≡ Ok (PositionLine here)
 position-is a b c d e p h here short visible is read = rw (short, visible, is, read) refl
 
-opening-comment : (level : ℕ) (line : List ℕ) → opening_of level line ≡ Ok Comment → IsShort line × IsComment line
+opening-comment : (level : ℕ) (line : List ℕ) → opening_of level line ≡ Ok Comment → IsShortLine line × IsRleComment line
 opening-comment level line q = let c = opening-is level line (Ok Comment) q in (short-of line c.0, c.1)
 
-comment-opening : (level : ℕ) (line : List ℕ) → IsShort line → IsComment line → opening_of level line ≡ Ok Comment
+comment-opening : (level : ℕ) (line : List ℕ) → IsShortLine line → IsRleComment line → opening_of level line ≡ Ok Comment
 comment-opening level line short c =
     comment-is (is_too_long line) (is_blank line) (is_position_line line) (begins_with line (codes "#")) (begins_with line (codes "x")) (position_of level line)
     (header_of line) (not-long line short) c
 
-opening-position : (level : ℕ) (line : List ℕ) (here : Position) → opening_of level line ≡ Ok (PositionLine here) → IsShort line
+opening-position : (level : ℕ) (line : List ℕ) (here : Position) → opening_of level line ≡ Ok (PositionLine here) → IsShortLine line
     × IsPositionText level line here
 opening-position level line here q =
     let p = opening-is level line (Ok (PositionLine here)) q in (short-of line p.0, ((positions_are_plain level line).0 here).0 (p.1, p.2))
 
-position-opening : (level : ℕ) (line : List ℕ) (here : Position) → IsShort line → IsPositionText level line here
+position-opening : (level : ℕ) (line : List ℕ) (here : Position) → IsShortLine line → IsPositionText level line here
     → opening_of level line ≡ Ok (PositionLine here)
 position-opening level line here short t =
     let p = ((positions_are_plain level line).0 here).1 t in
@@ -98,17 +98,17 @@ position-opening level line here short t =
 
 -- ---- the header
 
-rule-line : (line : List ℕ) (rule : Rule) (o : Option (Option (List ℕ))) → header_form line ≡ o → rule_in o ≡ Ok rule → IsRuleLine line rule
+rule-line : (line : List ℕ) (rule : Rule) (o : Option (Option (List ℕ))) → header_form line ≡ o → rule_in o ≡ Ok rule → IsRleRuleLine line rule
 rule-line line rule None e h = cc
 rule-line line rule (Some None) e h = let same : rule ≡ default_rule = cc in inl ((headers_are_plain line None).0 e, same)
 rule-line line rule (Some (Some text)) e h = inr (text, (headers_are_plain line (Some text)).0 e, h)
 
-line-rule : (line : List ℕ) (rule : Rule) → IsRuleLine line rule → header_of line ≡ Ok rule
+line-rule : (line : List ℕ) (rule : Rule) → IsRleRuleLine line rule → header_of line ≡ Ok rule
 line-rule line rule (inl h) = ap rule_in ((headers_are_plain line None).1 h.0) ∙ ap Ok (sym h.1)
 line-rule line rule (inr h) = ap rule_in ((headers_are_plain line (Some h.0)).1 h.1) ∙ h.2
 
 -- a header begins with `x`
-header-first : (line : List ℕ) (rule : Rule) → IsRuleLine line rule → (rest : List ℕ) × (line ≡ 120 ∷ rest)
+header-first : (line : List ℕ) (rule : Rule) → IsRleRuleLine line rule → (rest : List ℕ) × (line ≡ 120 ∷ rest)
 header-first line rule (inl h) = let t = h.0.4 in (t.0 ++ t.1, t.3)
 header-first line rule (inr h) = let t = h.1.4 in (t.0 ++ t.1, t.3)
 
@@ -122,13 +122,13 @@ x-opening level rest rule short read =
     ap (λ b. header-after b (header_of (120 ∷ rest))) short ∙ ap (header-after false) read in
     after
 
-header-opening : (level : ℕ) (line : List ℕ) (rule : Rule) → IsShort line → IsRuleLine line rule → opening_of level line ≡ Ok (Header rule)
+header-opening : (level : ℕ) (line : List ℕ) (rule : Rule) → IsShortLine line → IsRleRuleLine line rule → opening_of level line ≡ Ok (Header rule)
 header-opening level line rule short r =
     let first = header-first line rule r in
     let P : List ℕ → Type 0 = λ l. is_too_long l ≡ false → header_of l ≡ Ok rule → opening_of level l ≡ Ok (Header rule) in
     subst P (sym first.1) (x-opening level first.0 rule) (not-long line short) (line-rule line rule r)
 
-opening-header : (level : ℕ) (line : List ℕ) (rule : Rule) → opening_of level line ≡ Ok (Header rule) → IsShort line × IsRuleLine line rule
+opening-header : (level : ℕ) (line : List ℕ) (rule : Rule) → opening_of level line ≡ Ok (Header rule) → IsShortLine line × IsRleRuleLine line rule
 opening-header level line rule q =
     let h = opening-is level line (Ok (Header rule)) q in (short-of line h.0, rule-line line rule (header_form line) refl h.1)
 
@@ -180,24 +180,24 @@ is-data false false false false false false q = (refl, refl, refl, refl, refl)
 data-is : (a b c d e f : Bool) → a ≡ false → b ≡ false → c ≡ false → d ≡ false → e ≡ false → f ≡ false → later-by a b c d (e || f) ≡ Ok Data
 data-is a b c d e f p q r s t u = rw (p, q, r, s, t, u) refl
 
-later-passed : (line : List ℕ) → later_of line ≡ Ok Passed → IsShort line × IsComment line
+later-passed : (line : List ℕ) → later_of line ≡ Ok Passed → IsShortLine line × IsRleComment line
 later-passed line q =
     let c = is-passed (is_too_long line) (is_blank line) (is_position_line line) (begins_with line (codes "#"))
     (begins_with line (codes "x ") || begins_with line (codes "x=")) q in
     (short-of line c.0, c.1)
 
-passed-later : (line : List ℕ) → IsShort line → IsComment line → later_of line ≡ Ok Passed
+passed-later : (line : List ℕ) → IsShortLine line → IsRleComment line → later_of line ≡ Ok Passed
 passed-later line short c =
     passed-is (is_too_long line) (is_blank line) (is_position_line line) (begins_with line (codes "#"))
     (begins_with line (codes "x ") || begins_with line (codes "x=")) (not-long line short) c
 
-later-data : (line : List ℕ) → later_of line ≡ Ok Data → IsShort line × IsData line
+later-data : (line : List ℕ) → later_of line ≡ Ok Data → IsShortLine line × IsData line
 later-data line q =
     let d = is-data (is_too_long line) (is_blank line) (is_position_line line) (begins_with line (codes "#")) (begins_with line (codes "x "))
     (begins_with line (codes "x=")) q in
     (short-of line d.0, record { visible = d.1; no_comment = d.2; no_header = d.3; no_other_header = d.4 })
 
-data-later : (line : List ℕ) → IsShort line → IsData line → later_of line ≡ Ok Data
+data-later : (line : List ℕ) → IsShortLine line → IsData line → later_of line ≡ Ok Data
 data-later line short d =
     data-is (is_too_long line) (is_blank line) (is_position_line line) (begins_with line (codes "#")) (begins_with line (codes "x "))
     (begins_with line (codes "x="))
@@ -242,27 +242,29 @@ inside-is state row column s r c = ap (λ b. cells-by b row column) s ∙ ap (λ
 
 item-place : (level : ℕ) (rule : Rule) (row column : ℤ) (item : Item) → item_fault level rule row column item ≡ None → MayStand level rule row column item
 item-place level rule row column (Cells n s) e =
-    let i = is-inside (is_state_of rule s) (int_lt row (edge level)) (int_le (column +ℤ pos n) (edge level)) e in
-    (i.0, int_lt-true row (edge level) i.1, int_le-true (column +ℤ pos n) (edge level) i.2)
-item-place level rule row column (RowEnds n) e = int_le-true (row +ℤ pos n) (edge level) (is-on (int_le (row +ℤ pos n) (edge level)) e)
+    let i = is-inside (is_state_of rule s) (int_lt row (rle_plane_end level)) (int_le (column +ℤ pos n) (rle_plane_end level)) e in
+    (i.0, int_lt-true row (rle_plane_end level) i.1, int_le-true (column +ℤ pos n) (rle_plane_end level) i.2)
+item-place level rule row column (RowEnds n) e = int_le-true (row +ℤ pos n) (rle_plane_end level) (is-on (int_le (row +ℤ pos n) (rle_plane_end level)) e)
 
 place-item : (level : ℕ) (rule : Rule) (row column : ℤ) (item : Item) → MayStand level rule row column item → item_fault level rule row column item ≡ None
 place-item level rule row column (Cells n s) h =
-    inside-is (is_state_of rule s) (int_lt row (edge level)) (int_le (column +ℤ pos n) (edge level)) h.0 (lt-int_lt row (edge level) h.1)
-    (le-int_le (column +ℤ pos n) (edge level) h.2)
-place-item level rule row column (RowEnds n) h = ap (λ b. cond b None (Some OutOfPlane)) (le-int_le (row +ℤ pos n) (edge level) h)
+    inside-is (is_state_of rule s) (int_lt row (rle_plane_end level)) (int_le (column +ℤ pos n) (rle_plane_end level)) h.0
+    (lt-int_lt row (rle_plane_end level) h.1)
+    (le-int_le (column +ℤ pos n) (rle_plane_end level) h.2)
+place-item level rule row column (RowEnds n) h = ap (λ b. cond b None (Some OutOfPlane)) (le-int_le (row +ℤ pos n) (rle_plane_end level) h)
 
-fault-places : (level : ℕ) (rule : Rule) (ps : List Placed) → first_fault level rule ps ≡ None → (i : ℕ) (p : Placed) → slice_get ps i ≡ Some p
+fault-places : (level : ℕ) (rule : Rule) (ps : List PlacedItem) → first_fault level rule ps ≡ None → (i : ℕ) (p : PlacedItem) → slice_get ps i ≡ Some p
     → MayStand level rule p.row p.column p.item
 fault-places level rule [] e i p at = cc
 fault-places level rule (q ∷ ps) e zero p at =
     let none = option_or-both (placed_fault level rule q) (first_fault level rule ps) e in
-    let P : Placed → Type 0 = λ r. MayStand level rule r.row r.column r.item in
+    let P : PlacedItem → Type 0 = λ r. MayStand level rule r.row r.column r.item in
     subst P (same_Some q p at) (item-place level rule q.row q.column q.item none.0)
 fault-places level rule (q ∷ ps) e (suc i) p at = fault-places level rule ps (option_or-both (placed_fault level rule q) (first_fault level rule ps) e).1 i p
     at
 
-places-fault : (level : ℕ) (rule : Rule) (ps : List Placed) → ((i : ℕ) (p : Placed) → slice_get ps i ≡ Some p → MayStand level rule p.row p.column p.item)
+places-fault : (level : ℕ) (rule : Rule) (ps : List PlacedItem)
+    → ((i : ℕ) (p : PlacedItem) → slice_get ps i ≡ Some p → MayStand level rule p.row p.column p.item)
     → first_fault level rule ps ≡ None
 places-fault level rule [] h = refl
 places-fault level rule (q ∷ ps) h =
@@ -274,18 +276,18 @@ places-fault level rule (q ∷ ps) h =
 open-plain : (level : ℕ) (lines : List (List ℕ)) (file : Rle) → IsUnmarked level lines file → IsOpenFile level lines file
 open-plain level =
     IsOpenBy-map (λ before position. preamble-plain level default_position position before) (opening-header level) (body-plain level)
-    (λ file. fault-places level file.rule (placed file))
+    (λ file. fault-places level file.rule (placed_items file))
 
 plain-open : (level : ℕ) (lines : List (List ℕ)) (file : Rle) → IsOpenFile level lines file → IsUnmarked level lines file
 plain-open level =
     IsOpenBy-map (λ before position. plain-preamble level default_position position before) (λ header rule h. header-opening level header rule h.0 h.1)
-    (plain-body level) (λ file. places-fault level file.rule (placed file))
+    (plain-body level) (λ file. places-fault level file.rule (placed_items file))
 
 ended-plain : (level : ℕ) (lines : List (List ℕ)) (file : Rle) → IsMarked level lines file → IsEndedFile level lines file
-ended-plain level = IsEndedBy-map (open-plain level) (last-plain level) (λ file. fault-places level file.rule (placed file))
+ended-plain level = IsEndedBy-map (open-plain level) (last-plain level) (λ file. fault-places level file.rule (placed_items file))
 
 plain-ended : (level : ℕ) (lines : List (List ℕ)) (file : Rle) → IsEndedFile level lines file → IsMarked level lines file
-plain-ended level = IsEndedBy-map (plain-open level) (plain-last level) (λ file. places-fault level file.rule (placed file))
+plain-ended level = IsEndedBy-map (plain-open level) (plain-last level) (λ file. places-fault level file.rule (placed_items file))
 
 file-plain : (level : ℕ) (lines : List (List ℕ)) (file : Rle) → IsRle level lines file → IsOpenFile level lines file ⊎ IsEndedFile level lines file
 file-plain level lines file (inl u) = inl (open-plain level lines file u)

@@ -7,7 +7,7 @@ use Rattle.std.proofs.Math.Seq.{take-append_seam, drop-append_seam}
 use Rattle.std.specs.Char.{is_ascii_digit}
 use Rattle.std.specs.List.{list_all, prefix_len}
 use Rattle.life_base.specs.Text.{is_empty, is_whitespace, is_blank, is_digit_text, begins_with, trim_start}
-use Rattle.life_rle.specs.Items.{front_digits, behind_digits}
+use Rattle.life_rle.specs.Items.{leading_digits, after_digits_of}
 use Rattle.life_rle.specs.Header.{◌>>=◌, after_word, after_number, rule_part, header_form}
 use Rattle.life_rle.specs.Plain.{AreTokens, size_tokens, HasNoIndent, IsHeaderLine, HeadersArePlain}
 use Rattle.life_rle.proofs.Texts.{Stops, front-stop, behind-stop, digit-plain}
@@ -49,8 +49,8 @@ after_word-token word bytes rest =
 -- what is read as a number is a digit text
 after_number-token : (bytes rest : List ℕ) → after_number bytes ≡ Some rest → (digits : List ℕ) × (is_digit_text digits ≡ true) × IsToken bytes digits rest
 after_number-token bytes rest =
-    let digits = front_digits bytes in
-    let behind = behind_digits bytes in
+    let digits = leading_digits bytes in
+    let behind = after_digits_of bytes in
     elim (is_digit_text digits) as (λ t. is_digit_text digits ≡ t → cond t (Some (trim_start behind)) None ≡ Some rest → (digits : List ℕ)
     × (is_digit_text digits ≡ true) × IsToken bytes digits rest) [
       | true ↦ λ e h.
@@ -91,8 +91,9 @@ token-after_number digits space more bytes d h e n s =
     let stops = space-Stops space more h s in
     let parts = and_parts (not (is_empty digits)) (list_all is_ascii_digit digits) d in
     ap after_number e
-    ∙ ap (λ (t : List ℕ). cond (is_digit_text t) (Some (trim_start (behind_digits all))) None) (front-stop is_ascii_digit digits (space ++ more) parts.1 stops)
-    ∙ ap (λ t. cond t (Some (trim_start (behind_digits all))) None) d
+    ∙ ap (λ (t : List ℕ). cond (is_digit_text t) (Some (trim_start (after_digits_of all))) None)
+    (front-stop is_ascii_digit digits (space ++ more) parts.1 stops)
+    ∙ ap (λ t. cond t (Some (trim_start (after_digits_of all))) None) d
     ∙ ap (λ (t : List ℕ). Some (trim_start t)) (behind-stop is_ascii_digit digits (space ++ more) parts.1 stops)
     ∙ ap Some (blank_front space more h ∙ no_indent more n)
 

@@ -7,20 +7,20 @@ use Rattle.std.specs.List.{list_all, prefix_len}
 use Rattle.life_base.specs.declared.kind.Kind.TheVariants.{ZeroCount, TooLarge}
 use Rattle.life_base.specs.Text.{is_whitespace, is_blank, trim_start, value_of}
 use Rattle.std.specs.Option.{option_or}
-use Rattle.life_rle.specs.States.{state_at, with_rest, single_state, prefixed_state, prefixed_number}
+use Rattle.life_rle.specs.States.{leading_state, with_rest, single_state, prefixed_state, prefixed_number}
 use Rattle.life_rle.specs.declared.item.Item.{Item}
 use Rattle.life_rle.specs.declared.item.Item.TheVariants.{Cells, RowEnds}
 use Rattle.life_rle.specs.Plane.{most_count}
-use Rattle.life_rle.specs.Items.{front_digits, behind_digits, Next, End, Mark, Spelled, Broken, cells_of, item_behind, counted, item_in, next_of, Spells}
-use Rattle.life_rle.specs.Plain.{IsStateText, letter_b, dot, letter_o, letter, prefixed, IsCountText, IsItemText, IsTextOf, ItemsArePlain}
+use Rattle.life_rle.specs.Items.{leading_digits, after_digits_of, Next, End, Mark, Spelled, Broken, next_of_cells, item_after, item_with_digits, item_in, next_of, Spells}
+use Rattle.life_rle.specs.Plain.{IsStateText, letter_b, dot, letter_o, letter, prefixed, IsCountText, IsItemText, IsTextOfItems, ItemsArePlain}
 use Rattle.life_base.proofs.FrontDigits.{list_all-front}
 use Rattle.life_base.proofs.Texts.{blank_front}
 use Rattle.life_rle.proofs.Texts.{IsTag, IsTag-letter, next_of-tag, next_of-digits}
 use Rattle.life_rle.proofs.StatesRead.{one-byte, two-bytes}
 
-next_of-count : (level count : ℕ) (digits tag : List ℕ) → IsCountText level digits count → IsTag tag → next_of level (digits ++ tag) ≡ item_behind count tag
+next_of-count : (level count : ℕ) (digits tag : List ℕ) → IsCountText level digits count → IsTag tag → next_of level (digits ++ tag) ≡ item_after count tag
 next_of-count level count digits tag (inl h) t =
-    ap (λ (ds : List ℕ). next_of level (ds ++ tag)) h.0 ∙ next_of-tag level tag t ∙ ap (λ n. item_behind n tag) (sym h.1)
+    ap (λ (ds : List ℕ). next_of level (ds ++ tag)) h.0 ∙ next_of-tag level tag t ∙ ap (λ n. item_after n tag) (sym h.1)
 next_of-count level count digits tag (inr h) t = next_of-digits level count digits tag h.0 h.1 h.2 h.3 t
 
 -- the text of a state is read as that state
@@ -34,13 +34,14 @@ prefixed_state-places : (prefix place state : ℕ) → prefix < 10 → place < 2
     → prefixed_state (112 + prefix) (65 + place) ≡ Some state
 prefixed_state-places prefix place state h k e low = grind (arith, nat_tests)
 
-item_behind-state : (n b state : ℕ) (bytes rest : List ℕ) → eqb b 36 ≡ false → state_at (b ∷ bytes) ≡ Some (state, rest)
-    → item_behind n (b ∷ bytes) ≡ Spelled (Cells n state) rest
-item_behind-state n b state bytes rest h k = ap (λ t. cond t (Spelled (RowEnds n) bytes) (cells_of n (state_at (b ∷ bytes)))) h ∙ ap (cells_of n) k
+item_behind-state : (n b state : ℕ) (bytes rest : List ℕ) → eqb b 36 ≡ false → leading_state (b ∷ bytes) ≡ Some (state, rest)
+    → item_after n (b ∷ bytes) ≡ Spelled (Cells n state) rest
+item_behind-state n b state bytes rest h k = ap (λ t. cond t (Spelled (RowEnds n) bytes) (next_of_cells n (leading_state (b ∷ bytes)))) h
+    ∙ ap (next_of_cells n) k
 
 -- bytes that begin with the text of an item without its count
 abbrev pub IsRead : ℕ → List ℕ → Item → List ℕ → Type 0
-IsRead count bytes item rest = IsTag bytes × (item_behind count bytes ≡ Spelled item rest)
+IsRead count bytes item rest = IsTag bytes × (item_after count bytes ≡ Spelled item rest)
 
 IsRead-single : (count b state : ℕ) (rest : List ℕ) → IsTag (b ∷ rest) → eqb b 36 ≡ false → single_state b ≡ Some state
     → IsRead count (b ∷ rest) (Cells count state) rest
@@ -85,7 +86,7 @@ next_of-item level space text more (RowEnds count) h i =
     ∙ next_of-count level count i.0 (36 ∷ more) i.3 (refl, refl, refl)
 
 -- so the texts of items spell them
-pub IsTextOf-Spells : (level : ℕ) (items : List Item) (line rest : List ℕ) (last : Next) → next_of level rest ≡ last → IsTextOf level line items rest
+pub IsTextOf-Spells : (level : ℕ) (items : List Item) (line rest : List ℕ) (last : Next) → next_of level rest ≡ last → IsTextOfItems level line items rest
     → Spells level line items last
 IsTextOf-Spells level [] line rest last h i = ap (next_of level) i.2 ∙ ap (item_in level) (blank_front i.0 rest i.1) ∙ h
 IsTextOf-Spells level (item ∷ items) line rest last h i =
@@ -185,7 +186,7 @@ first-either : (f g : Option (ℕ × List ℕ)) (v : ℕ × List ℕ) → option
 first-either None g v h = inr h
 first-either (Some w) g v h = inl h
 
-pub state_at-text : (bytes rest : List ℕ) (state : ℕ) → state_at bytes ≡ Some (state, rest) → StateAt bytes state rest
+pub state_at-text : (bytes rest : List ℕ) (state : ℕ) → leading_state bytes ≡ Some (state, rest) → StateAt bytes state rest
 state_at-text [] rest state h = cc
 state_at-text (b ∷ []) rest state h = found-single b state rest [] h
 state_at-text (b ∷ c ∷ bytes) rest state h = pick (first-either (with_rest (single_state b) (c ∷ bytes)) (with_rest (prefixed_state b c) bytes) (state, rest) h)
@@ -202,30 +203,31 @@ IsFound level digits bytes Mark = ⊥
 IsFound level digits bytes (Broken kind) = Unit {0}
 IsFound level digits bytes (Spelled item rest) = (last : List ℕ) × IsItemText level (digits ++ last) item × (bytes ≡ last ++ rest)
 
-cells_of-found : (level count : ℕ) (digits bytes : List ℕ) → IsCountText level digits count → (o : Option (ℕ × List ℕ)) → state_at bytes ≡ o
-    → IsFound level digits bytes (cells_of count o)
+cells_of-found : (level count : ℕ) (digits bytes : List ℕ) → IsCountText level digits count → (o : Option (ℕ × List ℕ)) → leading_state bytes ≡ o
+    → IsFound level digits bytes (next_of_cells count o)
 cells_of-found level count digits bytes c None e = tt
 cells_of-found level count digits bytes c (Some (state, rest)) e =
     let s = state_at-text bytes rest state e in
     (s.0, (digits, s.0, refl, c, s.1), s.2)
 
-item_behind-found : (level count : ℕ) (digits bytes : List ℕ) → IsCountText level digits count → IsFound level digits bytes (item_behind count bytes)
+item_behind-found : (level count : ℕ) (digits bytes : List ℕ) → IsCountText level digits count → IsFound level digits bytes (item_after count bytes)
 item_behind-found level count digits [] c = tt
 item_behind-found level count digits (b ∷ bytes) c =
-    elim (eqb b 36) as (λ t. eqb b 36 ≡ t → IsFound level digits (b ∷ bytes) (cond t (Spelled (RowEnds count) bytes) (cells_of count (state_at (b ∷ bytes))))) [
+    elim (eqb b 36) as (λ t. eqb b 36 ≡ t → IsFound level digits (b ∷ bytes)
+    (cond t (Spelled (RowEnds count) bytes) (next_of_cells count (leading_state (b ∷ bytes))))) [
       | true ↦ λ e. let v : b ≡ 36 = grind (arith, nat_tests, e) in (36 ∷ [], (digits, 36 ∷ [], refl, c, refl), ap (λ (n : ℕ). n ∷ bytes) v)
-      | false ↦ λ e. cells_of-found level count digits (b ∷ bytes) c (state_at (b ∷ bytes)) refl
+      | false ↦ λ e. cells_of-found level count digits (b ∷ bytes) c (leading_state (b ∷ bytes)) refl
     ] refl
 
-counted-found : (level : ℕ) (digits bytes : List ℕ) → list_all is_ascii_digit digits ≡ true → IsFound level digits bytes (counted level digits bytes)
+counted-found : (level : ℕ) (digits bytes : List ℕ) → list_all is_ascii_digit digits ≡ true → IsFound level digits bytes (item_with_digits level digits bytes)
 counted-found level [] bytes h = item_behind-found level 1 [] bytes (inl (refl, refl))
 counted-found level (d ∷ digits) bytes h =
     let n = value_of (d ∷ digits) in
     elim (eqb n 0) as (λ t. eqb n 0 ≡ t
-    → IsFound level (d ∷ digits) bytes (cond t (Broken ZeroCount) (cond (ltb (most_count level) n) (Broken TooLarge) (item_behind n bytes)))) [
+    → IsFound level (d ∷ digits) bytes (cond t (Broken ZeroCount) (cond (ltb (most_count level) n) (Broken TooLarge) (item_after n bytes)))) [
       | true ↦ λ _. tt
       | false ↦ λ e. elim (ltb (most_count level) n)
-          as (λ t. ltb (most_count level) n ≡ t → IsFound level (d ∷ digits) bytes (cond t (Broken TooLarge) (item_behind n bytes))) [
+          as (λ t. ltb (most_count level) n ≡ t → IsFound level (d ∷ digits) bytes (cond t (Broken TooLarge) (item_after n bytes))) [
             | true ↦ λ _. tt
             | false ↦ λ f. item_behind-found level n (d ∷ digits) bytes (inr (h, refl, grind (arith, nat_tests, e), grind (arith, nat_tests, f)))
           ] refl
@@ -248,11 +250,11 @@ item_in-held : (level : ℕ) (bytes : List ℕ) → IsHeld level bytes (item_in 
 item_in-held level [] = refl
 item_in-held level (b ∷ bytes) =
     let all = b ∷ bytes in
-    elim (eqb b 33) as (λ t. eqb b 33 ≡ t → IsHeld level all (cond t Mark (counted level (front_digits all) (behind_digits all)))) [
+    elim (eqb b 33) as (λ t. eqb b 33 ≡ t → IsHeld level all (cond t Mark (item_with_digits level (leading_digits all) (after_digits_of all)))) [
       | true ↦ λ e. let v : b ≡ 33 = grind (arith, nat_tests, e) in (bytes, ap (λ (n : ℕ). n ∷ bytes) v)
-      | false ↦ λ e. held level (front_digits all) (behind_digits all) all (counted level (front_digits all) (behind_digits all))
+      | false ↦ λ e. held level (leading_digits all) (after_digits_of all) all (item_with_digits level (leading_digits all) (after_digits_of all))
           (sym (take-append-drop (prefix_len is_ascii_digit all) all))
-          (counted-found level (front_digits all) (behind_digits all) (list_all-front is_ascii_digit all))
+          (counted-found level (leading_digits all) (after_digits_of all) (list_all-front is_ascii_digit all))
     ] refl
 
 next_of-held : (level : ℕ) (bytes : List ℕ) (next : Next) → next_of level bytes ≡ next → IsHeld level (trim_start bytes) next
@@ -261,7 +263,7 @@ next_of-held level bytes next e = subst (IsHeld level (trim_start bytes)) e (ite
 -- so a line that spells items is their texts
 pub Spells-IsTextOf : (level : ℕ) (items : List Item) (line : List ℕ) (last : Next) (Rest : List ℕ → Type 0)
     → ((bytes : List ℕ) → next_of level bytes ≡ last → Rest (trim_start bytes)) → Spells level line items last → (rest : List ℕ) × Rest rest
-    × IsTextOf level line items rest
+    × IsTextOfItems level line items rest
 Spells-IsTextOf level [] line last Rest f h = (trim_start line, f line h, indented line)
 Spells-IsTextOf level (item ∷ items) line last Rest f h =
     let i = indented line in
@@ -271,11 +273,11 @@ Spells-IsTextOf level (item ∷ items) line last Rest f h =
 
 -- the same behind items, of one item more
 Spells-item : (level : ℕ) (line : List ℕ) (items : List Item) (item : Item) (rest : List ℕ) → Spells level line items (Spelled item rest)
-    ↔ ((text : List ℕ) × IsItemText level text item × IsTextOf level line items (text ++ rest))
+    ↔ ((text : List ℕ) × IsItemText level text item × IsTextOfItems level line items (text ++ rest))
 Spells-item level line items item rest = (
   (λ h. let k = Spells-IsTextOf level items line (Spelled item rest) (λ bytes. (text : List ℕ) × IsItemText level text item × (bytes ≡ text ++ rest))
       (λ bytes e. next_of-held level bytes (Spelled item rest) e) h in
-      (k.1.0, k.1.1, subst (IsTextOf level line items) k.1.2 k.2)),
+      (k.1.0, k.1.1, subst (IsTextOfItems level line items) k.1.2 k.2)),
   (λ h. IsTextOf-Spells level items line (h.0 ++ rest) (Spelled item rest) (next_of-item level [] h.0 rest item refl h.1) h.2),
 )
 
@@ -283,7 +285,7 @@ pub items_are_plain : ItemsArePlain
 items_are_plain level line items =
     let ended = Spells-IsTextOf level items line End (λ rest. rest ≡ []) (λ bytes e. next_of-held level bytes End e) in
     let marked = Spells-IsTextOf level items line Mark (λ rest. (free : List ℕ) × (rest ≡ 33 ∷ free)) (λ bytes e. next_of-held level bytes Mark e) in (
-      ((λ h. let k = ended h in subst (IsTextOf level line items) k.1 k.2), (λ h. IsTextOf-Spells level items line [] End refl h)),
-      ((λ h. let k = marked h in (k.1.0, subst (IsTextOf level line items) k.1.1 k.2)), (λ h. IsTextOf-Spells level items line (33 ∷ h.0) Mark refl h.1)),
+      ((λ h. let k = ended h in subst (IsTextOfItems level line items) k.1 k.2), (λ h. IsTextOf-Spells level items line [] End refl h)),
+      ((λ h. let k = marked h in (k.1.0, subst (IsTextOfItems level line items) k.1.1 k.2)), (λ h. IsTextOf-Spells level items line (33 ∷ h.0) Mark refl h.1)),
       (λ item rest. Spells-item level line items item rest),
     )

@@ -13,7 +13,7 @@ use Rattle.life_base.specs.Text.{is_empty, is_blank, begins_with, is_digit_text,
 use Rattle.life_base.specs.Numbers.{u64_of}
 use Rattle.life_rle.specs.declared.position.Position.{Position}
 use Rattle.life_rle.specs.Plane.{is_coordinate}
-use Rattle.life_rle.specs.Position.{Field, Corner, Generation, Other, default_position, and_then, is_position_line, signed_number, corner_of, corner_in, field_of, with_field, position_with, position_of}
+use Rattle.life_rle.specs.Position.{Field, Corner, Generation, Other, default_position, and_then, is_position_line, signed_number, corner_of, corner_in, field_of, position_with_field, position_with, position_of}
 use Rattle.life_rle.specs.PlainPosition.{AreWords, IsNumberText, IsFieldText, corner, generation, other, IsNoField, no_corner, outside, no_generation, large, AreFields, HasNoCorner, HasNoGeneration, IsLastCorner, IsLastGeneration, IsPositionText, IsNoPosition, PositionsArePlain}
 use Rattle.life_rle.proofs.ReadPosition.{is_plain, digits-plain, signed_number-digits, before-comma, after-comma}
 use Rattle.life_rle.proofs.PlainWords.{AreWords-words_of, words_of-AreWords, no}
@@ -245,17 +245,17 @@ fault-field level text kind (large digits t d above e) =
 
 abbrev with_fields : Position → List Field → Position
 with_fields o [] = o
-with_fields o (field ∷ fields) = with_fields (with_field o field) fields
+with_fields o (field ∷ fields) = with_fields (position_with_field o field) fields
 
 abbrev ReadsFields : ℕ → Position → List (List ℕ) → Position → Type 0
 ReadsFields level o words p = (fields : List Field) × AreFields level words fields × (p ≡ with_fields o fields)
 
 read-fields : (level : ℕ) (o p : Position) (words : List (List ℕ)) → position_with level o words ≡ Ok p → ReadsFields level o words p
 read-fields level o p [] h = let same : p ≡ o = cc in ([], tt, same)
-read-fields level o p (word ∷ words) h = by (field_of level word) refl h (λ field k. read-fields level (with_field o field) p words k)
+read-fields level o p (word ∷ words) h = by (field_of level word) refl h (λ field k. read-fields level (position_with_field o field) p words k)
   where
-    by : (r : Result Field Kind) → field_of level word ≡ r → and_then r (λ found. position_with level (with_field o found) words) ≡ Ok p
-        → ((field : Field) → position_with level (with_field o field) words ≡ Ok p → ReadsFields level (with_field o field) words p)
+    by : (r : Result Field Kind) → field_of level word ≡ r → and_then r (λ found. position_with level (position_with_field o found) words) ≡ Ok p
+        → ((field : Field) → position_with level (position_with_field o field) words ≡ Ok p → ReadsFields level (position_with_field o field) words p)
         → ReadsFields level o (word ∷ words) p
     by (Ok field) e k next = let more = next field k in (field ∷ more.0, (field-text level word field e, more.1), more.2)
     by (Err kind) e k next = cc
@@ -266,8 +266,8 @@ fields-read level o [] [] h = refl
 fields-read level o [] (field ∷ fields) h = absurd h
 fields-read level o (word ∷ words) [] h = absurd h
 fields-read level o (word ∷ words) (field ∷ fields) h =
-    ap (λ r. and_then r (λ found. position_with level (with_field o found) words)) (text-field level word field h.0)
-    ∙ fields-read level (with_field o field) words fields h.1
+    ap (λ r. and_then r (λ found. position_with level (position_with_field o found) words)) (text-field level word field h.0)
+    ∙ fields-read level (position_with_field o field) words fields h.1
 
 -- words of which the first that is no field breaks this rule
 record ReadsFault (level : ℕ) (words : List (List ℕ)) (kind : Kind) : Type 0 where
@@ -281,10 +281,11 @@ record ReadsFault (level : ℕ) (words : List (List ℕ)) (kind : Kind) : Type 0
 
 read-fault : (level : ℕ) (o : Position) (words : List (List ℕ)) (kind : Kind) → position_with level o words ≡ Err kind → ReadsFault level words kind
 read-fault level o [] kind h = cc
-read-fault level o (word ∷ words) kind h = by (field_of level word) refl h (λ field k. read-fault level (with_field o field) words kind k)
+read-fault level o (word ∷ words) kind h = by (field_of level word) refl h (λ field k. read-fault level (position_with_field o field) words kind k)
   where
-    by : (r : Result Field Kind) → field_of level word ≡ r → and_then r (λ found. position_with level (with_field o found) words) ≡ Err kind
-        → ((field : Field) → position_with level (with_field o field) words ≡ Err kind → ReadsFault level words kind) → ReadsFault level (word ∷ words) kind
+    by : (r : Result Field Kind) → field_of level word ≡ r → and_then r (λ found. position_with level (position_with_field o found) words) ≡ Err kind
+        → ((field : Field) → position_with level (position_with_field o field) words ≡ Err kind → ReadsFault level words kind)
+        → ReadsFault level (word ∷ words) kind
     by (Ok field) e k next =
         let more = next field k in
         record {
@@ -303,11 +304,11 @@ read-fault level o (word ∷ words) kind h = by (field_of level word) refl h (λ
 fault-read : (level : ℕ) (o : Position) (front : List (List ℕ)) (word : List ℕ) (rest : List (List ℕ)) (fields : List Field) (kind : Kind)
     → AreFields level front fields → IsNoField level word kind → position_with level o (front ++ word ∷ rest) ≡ Err kind
 fault-read level o [] word rest fields kind h n =
-    ap (λ r. and_then r (λ found. position_with level (with_field o found) rest)) (fault-field level word kind n)
+    ap (λ r. and_then r (λ found. position_with level (position_with_field o found) rest)) (fault-field level word kind n)
 fault-read level o (first ∷ front) word rest [] kind h n = absurd h
 fault-read level o (first ∷ front) word rest (field ∷ fields) kind h n =
-    ap (λ r. and_then r (λ found. position_with level (with_field o found) (front ++ word ∷ rest))) (text-field level first field h.0)
-    ∙ fault-read level (with_field o field) front word rest fields kind h.1 n
+    ap (λ r. and_then r (λ found. position_with level (position_with_field o found) (front ++ word ∷ rest))) (text-field level first field h.0)
+    ∙ fault-read level (position_with_field o field) front word rest fields kind h.1 n
 
 -- ---- the last of several fields counts
 
@@ -328,12 +329,12 @@ corner-behind o p field fields x y f (inr h) = inr (field ∷ h.0, h.1, ap (λ (
 last-corner : (o : Position) (fields : List Field) → LastCorner o fields (with_fields o fields).x (with_fields o fields).y
 last-corner o [] = inl (tt, refl, refl)
 last-corner o (Corner a b ∷ fields) =
-    let p : Position = with_field o (Corner a b) in
+    let p : Position = position_with_field o (Corner a b) in
     let last : Position = with_fields p fields in
     corner-behind o p (Corner a b) fields last.x last.y
     (λ n e. inr ([], fields, ap (λ (z : ℤ). Corner z b ∷ fields) (sym e.0) ∙ ap (λ (z : ℤ). Corner last.x z ∷ fields) (sym e.1), n)) (last-corner p fields)
 last-corner o (Generation n ∷ fields) =
-    let p : Position = with_field o (Generation n) in
+    let p : Position = position_with_field o (Generation n) in
     corner-behind o p (Generation n) fields (with_fields p fields).x (with_fields p fields).y (λ h e. inl (h, e.0, e.1)) (last-corner p fields)
 last-corner o (Other ∷ fields) = corner-behind o o Other fields (with_fields o fields).x (with_fields o fields).y (λ h e. inl (h, e.0, e.1))
     (last-corner o fields)
@@ -347,10 +348,10 @@ generation-behind o p field fields n f (inr h) = inr (field ∷ h.0, h.1, ap (λ
 last-generation : (o : Position) (fields : List Field) → LastGeneration o fields (with_fields o fields).generation
 last-generation o [] = inl (tt, refl)
 last-generation o (Corner a b ∷ fields) =
-    let p : Position = with_field o (Corner a b) in
+    let p : Position = position_with_field o (Corner a b) in
     generation-behind o p (Corner a b) fields (with_fields p fields).generation (λ h e. inl (h, e)) (last-generation p fields)
 last-generation o (Generation n ∷ fields) =
-    let p : Position = with_field o (Generation n) in
+    let p : Position = position_with_field o (Generation n) in
     let last : Position = with_fields p fields in
     generation-behind o p (Generation n) fields last.generation (λ h e. inr ([], fields, ap (λ (k : ℕ). Generation k ∷ fields) (sym e), h))
     (last-generation p fields)
@@ -359,33 +360,33 @@ last-generation o (Other ∷ fields) = generation-behind o o Other fields (with_
 kept-corner : (o : Position) (fields : List Field) → HasNoCorner fields → ((with_fields o fields).x ≡ o.x) × ((with_fields o fields).y ≡ o.y)
 kept-corner o [] h = (refl, refl)
 kept-corner o (Corner x y ∷ fields) h = absurd h
-kept-corner o (Generation n ∷ fields) h = kept-corner (with_field o (Generation n)) fields h
+kept-corner o (Generation n ∷ fields) h = kept-corner (position_with_field o (Generation n)) fields h
 kept-corner o (Other ∷ fields) h = kept-corner o fields h
 
 kept-generation : (o : Position) (fields : List Field) → HasNoGeneration fields → (with_fields o fields).generation ≡ o.generation
 kept-generation o [] h = refl
-kept-generation o (Corner x y ∷ fields) h = kept-generation (with_field o (Corner x y)) fields h
+kept-generation o (Corner x y ∷ fields) h = kept-generation (position_with_field o (Corner x y)) fields h
 kept-generation o (Generation n ∷ fields) h = absurd h
 kept-generation o (Other ∷ fields) h = kept-generation o fields h
 
 with-append : (o : Position) (front rest : List Field) → with_fields o (front ++ rest) ≡ with_fields (with_fields o front) rest
 with-append o [] rest = refl
-with-append o (field ∷ front) rest = with-append (with_field o field) front rest
+with-append o (field ∷ front) rest = with-append (position_with_field o field) front rest
 
 corner-last : (o : Position) (fields : List Field) (x y : ℤ) → LastCorner o fields x y → ((with_fields o fields).x ≡ x) × ((with_fields o fields).y ≡ y)
 corner-last o fields x y (inl h) = let k = kept-corner o fields h.0 in (k.0 ∙ sym h.1, k.1 ∙ sym h.2)
 corner-last o fields x y (inr h) =
-    let e : with_fields o fields ≡ with_fields (with_field (with_fields o h.0) (Corner x y)) h.1 = ap (with_fields o) h.2
+    let e : with_fields o fields ≡ with_fields (position_with_field (with_fields o h.0) (Corner x y)) h.1 = ap (with_fields o) h.2
     ∙ with-append o h.0 (Corner x y ∷ h.1) in
-    let k = kept-corner (with_field (with_fields o h.0) (Corner x y)) h.1 h.3 in
+    let k = kept-corner (position_with_field (with_fields o h.0) (Corner x y)) h.1 h.3 in
     (ap (λ (p : Position). p.x) e ∙ k.0, ap (λ (p : Position). p.y) e ∙ k.1)
 
 generation-last : (o : Position) (fields : List Field) (n : ℕ) → LastGeneration o fields n → (with_fields o fields).generation ≡ n
 generation-last o fields n (inl h) = kept-generation o fields h.0 ∙ sym h.1
 generation-last o fields n (inr h) =
-    let e : with_fields o fields ≡ with_fields (with_field (with_fields o h.0) (Generation n)) h.1 = ap (with_fields o) h.2
+    let e : with_fields o fields ≡ with_fields (position_with_field (with_fields o h.0) (Generation n)) h.1 = ap (with_fields o) h.2
     ∙ with-append o h.0 (Generation n ∷ h.1) in
-    ap (λ (p : Position). p.generation) e ∙ kept-generation (with_field (with_fields o h.0) (Generation n)) h.1 h.3
+    ap (λ (p : Position). p.generation) e ∙ kept-generation (position_with_field (with_fields o h.0) (Generation n)) h.1 h.3
 
 same-position : (p q : Position) → p.x ≡ q.x → p.y ≡ q.y → p.generation ≡ q.generation → p ≡ q
 same-position p q x y n =

@@ -8,7 +8,7 @@ use Rattle.life_rle.specs.Items.{Next, End, Mark, Spelled, Broken, next_of, Spel
 use Rattle.life_rle.specs.declared.position.Position.{Position}
 use Rattle.life_rle.specs.Position.{default_position}
 use Rattle.std.specs.Option.{option_or}
-use Rattle.life_rle.specs.Pattern.{Rle, Placed, placed, placed_item, placed_behind, first_fault, placed_fault}
+use Rattle.life_rle.specs.Pattern.{Rle, PlacedItem, placed_items, placed_item, placed_after, first_fault, placed_fault}
 use Rattle.life_rle.specs.declared.line.Opening.{Opening}
 use Rattle.life_rle.specs.declared.line.Opening.TheVariants.{Comment, PositionLine, Header}
 use Rattle.life_rle.specs.Grammar.{opening_of, later_of, IsPreamble, LineSpells, BodySpells, IsUnmarked, IsOpenBy, IsEndedBy, IsMarked}
@@ -24,7 +24,7 @@ fault_of_next (Broken kind) = Some kind
 
 -- which rule further items break first behind a file, or what stands behind them
 abbrev pub items_fault : ℕ → Rle → List Item → Next → Option Kind
-items_fault level file items last = option_or (first_fault level file.rule (placed_behind file.position file.items items)) (fault_of_next last)
+items_fault level file items last = option_or (first_fault level file.rule (placed_after file.position file.items items)) (fault_of_next last)
 
 -- how far the lines so far have come
 pub data Progress : Type 0 where
@@ -95,29 +95,29 @@ progress-Ended level file [] = refl
 progress-Ended level file (line ∷ lines) = progress-Ended level file lines
 
 -- items behind items
-pub placed_behind-append : (o : Position) (before xs ys : List Item) → placed_behind o before (xs ++ ys) ≡ placed_behind o before xs
-    ++ placed_behind o (before ++ xs) ys
-placed_behind-append o before [] ys = ap (λ b. placed_behind o b ys) (sym (append-nil before))
+pub placed_behind-append : (o : Position) (before xs ys : List Item) → placed_after o before (xs ++ ys) ≡ placed_after o before xs
+    ++ placed_after o (before ++ xs) ys
+placed_behind-append o before [] ys = ap (λ b. placed_after o b ys) (sym (append-nil before))
 placed_behind-append o before (x ∷ xs) ys =
     ap (λ ps. placed_item o before x ∷ ps) (placed_behind-append o (before ++ x ∷ []) xs ys
-    ∙ ap (λ b. placed_behind o (before ++ x ∷ []) xs ++ placed_behind o b ys) (append_assoc before (x ∷ []) xs))
+    ∙ ap (λ b. placed_after o (before ++ x ∷ []) xs ++ placed_after o b ys) (append_assoc before (x ∷ []) xs))
 
 option_or-assoc : (a b c : Option Kind) → option_or a (option_or b c) ≡ option_or (option_or a b) c
 option_or-assoc None b c = refl
 option_or-assoc (Some k) b c = refl
 
-pub first_fault-append : (level : ℕ) (rule : Rule) (ps qs : List Placed) → first_fault level rule (ps ++ qs) ≡ option_or (first_fault level rule ps)
+pub first_fault-append : (level : ℕ) (rule : Rule) (ps qs : List PlacedItem) → first_fault level rule (ps ++ qs) ≡ option_or (first_fault level rule ps)
     (first_fault level rule qs)
 first_fault-append level rule [] qs = refl
 first_fault-append level rule (p ∷ ps) qs =
     ap (option_or (placed_fault level rule p)) (first_fault-append level rule ps qs)
     ∙ option_or-assoc (placed_fault level rule p) (first_fault level rule ps) (first_fault level rule qs)
 
-pub first_fault-with_items : (level : ℕ) (file : Rle) (items : List Item) → first_fault level file.rule (placed (with_items file items))
-    ≡ option_or (first_fault level file.rule (placed file)) (first_fault level file.rule (placed_behind file.position file.items items))
+pub first_fault-with_items : (level : ℕ) (file : Rle) (items : List Item) → first_fault level file.rule (placed_items (with_items file items))
+    ≡ option_or (first_fault level file.rule (placed_items file)) (first_fault level file.rule (placed_after file.position file.items items))
 first_fault-with_items level file items =
     ap (first_fault level file.rule) (placed_behind-append file.position [] file.items items)
-    ∙ first_fault-append level file.rule (placed file) (placed_behind file.position file.items items)
+    ∙ first_fault-append level file.rule (placed_items file) (placed_after file.position file.items items)
 
 pub option_or-both : (a b : Option Kind) → option_or a b ≡ None → (a ≡ None) × (b ≡ None)
 option_or-both None b e = (refl, e)
@@ -138,7 +138,7 @@ BodySpells-push level (l ∷ ls) items line more h s =
     (h.0, h.1 ++ more, ap (λ xs. xs ++ more) h.2 ∙ append_assoc h.0 h.1 more, h.3, BodySpells-push level ls h.1 line more h.4 s)
 
 pub IsUnmarked-push : (level : ℕ) (lines : List (List ℕ)) (file : Rle) (line : List ℕ) (more : List Item) → IsUnmarked level lines file
-    → LineSpells level line more End → first_fault level file.rule (placed_behind file.position file.items more) ≡ None
+    → LineSpells level line more End → first_fault level file.rule (placed_after file.position file.items more) ≡ None
     → IsUnmarked level (lines ++ line ∷ []) (with_items file more)
 IsUnmarked-push level lines file line more b s sound = record {
   before = b.before;
@@ -148,12 +148,12 @@ IsUnmarked-push level lines file line more b s sound = record {
   preamble = b.preamble;
   rule = b.rule;
   items = BodySpells-push level b.body file.items line more b.items s;
-  sound = first_fault-with_items level file more ∙ ap (λ k. option_or k (first_fault level file.rule (placed_behind file.position file.items more))) b.sound
+  sound = first_fault-with_items level file more ∙ ap (λ k. option_or k (first_fault level file.rule (placed_after file.position file.items more))) b.sound
       ∙ sound;
 }
 
 pub IsMarked-begun : (level : ℕ) (lines : List (List ℕ)) (file : Rle) (line : List ℕ) (more : List Item) → IsUnmarked level lines file
-    → LineSpells level line more Mark → first_fault level file.rule (placed_behind file.position file.items more) ≡ None
+    → LineSpells level line more Mark → first_fault level file.rule (placed_after file.position file.items more) ≡ None
     → IsMarked level (lines ++ line ∷ []) (with_items file more)
 IsMarked-begun level lines file line more b s sound = record {
   front = lines;
@@ -165,7 +165,7 @@ IsMarked-begun level lines file line more b s sound = record {
   items = refl;
   begun = b;
   marked = s;
-  sound = first_fault-with_items level file more ∙ ap (λ k. option_or k (first_fault level file.rule (placed_behind file.position file.items more))) b.sound
+  sound = first_fault-with_items level file more ∙ ap (λ k. option_or k (first_fault level file.rule (placed_after file.position file.items more))) b.sound
       ∙ sound;
 }
 
@@ -246,9 +246,9 @@ after_items-Stands : (level : ℕ) (lines : List (List ℕ)) (file : Rle) (line 
     → IsUnmarked level lines file → later_of line ≡ Ok Data → Spells level line items next → items_fault level file items next ≡ k
     → Stands level (lines ++ line ∷ []) (after_items file items next k)
 after_items-Stands level lines file line items End None b f s e = IsUnmarked-push level lines file line items b (inr (f, s))
-    (option_or-both (first_fault level file.rule (placed_behind file.position file.items items)) None e).0
+    (option_or-both (first_fault level file.rule (placed_after file.position file.items items)) None e).0
 after_items-Stands level lines file line items Mark None b f s e = IsMarked-begun level lines file line items b (inr (f, s))
-    (option_or-both (first_fault level file.rule (placed_behind file.position file.items items)) None e).0
+    (option_or-both (first_fault level file.rule (placed_after file.position file.items items)) None e).0
 after_items-Stands level lines file line items (Spelled i r) None b f s e = tt
 after_items-Stands level lines file line items (Broken kind) None b f s e = tt
 after_items-Stands level lines file line items End (Some kind) b f s e = tt

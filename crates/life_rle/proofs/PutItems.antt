@@ -7,8 +7,8 @@ use Rattle.life_rle.specs.declared.item.Item.{Item}
 use Rattle.life_rle.specs.declared.item.Item.TheVariants.{Cells, RowEnds}
 use Rattle.life_rle.specs.declared.wrapping.ItemLines.{ItemLines}
 use Rattle.life_rle.specs.Cursor.{item_count}
-use Rattle.life_rle.specs.Written.{count_text, item_text, item_lines, wrapped}
-use Rattle.life_rle.specs.Writer.{tag_text, feed, used_behind, text_from, items_text, text_with, Puts}
+use Rattle.life_rle.specs.Written.{count_text, item_text, item_lines, wrapped_lines}
+use Rattle.life_rle.specs.Writer.{tag_text, feed, used_after, text_from, items_text, text_with, PutsItems}
 use Rattle.life_rle.proofs.FileLines.{state_text-short}
 
 pub tag-short : (rule : Rule) (item : Item) → length (tag_text rule item) ≤ 2
@@ -16,23 +16,25 @@ tag-short rule (Cells n s) = state_text-short rule s
 tag-short rule (RowEnds n) = omega arith
 
 -- one after the other
-pub Puts-then : (rule : Rule) (xs ys : List Item) (old middle new : ItemLines) → Puts rule old xs middle → Puts rule middle ys new
-    → Puts rule old (xs ++ ys) new
+pub Puts-then : (rule : Rule) (xs ys : List Item) (old middle new : ItemLines) → PutsItems rule old xs middle → PutsItems rule middle ys new
+    → PutsItems rule old (xs ++ ys) new
 Puts-then rule xs ys old middle new p q = record {
   short = q.short;
   text = λ more. q.text more ∙ p.text (ys ++ more) ∙ ap (λ items. text_with rule old items) (sym (append_assoc xs ys more));
 }
 
 -- lines, each with its line feed, are the text from the first line's bytes on
-pub wrapped-text : (line : List ℕ) (texts : List (List ℕ)) → flat_map (λ line. line ++ 10 ∷ []) (wrapped line texts) ≡ line ++ text_from (length line) texts
+pub wrapped-text : (line : List ℕ) (texts : List (List ℕ)) → flat_map (λ line. line ++ 10 ∷ []) (wrapped_lines line texts) ≡ line
+    ++ text_from (length line) texts
 wrapped-text line [] = append-nil (line ++ 10 ∷ [])
 wrapped-text line (text ∷ texts) =
     elim (leb (length line + length text) 70)
-    as (λ t. flat_map (λ line. line ++ 10 ∷ []) (cond t (wrapped (line ++ text) texts) (line ∷ wrapped text texts))
+    as (λ t. flat_map (λ line. line ++ 10 ∷ []) (cond t (wrapped_lines (line ++ text) texts) (line ∷ wrapped_lines text texts))
     ≡ line ++ (cond t [] (10 ∷ []) ++ (text ++ text_from (cond t (length line + length text) (length text)) texts))) [
       | true ↦ wrapped-text (line ++ text) texts ∙ append_assoc line text (text_from (length (line ++ text)) texts)
           ∙ ap (λ n. line ++ (text ++ text_from n texts)) (length-append line text)
-      | false ↦ append_assoc line (10 ∷ []) (flat_map (λ line. line ++ 10 ∷ []) (wrapped text texts)) ∙ ap (λ t. line ++ (10 ∷ t)) (wrapped-text text texts)
+      | false ↦ append_assoc line (10 ∷ []) (flat_map (λ line. line ++ 10 ∷ []) (wrapped_lines text texts))
+          ∙ ap (λ t. line ++ (10 ∷ t)) (wrapped-text text texts)
     ]
 
 -- two lines, and items
@@ -58,14 +60,14 @@ three-texts a b c old first second new e f g = rw (g, f, e) (simp append_assoc)
 
 -- an item whose text fits on the line
 Puts-fitting : (rule : Rule) (item : Item) (old new : ItemLines) (t : List ℕ) → item_text rule item ≡ t → old.used + length t ≤ 70
-    → new.text.items ≡ old.text.items ++ t → new.used ≡ old.used + length t → Puts rule old (item ∷ []) new
+    → new.text.items ≡ old.text.items ++ t → new.used ≡ old.used + length t → PutsItems rule old (item ∷ []) new
 Puts-fitting rule item old new t is fits e u = record {
   short = omega (arith, fits, u);
   text = λ more.
       let rest = λ (used : ℕ). items_text rule used more in
       let on_line : nat_le (old.used + length t) 70 ≡ true = grind (arith, nat_tests, fits) in
       let behind : text_with rule old (item ∷ more) ≡ old.text.items ++ (t ++ rest (old.used + length t)) =
-      ap (λ s. old.text.items ++ (feed old.used (length s) ++ (s ++ rest (used_behind old.used (length s))))) is
+      ap (λ s. old.text.items ++ (feed old.used (length s) ++ (s ++ rest (used_after old.used (length s))))) is
       ∙ ap (λ b. old.text.items ++ ((if b then [] else 10 ∷ []) ++ (t ++ rest (if b then old.used + length t else length t)))) on_line in
       ap (λ l. l ++ rest new.used) e ∙ append_assoc old.text.items t (rest new.used) ∙ ap (λ n. old.text.items ++ (t ++ rest n)) u ∙ sym behind;
 }
@@ -91,7 +93,7 @@ short-length n letter small = by (n == 1) refl
 -- such a count and a letter, on a line with room for two bytes
 pub Puts-short : (rule : Rule) (item : Item) (old new : ItemLines) (count letter : ℕ) → count ≡ item_count item → tag_text rule item ≡ letter ∷ [] → count < 10
     → old.used + 2 ≤ 70 → new.used ≡ old.used + length (count_text count ++ letter ∷ [])
-    → new.text.items ≡ old.text.items ++ (count_text count ++ letter ∷ []) → Puts rule old (item ∷ []) new
+    → new.text.items ≡ old.text.items ++ (count_text count ++ letter ∷ []) → PutsItems rule old (item ∷ []) new
 Puts-short rule item old new count letter counted tag small room u e =
     let len = short-length count letter small in
     Puts-fitting rule item old new (count_text count ++ letter ∷ []) (count-and-tag rule item ∙ (λ i. count_text (sym counted i) ++ tag i))

@@ -7,7 +7,7 @@ use Rattle.life_base.specs.declared.rule.Rule.{Rule}
 use Rattle.life_base.specs.Rules.{rule_of, rule_text}
 use Rattle.life_base.specs.Text.{is_digit_text, trim_start, lines_of, onto_first}
 use Rattle.std.specs.Char.{is_ascii_digit}
-use Rattle.life_rle.specs.Items.{behind_digits}
+use Rattle.life_rle.specs.Items.{after_digits_of}
 use Rattle.life_rle.specs.Header.{◌>>=◌, after_word, after_number, rule_part, header_form, rule_in, header_of}
 use Rattle.life_rle.specs.Written.{header_text}
 use Rattle.life_rle.proofs.Texts.{decimal-is_digit_text, digit-plain, Stops, front-stop, behind-stop}
@@ -50,8 +50,8 @@ after_number-digits : (digits rest : List ℕ) → is_digit_text digits ≡ true
 after_number-digits digits rest h s =
     let all = digits-all digits h in
     ap after_number (digits-trimmed digits rest h)
-    ∙ ap (λ front. cond (is_digit_text front) (Some (trim_start (behind_digits (digits ++ rest)))) None) (front-stop is_ascii_digit digits rest all s)
-    ∙ ap (λ t. cond t (Some (trim_start (behind_digits (digits ++ rest)))) None) h
+    ∙ ap (λ front. cond (is_digit_text front) (Some (trim_start (after_digits_of (digits ++ rest)))) None) (front-stop is_ascii_digit digits rest all s)
+    ∙ ap (λ t. cond t (Some (trim_start (after_digits_of (digits ++ rest)))) None) h
     ∙ ap (λ left. Some (trim_start left)) (behind-stop is_ascii_digit digits rest all s)
 
 abbrev behind_height : Option (List ℕ) → Option (Option (List ℕ))

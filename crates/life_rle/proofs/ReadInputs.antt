@@ -9,8 +9,8 @@ use Rattle.life_base.proofs.NumberedLines.{texts, number_at, length_texts, lines
 use Rattle.life_base.specs.declared.cell.Run.{Run}
 use Rattle.life_rle.specs.declared.position.Position.{Position}
 use Rattle.life_rle.specs.Position.{default_position}
-use Rattle.life_rle.specs.Grammar.{IsPreamble, Breaks}
-use Rattle.life_rle.specs.File.{HasRuns, Refuses}
+use Rattle.life_rle.specs.Grammar.{IsPreamble, BreaksRle}
+use Rattle.life_rle.specs.File.{HasRuns, RefusesRle}
 use Rattle.life_rle.proofs.Refusal.{Breaks-IsRefusal, IsPreamble-IsRefusal}
 
 -- before the first line there are no runs
@@ -20,8 +20,8 @@ no_runs level lines runs e f = subst (λ ls. HasRuns level ls runs) (sym e) (inl
 -- why an input is refused of which this line breaks a rule
 pub refused_here : (level : ℕ) (lines : List (List ℕ)) (before : List (ℕ × List ℕ)) (k : ℕ) (line : List ℕ) (rest : List (ℕ × List ℕ)) (front : List (List ℕ))
     (fault : Fault)
-    → before ++ (k, line) ∷ rest ≡ numbered_from 1 lines → front ≡ texts before → Breaks level front line fault.kind → fault.place.line ≡ k
-    → Refuses level lines fault
+    → before ++ (k, line) ∷ rest ≡ numbered_from 1 lines → front ≡ texts before → BreaksRle level front line fault.kind → fault.place.line ≡ k
+    → RefusesRle level lines fault
 refused_here level lines before k line rest front fault e f b l =
     let long : length front ≡ length (texts before) = ap length f in
     let at : fault.place.line ≡ min (length front + 1) (2 ^ 64 - 1) = omega
@@ -32,11 +32,11 @@ refused_here level lines before k line rest front fault e f b l =
 pub refused_at_end : (level : ℕ) (lines read : List (List ℕ)) (position : Position) (number last : ℕ) (kind : Kind)
     → read ≡ lines → IsPreamble level default_position read position → kind ≡ NoHeader → last ≡ min (length read) (2 ^ 64 - 1)
     → number ≡ min (last + 1) (2 ^ 64 - 1)
-    → Refuses level lines (fault_at number kind)
+    → RefusesRle level lines (fault_at number kind)
 refused_at_end level lines read position number last kind e pre k counted next =
     let here : Fault = record { place = record { line = number }; kind = kind } in
     let long : length read ≡ length lines = ap length e in
     let at : number ≡ min (length lines + 1) (2 ^ 64 - 1) = omega (arith, counted, next, long) in
-    let R : Fault → Type 0 = λ f. Refuses level lines f in
+    let R : Fault → Type 0 = λ f. RefusesRle level lines f in
     let P : Kind → Type 0 = λ kind. R (record { place = record { line = number }; kind = kind }) → R (fault_at number kind) in
     subst P (sym k) (λ r. r) (IsPreamble-IsRefusal level lines position here (subst (λ ls. IsPreamble level default_position ls position) e pre) k at)

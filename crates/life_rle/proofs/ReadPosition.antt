@@ -10,7 +10,7 @@ use Rattle.life_base.specs.declared.kind.Kind.TheVariants.{TooLarge, OutOfPlane,
 use Rattle.life_base.specs.Text.{is_whitespace, is_digit_text, value_of, words_of, is_blank, onto_first}
 use Rattle.std.specs.Char.{is_ascii_digit}
 use Rattle.life_base.specs.Numbers.{u64_of}
-use Rattle.life_rle.specs.Position.{signed_number, Corner, Generation, default_position, corner_of, field_of, with_field, and_then, position_with, position_of}
+use Rattle.life_rle.specs.Position.{signed_number, Corner, Generation, default_position, corner_of, field_of, position_with_field, and_then, position_with, position_of}
 use Rattle.life_rle.specs.Plane.{is_coordinate}
 use Rattle.life_rle.specs.Written.{position_text, generation_text}
 use Rattle.life_rle.proofs.Texts.{decimal-is_digit_text, value_of-decimal}
@@ -142,7 +142,7 @@ position_of-written x y zero sx sy cx cy h =
     let word : words_of (corner_text x y ++ []) ≡ corner_text x y ∷ [] = words_of-plain 80 (drop 1 (corner_text x y)) [] refl (Pos-plain x y sx sy) tt in
     ap (position_of MAX_LEVEL) (position-regrouped x y zero)
     ∙ ap (position_with MAX_LEVEL default_position) word
-    ∙ ap (λ f. and_then f (λ found. Ok (with_field default_position found))) (corner_text-field x y sx sy cx cy)
+    ∙ ap (λ f. and_then f (λ found. Ok (position_with_field default_position found))) (corner_text-field x y sx sy cx cy)
 position_of-written x y (suc n) sx sy cx cy h =
     let gen = codes "Gen=" ++ decimal (suc n) in
     let plain : list_all (λ b. not (is_whitespace b)) (drop 1 gen) ≡ true = no_space (decimal (suc n))
@@ -152,5 +152,5 @@ position_of-written x y (suc n) sx sy cx cy h =
     (Pos-plain x y sx sy) refl in
     ap (position_of MAX_LEVEL) (position-regrouped x y (suc n))
     ∙ ap (position_with MAX_LEVEL default_position) (word ∙ ap (λ ws. corner_text x y ∷ ws) last)
-    ∙ ap (λ f. and_then f (λ found. position_with MAX_LEVEL (with_field default_position found) (gen ∷ []))) (corner_text-field x y sx sy cx cy)
-    ∙ ap (λ f. and_then f (λ found. Ok (with_field (record { x = x; y = y; generation = 0 }) found))) (generation-field (suc n) h)
+    ∙ ap (λ f. and_then f (λ found. position_with MAX_LEVEL (position_with_field default_position found) (gen ∷ []))) (corner_text-field x y sx sy cx cy)
+    ∙ ap (λ f. and_then f (λ found. Ok (position_with_field (record { x = x; y = y; generation = 0 }) found))) (generation-field (suc n) h)

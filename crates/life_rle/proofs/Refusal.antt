@@ -6,13 +6,13 @@ use Rattle.std.specs.List.{slice_index_or}
 use Rattle.life_base.specs.declared.kind.Kind.{Kind}
 use Rattle.life_base.specs.declared.kind.Kind.TheVariants.{NoHeader}
 use Rattle.life_base.specs.declared.fault.Fault.{Fault}
-use Rattle.life_base.specs.Refusal.{Prefix, kept, continuations, IsPlace}
+use Rattle.life_base.specs.Refusal.{Prefix, kept_lines, continuations, IsPlace}
 use Rattle.life_rle.specs.declared.position.Position.{Position}
 use Rattle.life_rle.specs.Position.{default_position}
 use Rattle.life_base.specs.Rules.{default_rule}
 use Rattle.life_rle.specs.Pattern.{Rle}
-use Rattle.life_rle.specs.File.{Refuses}
-use Rattle.life_rle.specs.Grammar.{IsPreamble, IsUnmarked, IsMarked, IsRle, IsSomeRle, Breaks, before_header, by_form, by_text, by_item}
+use Rattle.life_rle.specs.File.{RefusesRle}
+use Rattle.life_rle.specs.Grammar.{IsPreamble, IsUnmarked, IsMarked, IsRle, IsSomeRle, BreaksRle, before_header, by_form, by_text, by_item}
 use Rattle.life_rle.proofs.Progress.{Progress, Before, Begun, Ended, Refused, progress, start, Stands, progress-append, progress-Refused, header-IsUnmarked, lines-Stands}
 use Rattle.life_rle.proofs.Unique.{IsUnmarked-progress, IsMarked-progress, Breaks-no_prefix, Breaks-no_more, IsPreamble-progress}
 
@@ -50,9 +50,9 @@ IsRle-Goes level lines file (inr b) = subst Goes (sym (IsMarked-progress level l
 
 -- lines that can be continued, by whatever lines, break no rule
 pub Prefix-Goes : (level : ℕ) (lines : List (List ℕ)) → Prefix (IsSomeRle level) lines → Goes (progress level start lines)
-Prefix-Goes level lines p = Goes-front level lines (kept p.0 continuations) (IsRle-Goes level (lines ++ kept p.0 continuations) p.1.0 p.1.1)
+Prefix-Goes level lines p = Goes-front level lines (kept_lines p.0 continuations) (IsRle-Goes level (lines ++ kept_lines p.0 continuations) p.1.0 p.1.1)
 
-pub Breaks-Goes : (level : ℕ) (front : List (List ℕ)) (line : List ℕ) (kind : Kind) → Breaks level front line kind → Goes (progress level start front)
+pub Breaks-Goes : (level : ℕ) (front : List (List ℕ)) (line : List ℕ) (kind : Kind) → BreaksRle level front line kind → Goes (progress level start front)
 Breaks-Goes level front line kind (before_header o h e) = subst Goes (sym (IsPreamble-progress level default_position o front h)) tt
 Breaks-Goes level front line kind (by_form file h e) = subst Goes (sym (IsUnmarked-progress level front file h)) tt
 Breaks-Goes level front line kind (by_text file items h form s sound) = subst Goes (sym (IsUnmarked-progress level front file h)) tt
@@ -74,7 +74,7 @@ behind-whole lines front line rest e =
 
 -- the line that breaks a rule is the place
 pub Breaks-IsPlace : (level : ℕ) (lines front : List (List ℕ)) (line : List ℕ) (rest : List (List ℕ)) (kind : Kind) → lines ≡ front ++ line ∷ rest
-    → Breaks level front line kind → IsPlace (IsSomeRle level) lines (length front + 1)
+    → BreaksRle level front line kind → IsPlace (IsSomeRle level) lines (length front + 1)
 Breaks-IsPlace level lines front line rest kind e b =
     let len : length lines ≡ length front + 1 + length rest = ap length e ∙ behind-length front line rest in
     record {
@@ -88,7 +88,7 @@ Breaks-IsPlace level lines front line rest kind e b =
 
 -- so the fault of such a line is the input's fault
 pub Breaks-IsRefusal : (level : ℕ) (lines front : List (List ℕ)) (line : List ℕ) (rest : List (List ℕ)) (fault : Fault) → lines ≡ front ++ line ∷ rest
-    → Breaks level front line fault.kind → fault.place.line ≡ min (length front + 1) (2 ^ 64 - 1) → Refuses level lines fault
+    → BreaksRle level front line fault.kind → fault.place.line ≡ min (length front + 1) (2 ^ 64 - 1) → RefusesRle level lines fault
 Breaks-IsRefusal level lines front line rest fault e b at =
     let len : length lines ≡ length front + 1 + length rest = ap length e ∙ behind-length front line rest in
     let less : length front + 1 - 1 ≡ length front = omega arith in
@@ -100,9 +100,9 @@ Breaks-IsRefusal level lines front line rest fault e b at =
       n = length front + 1;
       place = Breaks-IsPlace level lines front line rest fault.kind e b;
       line = at;
-      at_line = λ _. subst (λ k. Breaks level (take k lines) (slice_index_or lines k []) fault.kind) (sym less)
-          (subst (λ f. Breaks level f (slice_index_or lines (length front) []) fault.kind) (sym fore)
-          (subst (λ l. Breaks level front l fault.kind) (sym item) b));
+      at_line = λ _. subst (λ k. BreaksRle level (take k lines) (slice_index_or lines k []) fault.kind) (sym less)
+          (subst (λ f. BreaksRle level f (slice_index_or lines (length front) []) fault.kind) (sym fore)
+          (subst (λ l. BreaksRle level front l fault.kind) (sym item) b));
       at_end = λ h. absurd (omega arith);
     }
 
@@ -119,7 +119,7 @@ IsPreamble-refused level lines position h (file, inr b) = let x = IsPreamble-pro
     let y = IsMarked-progress level lines file b in cc
 
 pub IsPreamble-IsRefusal : (level : ℕ) (lines : List (List ℕ)) (position : Position) (fault : Fault) → IsPreamble level default_position lines position
-    → fault.kind ≡ NoHeader → fault.place.line ≡ min (length lines + 1) (2 ^ 64 - 1) → Refuses level lines fault
+    → fault.kind ≡ NoHeader → fault.place.line ≡ min (length lines + 1) (2 ^ 64 - 1) → RefusesRle level lines fault
 IsPreamble-IsRefusal level lines position fault h kind at = record {
   refused = IsPreamble-refused level lines position h;
   n = length lines + 1;

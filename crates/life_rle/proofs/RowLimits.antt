@@ -8,21 +8,21 @@ use Rattle.life_base.specs.declared.rule.Rule.{Rule}
 use Rattle.life_rle.specs.declared.item.Item.{Item}
 use Rattle.life_rle.specs.declared.item.Item.TheVariants.{Cells, RowEnds}
 use Rattle.life_rle.specs.declared.cursor.Cursor.{Cursor}
-use Rattle.life_rle.specs.Plane.{edge}
+use Rattle.life_rle.specs.Plane.{rle_plane_end}
 use Rattle.life_rle.specs.States.{is_state_of}
 use Rattle.life_rle.specs.Pattern.{item_fault}
-use Rattle.life_rle.specs.Cursor.{IsNear, moved, row_limit}
+use Rattle.life_rle.specs.Cursor.{IsNear, cursor_after_item, row_limit}
 use Rattle.life_base.proofs.Basics.{int_le-true}
 
-below : (x : ℤ) (n : ℕ) → neg_ℤ (edge MAX_LEVEL) ≤ℤ x → int_le (x +ℤ pos n) (neg_ℤ (pos (2 ^ 63))) ≡ false
+below : (x : ℤ) (n : ℕ) → neg_ℤ (rle_plane_end MAX_LEVEL) ≤ℤ x → int_le (x +ℤ pos n) (neg_ℤ (pos (2 ^ 63))) ≡ false
 below x n h = grind (arith, ints)
 
 -- cells stand in the plane where they stand within the limit
-within-limit : (y x limit : ℤ) (n : ℕ) → neg_ℤ (edge MAX_LEVEL) ≤ℤ x → limit ≡ row_limit MAX_LEVEL y
-    → (int_lt y (edge MAX_LEVEL) && int_le (x +ℤ pos n) (edge MAX_LEVEL)) ≡ int_le (x +ℤ pos n) limit
+within-limit : (y x limit : ℤ) (n : ℕ) → neg_ℤ (rle_plane_end MAX_LEVEL) ≤ℤ x → limit ≡ row_limit MAX_LEVEL y
+    → (int_lt y (rle_plane_end MAX_LEVEL) && int_le (x +ℤ pos n) (rle_plane_end MAX_LEVEL)) ≡ int_le (x +ℤ pos n) limit
 within-limit y x limit n near e =
-    rw e (elim (int_lt y (edge MAX_LEVEL))
-    as (λ t. (t && int_le (x +ℤ pos n) (edge MAX_LEVEL)) ≡ int_le (x +ℤ pos n) (cond t (edge MAX_LEVEL) (neg_ℤ (pos (2 ^ 63))))) [
+    rw e (elim (int_lt y (rle_plane_end MAX_LEVEL))
+    as (λ t. (t && int_le (x +ℤ pos n) (rle_plane_end MAX_LEVEL)) ≡ int_le (x +ℤ pos n) (cond t (rle_plane_end MAX_LEVEL) (neg_ℤ (pos (2 ^ 63))))) [
       | true ↦ refl
       | false ↦ sym (below x n near)
     ])
@@ -32,9 +32,9 @@ abbrev pub cells-by : (known inside : Bool) → Option Kind
 cells-by known inside = if not known then Some StateRange else if inside then None else Some OutOfPlane
 
 -- their fault, by whether they stand within the limit
-pub fault-by : (known : Bool) (y x limit : ℤ) (n : ℕ) → neg_ℤ (edge MAX_LEVEL) ≤ℤ x → limit ≡ row_limit MAX_LEVEL y → known ≡ true → (inside : Bool)
+pub fault-by : (known : Bool) (y x limit : ℤ) (n : ℕ) → neg_ℤ (rle_plane_end MAX_LEVEL) ≤ℤ x → limit ≡ row_limit MAX_LEVEL y → known ≡ true → (inside : Bool)
     → int_le (x +ℤ pos n) limit ≡ inside
-    → cells-by known (int_lt y (edge MAX_LEVEL) && int_le (x +ℤ pos n) (edge MAX_LEVEL)) ≡ (if inside then None else Some OutOfPlane)
+    → cells-by known (int_lt y (rle_plane_end MAX_LEVEL) && int_le (x +ℤ pos n) (rle_plane_end MAX_LEVEL)) ≡ (if inside then None else Some OutOfPlane)
 fault-by known y x limit n near e k inside h = rw (k, within-limit y x limit n near e, h) refl
 
 is-inside : (known row column : Bool) → cells-by known (row && column) ≡ None → column ≡ true
@@ -55,16 +55,20 @@ up-to a b h = omega (arith, ints)
 
 -- behind an item without a fault
 pub moved-near : (rule : Rule) (c : Cursor) (item : Item) → IsNear MAX_LEVEL c → item_fault MAX_LEVEL rule c.y c.x item ≡ None
-    → IsNear MAX_LEVEL (moved c item)
+    → IsNear MAX_LEVEL (cursor_after_item c item)
 moved-near rule c (Cells n s) near e =
-    let column = is-inside (is_state_of rule s) (int_lt c.y (edge MAX_LEVEL)) (int_le (c.x +ℤ pos n) (edge MAX_LEVEL)) e in
+    let column = is-inside (is_state_of rule s) (int_lt c.y (rle_plane_end MAX_LEVEL)) (int_le (c.x +ℤ pos n) (rle_plane_end MAX_LEVEL)) e in
     record {
       left = near.left;
-      x = (further (neg_ℤ (edge MAX_LEVEL)) c.x n near.x.0, int_le-true (c.x +ℤ pos n) (edge MAX_LEVEL) column);
+      x = (further (neg_ℤ (rle_plane_end MAX_LEVEL)) c.x n near.x.0, int_le-true (c.x +ℤ pos n) (rle_plane_end MAX_LEVEL) column);
       y = near.y;
     }
 moved-near rule c (RowEnds n) near e = record {
   left = near.left;
-  x = (near.left.0, up-to c.left (edge MAX_LEVEL) near.left.1);
-  y = (further (neg_ℤ (edge MAX_LEVEL)) c.y n near.y.0, int_le-true (c.y +ℤ pos n) (edge MAX_LEVEL) (is-on (int_le (c.y +ℤ pos n) (edge MAX_LEVEL)) e));
+  x = (near.left.0, up-to c.left (rle_plane_end MAX_LEVEL) near.left.1);
+  y = (
+    further (neg_ℤ (rle_plane_end MAX_LEVEL)) c.y n near.y.0,
+    int_le-true (c.y +ℤ pos n) (rle_plane_end MAX_LEVEL)
+        (is-on (int_le (c.y +ℤ pos n) (rle_plane_end MAX_LEVEL)) e),
+  );
 }

@@ -6,14 +6,14 @@ use Rattle.life_base.specs.declared.kind.Kind.{Kind}
 use Rattle.life_base.specs.declared.rule.Rule.{Rule}
 use Rattle.life_base.specs.Rules.{rule_of, life_sets, four_sets, default_rule}
 use Rattle.life_base.specs.Text.{lines_of}
-use Rattle.life_rle.specs.States.{state_at}
+use Rattle.life_rle.specs.States.{leading_state}
 use Rattle.life_rle.specs.declared.item.Item.TheVariants.{Cells, RowEnds}
 use Rattle.life_rle.specs.Items.{End, Mark, Spelled, Broken, next_of, Spells}
 use Rattle.life_rle.specs.declared.position.Position.{Position}
 use Rattle.life_rle.specs.Position.{position_of, default_position}
-use Rattle.life_rle.specs.Pattern.{Rle, placed, placed_behind, first_fault, cell}
+use Rattle.life_rle.specs.Pattern.{Rle, placed_items, placed_after, first_fault, rle_cell}
 use Rattle.life_rle.specs.Runs.{runs_of}
-use Rattle.life_rle.specs.Grammar.{IsPreamble, IsUnmarked, IsRle, Breaks, fault_behind, by_text, by_item, opening_of, later_of}
+use Rattle.life_rle.specs.Grammar.{IsPreamble, IsUnmarked, IsRle, BreaksRle, fault_after, by_text, by_item, opening_of, later_of}
 use Rattle.life_rle.specs.declared.line.Opening.TheVariants.{PositionLine, Header}
 use Rattle.life_rle.specs.declared.line.Later.TheVariants.{Data}
 use Rattle.life_rle.proofs.Progress.{header-IsUnmarked}
@@ -53,14 +53,14 @@ glider-IsRle = inr (record {
   sound = refl;
 })
 
-glider-runs : runs_of (placed glider) ≡ record { x = pos 1; y = pos 0; len = 1; state = 1 } ∷ record { x = pos 2; y = pos 1; len = 1; state = 1 }
+glider-runs : runs_of (placed_items glider) ≡ record { x = pos 1; y = pos 0; len = 1; state = 1 } ∷ record { x = pos 2; y = pos 1; len = 1; state = 1 }
     ∷ record { x = pos 0; y = pos 2; len = 3; state = 1 } ∷ []
 glider-runs = refl
 
-glider-cell : cell glider (pos 2) (pos 1) ≡ 1
+glider-cell : rle_cell glider (pos 2) (pos 1) ≡ 1
 glider-cell = refl
 
-glider-cell_dead : cell glider (pos 1) (pos 1) ≡ 0
+glider-cell_dead : rle_cell glider (pos 1) (pos 1) ≡ 0
 glider-cell_dead = refl
 
 -- a position line
@@ -159,22 +159,22 @@ late_position : later_of (codes "#CXRLE Gen=1") ≡ Err kinds.LateHeader
 late_position = refl
 
 -- states
-last_state : state_at (codes "yO!") ≡ Some (255, codes "!")
+last_state : leading_state (codes "yO!") ≡ Some (255, codes "!")
 last_state = refl
 
-past_last : state_at (codes "yP!") ≡ None
+past_last : leading_state (codes "yP!") ≡ None
 past_last = refl
 
-prefixed_x : state_at (codes "xA!") ≡ Some (217, codes "!")
+prefixed_x : leading_state (codes "xA!") ≡ Some (217, codes "!")
 prefixed_x = refl
 
-capital_o : state_at (codes "O") ≡ Some (15, [])
+capital_o : leading_state (codes "O") ≡ Some (15, [])
 capital_o = refl
 
-cut_prefix : state_at (codes "p") ≡ None
+cut_prefix : leading_state (codes "p") ≡ None
 cut_prefix = refl
 
-behind_prefixes : state_at (codes "zA") ≡ None
+behind_prefixes : leading_state (codes "zA") ≡ None
 behind_prefixes = refl
 
 -- what stands in an item's place
@@ -198,22 +198,22 @@ two_rows = record {
   items = Cells 3 0 ∷ Cells 2 1 ∷ RowEnds 2 ∷ Cells 3 1 ∷ Cells 1 0 ∷ [];
 }
 
-dead_run : slice_get (placed two_rows) 0 ≡ Some (record { row = pos 7; column = neg_ℤ (pos 4); item = Cells 3 0 })
+dead_run : slice_get (placed_items two_rows) 0 ≡ Some (record { row = pos 7; column = neg_ℤ (pos 4); item = Cells 3 0 })
 dead_run = refl
 
-behind_dead_run : slice_get (placed two_rows) 1 ≡ Some (record { row = pos 7; column = neg_ℤ (pos 1); item = Cells 2 1 })
+behind_dead_run : slice_get (placed_items two_rows) 1 ≡ Some (record { row = pos 7; column = neg_ℤ (pos 1); item = Cells 2 1 })
 behind_dead_run = refl
 
-behind_row_ends : slice_get (placed two_rows) 3 ≡ Some (record { row = pos 9; column = neg_ℤ (pos 4); item = Cells 3 1 })
+behind_row_ends : slice_get (placed_items two_rows) 3 ≡ Some (record { row = pos 9; column = neg_ℤ (pos 4); item = Cells 3 1 })
 behind_row_ends = refl
 
-last_of_run : cell two_rows (pos 0) (pos 7) ≡ 1
+last_of_run : rle_cell two_rows (pos 0) (pos 7) ≡ 1
 last_of_run = refl
 
-past_run : cell two_rows (pos 1) (pos 7) ≡ 0
+past_run : rle_cell two_rows (pos 1) (pos 7) ≡ 0
 past_run = refl
 
-between_rows : cell two_rows (neg_ℤ (pos 4)) (pos 8) ≡ 0
+between_rows : rle_cell two_rows (neg_ℤ (pos 4)) (pos 8) ≡ 0
 between_rows = refl
 
 -- faults of a line behind a header
@@ -226,51 +226,51 @@ blank-IsUnmarked = header-IsUnmarked MAX_LEVEL [] default_position (codes "x = 1
 
 -- what breaks a line of items behind this header, where an item should stand
 broken_text : (n : ℕ) (line : List ℕ) (kind : Kind) → later_of line ≡ Ok Data → last_read MAX_LEVEL n (next_of MAX_LEVEL line) ≡ Broken kind
-    → first_fault MAX_LEVEL b3s23 (placed_behind default_position [] (items_read MAX_LEVEL n (next_of MAX_LEVEL line))) ≡ None
-    → Breaks MAX_LEVEL (codes "x = 1, y = 1, rule = B3/S23" ∷ []) line kind
+    → first_fault MAX_LEVEL b3s23 (placed_after default_position [] (items_read MAX_LEVEL n (next_of MAX_LEVEL line))) ≡ None
+    → BreaksRle MAX_LEVEL (codes "x = 1, y = 1, rule = B3/S23" ∷ []) line kind
 broken_text n line kind form last sound = by_text blank (items_read MAX_LEVEL n (next_of MAX_LEVEL line)) blank-IsUnmarked form
     (subst (Spells MAX_LEVEL line (items_read MAX_LEVEL n (next_of MAX_LEVEL line))) last (line-Spells MAX_LEVEL n line)) sound
 
-state_range : Breaks MAX_LEVEL (codes "x = 1, y = 1, rule = B3/S23" ∷ []) (codes "B!") kinds.StateRange
+state_range : BreaksRle MAX_LEVEL (codes "x = 1, y = 1, rule = B3/S23" ∷ []) (codes "B!") kinds.StateRange
 state_range = by_item blank [] (Cells 1 2) (codes "!") blank-IsUnmarked refl refl refl refl
 
-zero_count : Breaks MAX_LEVEL (codes "x = 1, y = 1, rule = B3/S23" ∷ []) (codes "0o!") kinds.ZeroCount
+zero_count : BreaksRle MAX_LEVEL (codes "x = 1, y = 1, rule = B3/S23" ∷ []) (codes "0o!") kinds.ZeroCount
 zero_count = broken_text 3 (codes "0o!") _ refl refl refl
 
-counted_mark : Breaks MAX_LEVEL (codes "x = 1, y = 1, rule = B3/S23" ∷ []) (codes "3!") kinds.BadItem
+counted_mark : BreaksRle MAX_LEVEL (codes "x = 1, y = 1, rule = B3/S23" ∷ []) (codes "3!") kinds.BadItem
 counted_mark = broken_text 3 (codes "3!") _ refl refl refl
 
-split_count : Breaks MAX_LEVEL (codes "x = 1, y = 1, rule = B3/S23" ∷ []) (codes "2 o!") kinds.BadItem
+split_count : BreaksRle MAX_LEVEL (codes "x = 1, y = 1, rule = B3/S23" ∷ []) (codes "2 o!") kinds.BadItem
 split_count = broken_text 3 (codes "2 o!") _ refl refl refl
 
-large_count : Breaks MAX_LEVEL (codes "x = 1, y = 1, rule = B3/S23" ∷ []) (codes "4611686018427387905b!") kinds.TooLarge
+large_count : BreaksRle MAX_LEVEL (codes "x = 1, y = 1, rule = B3/S23" ∷ []) (codes "4611686018427387905b!") kinds.TooLarge
 large_count = broken_text 3 (codes "4611686018427387905b!") _ refl refl refl
 
-cut_count : Breaks MAX_LEVEL (codes "x = 1, y = 1, rule = B3/S23" ∷ []) (codes "bo$2") kinds.BadItem
+cut_count : BreaksRle MAX_LEVEL (codes "x = 1, y = 1, rule = B3/S23" ∷ []) (codes "bo$2") kinds.BadItem
 cut_count = broken_text 4 (codes "bo$2") _ refl refl refl
 
 -- at the last row a row end is accepted, and a second one or a cell behind it isn't
 abbrev at_bottom : Rle
 at_bottom = record { rule = b3s23; position = record { x = pos 0; y = pos 2305843009213693951; generation = 0 }; items = [] }
 
-one_end : fault_behind MAX_LEVEL at_bottom [] (RowEnds 1) ≡ None
+one_end : fault_after MAX_LEVEL at_bottom [] (RowEnds 1) ≡ None
 one_end = refl
 
-two_ends : fault_behind MAX_LEVEL at_bottom [] (RowEnds 2) ≡ Some kinds.OutOfPlane
+two_ends : fault_after MAX_LEVEL at_bottom [] (RowEnds 2) ≡ Some kinds.OutOfPlane
 two_ends = refl
 
 -- at the last column one cell of any state is accepted, and a second one isn't; behind a row end the column is the corner's
 abbrev at_right : Rle
 at_right = record { rule = b3s23; position = corner_and_generation (pos 2305843009213693951) (pos 0) 0; items = [] }
 
-last_column : fault_behind MAX_LEVEL at_right [] (Cells 1 1) ≡ None
+last_column : fault_after MAX_LEVEL at_right [] (Cells 1 1) ≡ None
 last_column = refl
 
-dead_column : fault_behind MAX_LEVEL at_right (Cells 1 1 ∷ []) (Cells 1 0) ≡ Some kinds.OutOfPlane
+dead_column : fault_after MAX_LEVEL at_right (Cells 1 1 ∷ []) (Cells 1 0) ≡ Some kinds.OutOfPlane
 dead_column = refl
 
-next_row : fault_behind MAX_LEVEL at_right (Cells 1 1 ∷ RowEnds 1 ∷ []) (Cells 1 1) ≡ None
+next_row : fault_after MAX_LEVEL at_right (Cells 1 1 ∷ RowEnds 1 ∷ []) (Cells 1 1) ≡ None
 next_row = refl
 
-below : fault_behind MAX_LEVEL at_bottom (RowEnds 1 ∷ []) (Cells 1 0) ≡ Some kinds.OutOfPlane
+below : fault_after MAX_LEVEL at_bottom (RowEnds 1 ∷ []) (Cells 1 0) ≡ Some kinds.OutOfPlane
 below = refl

@@ -12,14 +12,14 @@ use Rattle.life_rle.specs.declared.cursor.Cursor.{Cursor}
 use Rattle.life_rle.specs.declared.item.Item.{Item}
 use Rattle.life_rle.specs.declared.item.Item.TheVariants.{Cells}
 use Rattle.life_rle.specs.declared.short_items.TheConstants.{COUNTS, DIGITS}
-use Rattle.life_rle.specs.Items.{Spelled, item_behind, next_of}
+use Rattle.life_rle.specs.Items.{Spelled, item_after, next_of}
 use Rattle.life_rle.specs.Pattern.{item_fault}
-use Rattle.life_rle.specs.Plane.{edge}
+use Rattle.life_rle.specs.Plane.{rle_plane_end}
 use Rattle.life_rle.specs.Runs.{with_run}
 use Rattle.life_rle.specs.States.{is_state_of}
-use Rattle.life_rle.specs.Cursor.{IsNear, moved, row_limit}
+use Rattle.life_rle.specs.Cursor.{IsNear, cursor_after_item, row_limit}
 use Rattle.life_rle.specs.Reader.{ReadsItems}
-use Rattle.life_rle.specs.ShortItems.{short_count, short_digits, IsShort, HasRoom, ReadsOn}
+use Rattle.life_rle.specs.ShortItems.{short_count, short_digits, IsShortItem, RowHasSpace, ReadsOn}
 use Rattle.life_rle.proofs.DigitInFront.{text_at, digit_in_front}
 use Rattle.life_rle.proofs.ReadItems.{reads-as, reads_more}
 use Rattle.life_rle.proofs.RowLimits.{fault-by, further}
@@ -38,16 +38,16 @@ pub digits_of : (b : ℕ) → b < 256 → get_or DIGITS b 0 ≡ short_digits b
 digits_of b h = ap (λ (r : List ℕ). get_or r b 0) digits ∙ get_or-map-range_with_len short_digits 0 256 b b 0 h (omega arith)
 
 -- `b` and `o` behind a count
-dead-item : (n : ℕ) (rest : List ℕ) → item_behind n (98 ∷ rest) ≡ Spelled (Cells n 0) rest
+dead-item : (n : ℕ) (rest : List ℕ) → item_after n (98 ∷ rest) ≡ Spelled (Cells n 0) rest
 dead-item n [] = refl
 dead-item n (c ∷ rest) = refl
 
-live-item : (n : ℕ) (rest : List ℕ) → item_behind n (111 ∷ rest) ≡ Spelled (Cells n 1) rest
+live-item : (n : ℕ) (rest : List ℕ) → item_after n (111 ∷ rest) ≡ Spelled (Cells n 1) rest
 live-item n [] = refl
 live-item n (c ∷ rest) = refl
 
 -- an item without a digit
-no-digit : (line : List ℕ) (at : ℕ) → at + 1 < length line → IsShort MAX_LEVEL line at 1 at
+no-digit : (line : List ℕ) (at : ℕ) → at + 1 < length line → IsShortItem MAX_LEVEL line at 1 at
 no-digit line at h = record {
   inside = (omega arith, omega arith);
   few = omega arith;
@@ -57,7 +57,7 @@ no-digit line at h = record {
 
 -- an item with a digit
 one-digit : (line : List ℕ) (at : ℕ) → at + 1 < length line → 49 ≤ get_or line at 0 → get_or line at 0 ≤ 57
-    → IsShort MAX_LEVEL line at (get_or line at 0 - 48) (at + 1)
+    → IsShortItem MAX_LEVEL line at (get_or line at 0 - 48) (at + 1)
 one-digit line at h low high =
     let first = get_or line at 0 in
     let rest = drop (at + 1 + 1) line in
@@ -72,11 +72,11 @@ one-digit line at h low high =
 
 -- what the tables say of the item at a place
 pub is-short : (line : List ℕ) (at : ℕ) → at + 1 < length line
-    → IsShort MAX_LEVEL line at (short_count (get_or line at 0)) (at + short_digits (get_or line at 0))
+    → IsShortItem MAX_LEVEL line at (short_count (get_or line at 0)) (at + short_digits (get_or line at 0))
 is-short line at h =
     let first = get_or line at 0 in
     elim (nat_le 49 first && nat_le first 57)
-    as (λ t. (nat_le 49 first && nat_le first 57) ≡ t → IsShort MAX_LEVEL line at (cond t (first - 48) 1) (at + cond t 1 0)) [
+    as (λ t. (nat_le 49 first && nat_le first 57) ≡ t → IsShortItem MAX_LEVEL line at (cond t (first - 48) 1) (at + cond t 1 0)) [
       | true ↦ λ e. one-digit line at h (grind (arith, nat_tests)) (grind (arith, nat_tests))
       | false ↦ λ e. rw (plus-zero at) (no-digit line at h)
     ] refl
@@ -89,9 +89,9 @@ known : (rule : Rule) (state : ℕ) → state ≤ 1 → is_state_of rule state �
 known (Life sets) state h = grind (arith, nat_tests)
 known (Named name) state h = grind (arith, nat_tests)
 
-low-limit : (y : ℤ) → row_limit MAX_LEVEL y ≤ℤ edge MAX_LEVEL
+low-limit : (y : ℤ) → row_limit MAX_LEVEL y ≤ℤ rle_plane_end MAX_LEVEL
 low-limit y =
-    elim (int_lt y (edge MAX_LEVEL)) as (λ t. cond t (edge MAX_LEVEL) (neg_ℤ (pos (2 ^ 63))) ≤ℤ edge MAX_LEVEL)
+    elim (int_lt y (rle_plane_end MAX_LEVEL)) as (λ t. cond t (rle_plane_end MAX_LEVEL) (neg_ℤ (pos (2 ^ 63))) ≤ℤ rle_plane_end MAX_LEVEL)
     [ true ↦ omega (arith, ints) | false ↦ omega (arith, ints) ]
 
 -- cells within the limit
@@ -102,32 +102,33 @@ later : (x limit : ℤ) (n before after : ℕ) → n ≤ 9 → after + 1 ≤ bef
 later x limit n before after few less room = omega (arith, ints)
 
 -- behind a short item there is room again
-pub still-room : (line : List ℕ) (at count state behind : ℕ) (here : Cursor) → HasRoom MAX_LEVEL line at here → count ≤ 9 → at < behind → behind ≤ length line
-    → HasRoom MAX_LEVEL line behind (moved here (Cells count state))
+pub still-room : (line : List ℕ) (at count state behind : ℕ) (here : Cursor) → RowHasSpace MAX_LEVEL line at here → count ≤ 9 → at < behind
+    → behind ≤ length line
+    → RowHasSpace MAX_LEVEL line behind (cursor_after_item here (Cells count state))
 still-room line at count state behind here h few on inside =
     let limit = row_limit MAX_LEVEL here.y in
     let cells = within here.x limit count (length line - at) few (omega (arith, on, inside)) h.room in
     record {
       near = record {
         left = h.near.left;
-        x = (further (neg_ℤ (edge MAX_LEVEL)) here.x count h.near.x.0, int_le_trans _ _ _ cells (low-limit here.y));
+        x = (further (neg_ℤ (rle_plane_end MAX_LEVEL)) here.x count h.near.x.0, int_le_trans _ _ _ cells (low-limit here.y));
         y = h.near.y;
       };
       room = later here.x limit count (length line - at) (length line - behind) few (omega (arith, on, inside)) h.room;
     }
 
 -- one more short item is read
-pub reads-short : (line : List ℕ) (at count state behind : ℕ) (here : Cursor) (found more : List Run) → HasRoom MAX_LEVEL line at here → count ≤ 9
+pub reads-short : (line : List ℕ) (at count state behind : ℕ) (here : Cursor) (found more : List Run) → RowHasSpace MAX_LEVEL line at here → count ≤ 9
     → state ≤ 1 → at < behind → behind ≤ length line → next_of MAX_LEVEL (drop at line) ≡ Spelled (Cells count state) (drop behind line)
     → more ≡ found ++ with_run here.y here.x (Cells count state) []
-    → (rule : Rule) → ReadsOn MAX_LEVEL rule line at here found behind (moved here (Cells count state)) more
+    → (rule : Rule) → ReadsOn MAX_LEVEL rule line at here found behind (cursor_after_item here (Cells count state)) more
 reads-short line at count state behind here found more h few low on inside spelled adds rule from before read =
     let item : Item = Cells count state in
     let limit = row_limit MAX_LEVEL here.y in
     let cells = within here.x limit count (length line - at) few (omega (arith, on, inside)) h.room in
     let sound : item_fault MAX_LEVEL rule here.y here.x item ≡ None =
     fault-by (is_state_of rule state) here.y here.x limit count h.near.x.0 refl (known rule state low) true (le-int_le _ _ cells) in
-    reads_more MAX_LEVEL rule from here line (drop behind line) before found more item (moved here item)
+    reads_more MAX_LEVEL rule from here line (drop behind line) before found more item (cursor_after_item here item)
     (reads-as MAX_LEVEL rule from line _ _ here before found read spelled) sound refl (still-room line at count state behind here h few on inside).near adds
 
 -- one stretch behind another
@@ -139,7 +140,7 @@ reads-on rule line at middle behind here halfway there found some more first sec
 -- one more item of a line is read
 pub reads-one : (rule : Rule) (line : List ℕ) (at behind : ℕ) (here there : Cursor) (found more : List Run) (item : Item)
     → next_of MAX_LEVEL (drop at line) ≡ Spelled item (drop behind line) → item_fault MAX_LEVEL rule here.y here.x item ≡ None
-    → there ≡ moved here item → IsNear MAX_LEVEL there → more ≡ found ++ with_run here.y here.x item []
+    → there ≡ cursor_after_item here item → IsNear MAX_LEVEL there → more ≡ found ++ with_run here.y here.x item []
     → ReadsOn MAX_LEVEL rule line at here found behind there more
 reads-one rule line at behind here there found more item spelled sound moves near adds from before read =
     reads_more MAX_LEVEL rule from here line (drop behind line) before found more item there

@@ -11,11 +11,11 @@ use Rattle.life_base.specs.declared.rule.Rule.{Rule}
 use Rattle.life_rle.specs.declared.item.Item.{Item}
 use Rattle.life_base.specs.declared.bounds.Bounds.{Bounds}
 use Rattle.life_rle.specs.declared.item.Item.TheVariants.{Cells, RowEnds}
-use Rattle.life_rle.specs.Plane.{edge, is_coordinate}
+use Rattle.life_rle.specs.Plane.{rle_plane_end, is_coordinate}
 use Rattle.std.specs.Option.{option_or}
 use Rattle.life_rle.specs.Pattern.{item_fault, first_fault}
 use Rattle.life_rle.specs.States.{is_state_of}
-use Rattle.life_rle.specs.Written.{box_of, joined, box_of_cell}
+use Rattle.life_rle.specs.Written.{box_of, box_around, box_of_cell}
 use Rattle.life_rle.specs.Sorted.{is_live_cell, rises, are_sorted_cells}
 use Rattle.life_rle.proofs.Places.{placed_from}
 use Rattle.life_rle.proofs.FileLines.{AreWritten}
@@ -29,16 +29,18 @@ AreGood-AreWritten rule left column row [] g = tt
 AreGood-AreWritten rule left column row (Cells n s ∷ items) g = ((g.0, g.1, g.2), AreGood-AreWritten rule left (column +ℤ pos n) row items g.5)
 AreGood-AreWritten rule left column row (RowEnds n ∷ items) g = ((g.0, g.1), AreGood-AreWritten rule left left (row +ℤ pos n) items g.3)
 
-cells-sound : (rule : Rule) (row column : ℤ) (n s : ℕ) → is_state_of rule s ≡ true → row <ℤ edge MAX_LEVEL → (column +ℤ pos n) ≤ℤ edge MAX_LEVEL
+cells-sound : (rule : Rule) (row column : ℤ) (n s : ℕ) → is_state_of rule s ≡ true → row <ℤ rle_plane_end MAX_LEVEL
+    → (column +ℤ pos n) ≤ℤ rle_plane_end MAX_LEVEL
     → item_fault MAX_LEVEL rule row column (Cells n s) ≡ None
 cells-sound rule row column n s state inside high =
-    let test : (int_lt row (edge MAX_LEVEL) && int_le (column +ℤ pos n) (edge MAX_LEVEL)) ≡ true = grind (arith, ints) in
-    ap (λ t. cond (not t) (Some StateRange) (cond (int_lt row (edge MAX_LEVEL) && int_le (column +ℤ pos n) (edge MAX_LEVEL)) None (Some OutOfPlane))) state
+    let test : (int_lt row (rle_plane_end MAX_LEVEL) && int_le (column +ℤ pos n) (rle_plane_end MAX_LEVEL)) ≡ true = grind (arith, ints) in
+    ap (λ t. cond (not t) (Some StateRange) (cond (int_lt row (rle_plane_end MAX_LEVEL) && int_le (column +ℤ pos n) (rle_plane_end MAX_LEVEL)) None
+    (Some OutOfPlane))) state
     ∙ ap (λ t. cond t None (Some OutOfPlane)) test
 
-row_ends-sound : (rule : Rule) (row column : ℤ) (n : ℕ) → (row +ℤ pos n) ≤ℤ edge MAX_LEVEL → item_fault MAX_LEVEL rule row column (RowEnds n) ≡ None
+row_ends-sound : (rule : Rule) (row column : ℤ) (n : ℕ) → (row +ℤ pos n) ≤ℤ rle_plane_end MAX_LEVEL → item_fault MAX_LEVEL rule row column (RowEnds n) ≡ None
 row_ends-sound rule row column n high =
-    let test : int_le (row +ℤ pos n) (edge MAX_LEVEL) ≡ true = grind (arith, ints) in
+    let test : int_le (row +ℤ pos n) (rle_plane_end MAX_LEVEL) ≡ true = grind (arith, ints) in
     ap (λ t. cond t None (Some OutOfPlane)) test
 
 -- good items break no rule
@@ -52,9 +54,9 @@ AreGood-sound rule left column row (RowEnds n ∷ items) g =
     ap (λ k. option_or k (first_fault MAX_LEVEL rule (placed_from left left (row +ℤ pos n) items))) (row_ends-sound rule row column n g.2)
     ∙ AreGood-sound rule left left (row +ℤ pos n) items g.3
 
-coordinate-range : (z : ℤ) → is_coordinate MAX_LEVEL z ≡ true → (neg_ℤ (edge MAX_LEVEL) ≤ℤ z) × (z <ℤ edge MAX_LEVEL)
+coordinate-range : (z : ℤ) → is_coordinate MAX_LEVEL z ≡ true → (neg_ℤ (rle_plane_end MAX_LEVEL) ≤ℤ z) × (z <ℤ rle_plane_end MAX_LEVEL)
 coordinate-range z h =
-    let parts = and_parts (int_le (neg_ℤ (edge MAX_LEVEL)) z) (int_lt z (edge MAX_LEVEL)) h in
+    let parts = and_parts (int_le (neg_ℤ (rle_plane_end MAX_LEVEL)) z) (int_lt z (rle_plane_end MAX_LEVEL)) h in
     let low = parts.0 in let high = parts.1 in
     (grind (arith, ints), grind (arith, ints))
 
@@ -138,7 +140,7 @@ sorted-Follow rule c cells h =
     (live-good rule c (first-live rule c cells h), inl (sym (box-top rule c cells h), right.0), Follow-rest rule (box_of c cells).left c cells h right)
 
 -- a cell and a box of the plane lie in a box of the plane
-IsInPlane-joined : (rule : Rule) (c : Cell) (box : Bounds) → IsGoodCell rule c → IsInPlane box → IsInPlane (joined (box_of_cell c) box)
+IsInPlane-joined : (rule : Rule) (c : Cell) (box : Bounds) → IsGoodCell rule c → IsInPlane box → IsInPlane (box_around (box_of_cell c) box)
 IsInPlane-joined rule c box g b =
     let gl = g.left in let gr = g.right in let gt = g.top in let gb = g.bottom in
     let bl = b.left in let br = b.right in let bt = b.top in let bb = b.bottom in

@@ -3,16 +3,16 @@ use Rattle.std.proofs.Common.{◌≡◌, ℕ, ◌+◌, ◌-◌, ◌*◌, ◌/◌
 use Rattle.std.proofs.lemmas.Bool.Decides.{nat_tests}
 use Rattle.life_base.specs.declared.rule.Rule.TheVariants.{Life, Named}
 use Rattle.std.specs.Option.{option_or}
-use Rattle.life_rle.specs.States.{single_state, prefixed_state, prefixed_number, with_rest, state_at, lettered}
+use Rattle.life_rle.specs.States.{single_state, prefixed_state, prefixed_number, with_rest, leading_state, state_letters}
 use Rattle.life_rle.specs.Laws.{StatesReadBack}
 
 -- a state of one byte
-pub one-byte : (b state : ℕ) (rest : List ℕ) → single_state b ≡ Some state → state_at (b ∷ rest) ≡ Some (state, rest)
+pub one-byte : (b state : ℕ) (rest : List ℕ) → single_state b ≡ Some state → leading_state (b ∷ rest) ≡ Some (state, rest)
 one-byte b state [] e = ap (λ s. with_rest s []) e
 one-byte b state (c ∷ rest) e = ap (λ s. option_or (with_rest s (c ∷ rest)) (with_rest (prefixed_state b c) rest)) e
 
 -- a state of two bytes
-pub two-bytes : (b c state : ℕ) (rest : List ℕ) → single_state b ≡ None → prefixed_state b c ≡ Some state → state_at (b ∷ c ∷ rest) ≡ Some (state, rest)
+pub two-bytes : (b c state : ℕ) (rest : List ℕ) → single_state b ≡ None → prefixed_state b c ≡ Some state → leading_state (b ∷ c ∷ rest) ≡ Some (state, rest)
 two-bytes b c state rest e f = ap (λ s. option_or (with_rest s (c ∷ rest)) (with_rest (prefixed_state b c) rest)) e ∙ ap (λ s. with_rest s rest) f
 
 abbrev single-by : (dead live letter : Bool) → ℕ → Option ℕ
@@ -46,19 +46,19 @@ a-prefix n q r e small low high =
     ap (λ m. cond ((leb 112 (111 + q) && leb (111 + q) 121) && ((leb 65 (65 + r) && leb (65 + r) 88)) && leb m 255) (Some m) None) number
     ∙ ap (λ t. cond t (Some n) None) test
 
-two-lettered : (n : ℕ) (rest : List ℕ) → 24 < n → n ≤ 255 → state_at ((111 + (n - 1) / 24) ∷ (65 + (n - 1) % 24) ∷ rest) ≡ Some (n, rest)
+two-lettered : (n : ℕ) (rest : List ℕ) → 24 < n → n ≤ 255 → leading_state ((111 + (n - 1) / 24) ∷ (65 + (n - 1) % 24) ∷ rest) ≡ Some (n, rest)
 two-lettered n rest low high =
     let q = (n - 1) / 24 in
     let r = (n - 1) % 24 in
     two-bytes (111 + q) (65 + r) n rest (no-single q (omega arith) (omega arith)) (a-prefix n q r (omega arith) (omega arith) (omega arith) high)
 
-lettered-read : (n : ℕ) (rest : List ℕ) → n ≤ 255 → state_at (lettered n ++ rest) ≡ Some (n, rest)
+lettered-read : (n : ℕ) (rest : List ℕ) → n ≤ 255 → leading_state (state_letters n ++ rest) ≡ Some (n, rest)
 lettered-read n rest high =
     elim (eqb n 0) as (λ t. eqb n 0 ≡ t
-    → state_at (cond t (46 ∷ []) (cond (leb n 24) ((64 + n) ∷ []) ((111 + (n - 1) / 24) ∷ (65 + (n - 1) % 24) ∷ [])) ++ rest) ≡ Some (n, rest)) [
+    → leading_state (cond t (46 ∷ []) (cond (leb n 24) ((64 + n) ∷ []) ((111 + (n - 1) / 24) ∷ (65 + (n - 1) % 24) ∷ [])) ++ rest) ≡ Some (n, rest)) [
       | true ↦ λ e. let zero : 0 ≡ n = grind (arith, nat_tests) in one-byte 46 n rest (ap Some zero)
       | false ↦ λ e. elim (leb n 24)
-          as (λ t. leb n 24 ≡ t → state_at (cond t ((64 + n) ∷ []) ((111 + (n - 1) / 24) ∷ (65 + (n - 1) % 24) ∷ []) ++ rest) ≡ Some (n, rest)) [
+          as (λ t. leb n 24 ≡ t → leading_state (cond t ((64 + n) ∷ []) ((111 + (n - 1) / 24) ∷ (65 + (n - 1) % 24) ∷ []) ++ rest) ≡ Some (n, rest)) [
             | true ↦ λ f. one-byte (64 + n) n rest (a-letter n (grind (arith, nat_tests)) (grind (arith, nat_tests)))
             | false ↦ λ f. two-lettered n rest (grind (arith, nat_tests)) high
           ] refl
@@ -66,7 +66,7 @@ lettered-read n rest high =
 
 pub states-read : StatesReadBack
 states-read (Life sets) state rest h =
-    elim (eqb state 0) as (λ t. eqb state 0 ≡ t → state_at (cond t 98 111 ∷ rest) ≡ Some (state, rest)) [
+    elim (eqb state 0) as (λ t. eqb state 0 ≡ t → leading_state (cond t 98 111 ∷ rest) ≡ Some (state, rest)) [
       | true ↦ λ e. let zero : 0 ≡ state = grind (arith, nat_tests) in one-byte 98 state rest (ap Some zero)
       | false ↦ λ e. let one : 1 ≡ state = grind (arith, nat_tests) in one-byte 111 state rest (ap Some one)
     ] refl

@@ -11,7 +11,7 @@ use Rattle.life_base.specs.declared.rule.Rule.{Rule}
 use Rattle.life_base.specs.declared.bounds.Bounds.{Bounds}
 use Rattle.life_rle.specs.declared.pen.Pen.{Pen}
 use Rattle.life_rle.specs.declared.wrapping.ItemLines.{ItemLines}
-use Rattle.life_rle.specs.Writer.{run_of, longer, column_behind, item_of, joins, items_text, text_with, pen_text, Puts, IsLiveRun, IsPen, IsGoodCell, IsAhead, Follow, WritesCell}
+use Rattle.life_rle.specs.Writer.{run_of, longer_run, column_after_run, item_of, continues_run, items_text, text_with, pen_text, PutsItems, IsLiveRun, IsPen, IsGoodCell, IsAhead, Follow, WritesCell}
 use Rattle.life_rle.proofs.PutItems.{Puts-then}
 use Rattle.life_base.proofs.Basics.{eq-int_eq}
 
@@ -132,15 +132,15 @@ cell-ends n s left x y c cells live ahead apart =
 column-longer : (x : ℤ) (n : ℕ) → (x +ℤ pos (n + 1)) ≡ ((x +ℤ pos n) +ℤ pos 1)
 column-longer x n = omega (arith, ints)
 
-pub take-longer : (rule : Rule) (pen : Pen) (cell : Cell) → IsPen pen → IsGoodCell rule cell → joins pen.run cell ≡ true
-    → WritesCell rule pen cell (record { lines = pen.lines; left = pen.left; run = longer pen.run })
+pub take-longer : (rule : Rule) (pen : Pen) (cell : Cell) → IsPen pen → IsGoodCell rule cell → continues_run pen.run cell ≡ true
+    → WritesCell rule pen cell (record { lines = pen.lines; left = pen.left; run = longer_run pen.run })
 take-longer rule pen cell p good h =
     let run = pen.run in
-    let parts = three (int_eq cell.y run.y) (int_eq cell.x (column_behind run)) (eqb cell.state run.state) h in
+    let parts = three (int_eq cell.y run.y) (int_eq cell.x (column_after_run run)) (eqb cell.state run.state) h in
     let h0 = parts.0 in let h1 = parts.1 in
-    let column : cell.x ≡ column_behind run = grind (arith, ints) in
+    let column : cell.x ≡ column_after_run run = grind (arith, ints) in
     let row : run.y ≡ cell.y = grind (arith, ints) in
-    let behind : column_behind (longer run) ≡ (column_behind run +ℤ pos 1) = column-longer run.x run.len in
+    let behind : column_after_run (longer_run run) ≡ (column_after_run run +ℤ pos 1) = column-longer run.x run.len in
     let inside = good.right in
     record {
       sound = record {
@@ -151,7 +151,7 @@ take-longer rule pen cell p good h =
       place = (refl, behind ∙ ap (λ z. z +ℤ pos 1) (sym column), row);
       text = λ cells.
           ap (λ x. text_with rule pen.lines (with_cells (run.len + 1) run.state (items_from pen.left x run.y cells))) behind
-          ∙ ap (λ items. text_with rule pen.lines items) (sym (cell-joins run.len run.state pen.left (column_behind run) run.y cell cells h));
+          ∙ ap (λ items. text_with rule pen.lines items) (sym (cell-joins run.len run.state pen.left (column_after_run run) run.y cell cells h));
     }
 
 -- one cell
@@ -161,12 +161,12 @@ live-cell rule cell good =
     record { left = good.left; right = omega (arith, ints, right); top = good.top; bottom = good.bottom; live = good.live }
 
 pub take-ended : (rule : Rule) (pen : Pen) (cell : Cell) (middle new : ItemLines) → IsPen pen → IsGoodCell rule cell
-    → IsAhead pen.left (column_behind pen.run) pen.run.y cell → joins pen.run cell ≡ false → Puts rule pen.lines (item_of pen.run ∷ []) middle
-    → Puts rule middle (way_to pen.left (column_behind pen.run) pen.run.y cell []) new
+    → IsAhead pen.left (column_after_run pen.run) pen.run.y cell → continues_run pen.run cell ≡ false → PutsItems rule pen.lines (item_of pen.run ∷ []) middle
+    → PutsItems rule middle (way_to pen.left (column_after_run pen.run) pen.run.y cell []) new
     → WritesCell rule pen cell (record { lines = new; left = pen.left; run = run_of cell })
 take-ended rule pen cell middle new p good ahead h item way =
     let run = pen.run in
-    let x = column_behind run in
+    let x = column_after_run run in
     let both = Puts-then rule (item_of run ∷ []) (way_to pen.left x run.y cell []) pen.lines middle new item way in
     record {
       sound = record { short = both.short; left = p.left; run = live-cell rule cell good };
@@ -178,23 +178,23 @@ take-ended rule pen cell middle new p good ahead h item way =
 
 -- the way to a later row
 pub way-down : (rule : Rule) (left x y : ℤ) (cell : Cell) (rows gap : ℕ) (old middle new : ItemLines) → rows ≡ nat_abs (cell.y -ℤ y) → (rows ≡ 0 → ⊥)
-    → gap ≡ nat_abs (cell.x -ℤ left) → Puts rule old (RowEnds rows ∷ []) middle → Puts rule middle (with_gap gap []) new
-    → Puts rule old (way_to left x y cell []) new
+    → gap ≡ nat_abs (cell.x -ℤ left) → PutsItems rule old (RowEnds rows ∷ []) middle → PutsItems rule middle (with_gap gap []) new
+    → PutsItems rule old (way_to left x y cell []) new
 way-down rule left x y cell rows gap old middle new e some g p q =
     let off : int_eq cell.y y ≡ false = grind (arith, ints) in
     let items : RowEnds rows ∷ with_gap gap [] ≡ way_to left x y cell [] =
     ap (λ n. RowEnds n ∷ with_gap gap []) e ∙ ap (λ n. RowEnds (nat_abs (cell.y -ℤ y)) ∷ with_gap n []) g ∙ sym (ap (λ t. stepped t left x y cell []) off) in
-    subst (λ is. Puts rule old is new) items (Puts-then rule (RowEnds rows ∷ []) (with_gap gap []) old middle new p q)
+    subst (λ is. PutsItems rule old is new) items (Puts-then rule (RowEnds rows ∷ []) (with_gap gap []) old middle new p q)
 
 -- what was written is the text of the cells but for these
 pub record WritesUpTo (rule : Rule) (whole : List ℕ) (pen : Pen) (cells : List Cell) : Type 0 where
   pub sound : IsPen pen
-  pub follow : Follow rule pen.left (column_behind pen.run) pen.run.y cells
+  pub follow : Follow rule pen.left (column_after_run pen.run) pen.run.y cells
   pub text : pen_text rule pen cells ≡ whole
 
 -- the first cell, and all behind it
 pub from-first : (rule : Rule) (bounds : Bounds) (first : Cell) (cells : List Cell) (text : List ℕ) (gap : ℕ) (old new : ItemLines) → bounds.top ≡ first.y
-    → gap ≡ nat_abs (first.x -ℤ bounds.left) → old.text.items ≡ text → old.used ≡ 0 → Puts rule old (with_gap gap []) new
+    → gap ≡ nat_abs (first.x -ℤ bounds.left) → old.text.items ≡ text → old.used ≡ 0 → PutsItems rule old (with_gap gap []) new
     → pen_text rule (record { lines = new; left = bounds.left; run = run_of first }) cells
     ≡ text ++ items_text rule 0 (items_from bounds.left bounds.left bounds.top (first ∷ cells))
 from-first rule bounds first cells text gap old new top g t u p =

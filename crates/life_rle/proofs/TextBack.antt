@@ -13,11 +13,11 @@ use Rattle.life_rle.specs.declared.item.Item.TheVariants.{Cells, RowEnds}
 use Rattle.life_rle.specs.declared.position.Position.{Position}
 use Rattle.life_rle.specs.declared.line.Opening.TheVariants.{PositionLine, Header}
 use Rattle.life_rle.specs.Position.{position_of, and_then}
-use Rattle.life_rle.specs.Plane.{is_coordinate, edge}
+use Rattle.life_rle.specs.Plane.{is_coordinate, rle_plane_end}
 use Rattle.life_rle.specs.Grammar.{opening_of, IsUnmarked, IsMarked}
-use Rattle.life_rle.specs.Pattern.{Rle, cell_among, placed_behind, first_fault}
+use Rattle.life_rle.specs.Pattern.{Rle, cell_among, placed_after, first_fault}
 use Rattle.life_rle.specs.Header.{header_of}
-use Rattle.life_rle.specs.Written.{position_text, generation_text, header_text, rle_lines, item_lines, item_text, items_from, box_of, span}
+use Rattle.life_rle.specs.Written.{position_text, generation_text, header_text, rle_lines, item_lines, item_text, items_from, box_of, box_side}
 use Rattle.life_rle.specs.Laws.{StatesReadBack, RleTextReadsBack}
 use Rattle.life_rle.proofs.FileLines.{AreWritten, wrapped-IsMarked}
 use Rattle.life_rle.proofs.ReadBack.{is_one_line, AreLines, lines-ended, header_of-written}
@@ -32,14 +32,14 @@ use Rattle.life_base.proofs.Texts.{digits_fit}
 
 -- ---- the numbers of the two lines in front
 
-short-coordinate : (z : ℤ) → neg_ℤ (edge MAX_LEVEL) ≤ℤ z → z <ℤ edge MAX_LEVEL → IsShort z
+short-coordinate : (z : ℤ) → neg_ℤ (rle_plane_end MAX_LEVEL) ≤ℤ z → z <ℤ rle_plane_end MAX_LEVEL → IsShort z
 short-coordinate (pos n) h k = omega (arith, ints)
 short-coordinate (negsuc n) h k = omega (arith, ints)
 
-is_coordinate-between : (z : ℤ) → neg_ℤ (edge MAX_LEVEL) ≤ℤ z → z <ℤ edge MAX_LEVEL → is_coordinate MAX_LEVEL z ≡ true
+is_coordinate-between : (z : ℤ) → neg_ℤ (rle_plane_end MAX_LEVEL) ≤ℤ z → z <ℤ rle_plane_end MAX_LEVEL → is_coordinate MAX_LEVEL z ≡ true
 is_coordinate-between z h k = grind (arith, ints)
 
-span-small : (low high : ℤ) → neg_ℤ (edge MAX_LEVEL) ≤ℤ low → low ≤ℤ high → high <ℤ edge MAX_LEVEL → span low high < 2 ^ 64
+span-small : (low high : ℤ) → neg_ℤ (rle_plane_end MAX_LEVEL) ≤ℤ low → low ≤ℤ high → high <ℤ rle_plane_end MAX_LEVEL → box_side low high < 2 ^ 64
 span-small low high l m h = grind (arith, ints)
 
 signed-short : (z : ℤ) → IsShort z → length (signed_decimal z) ≤ 21
@@ -131,10 +131,10 @@ written-one_line rule (RowEnds n ∷ items) w = (item_text-one_line rule (RowEnd
 
 -- a position and a size that can be written
 pub record AreSmall (x y : ℤ) (w h g : ℕ) : Type 0 where
-  pub left : neg_ℤ (edge MAX_LEVEL) ≤ℤ x
-  pub right : x <ℤ edge MAX_LEVEL
-  pub top : neg_ℤ (edge MAX_LEVEL) ≤ℤ y
-  pub bottom : y <ℤ edge MAX_LEVEL
+  pub left : neg_ℤ (rle_plane_end MAX_LEVEL) ≤ℤ x
+  pub right : x <ℤ rle_plane_end MAX_LEVEL
+  pub top : neg_ℤ (rle_plane_end MAX_LEVEL) ≤ℤ y
+  pub bottom : y <ℤ rle_plane_end MAX_LEVEL
   pub width : w < 2 ^ 64
   pub height : h < 2 ^ 64
   pub generation : g < 2 ^ 64
@@ -167,7 +167,7 @@ module _ (states : StatesReadBack) (rules : RulesReadBack) (rule : Rule) (r : Is
     sound = refl;
   }
 
-  pub lines-IsMarked : first_fault MAX_LEVEL rule (placed_behind head.position [] items) ≡ None → IsMarked MAX_LEVEL lines file
+  pub lines-IsMarked : first_fault MAX_LEVEL rule (placed_after head.position [] items) ≡ None → IsMarked MAX_LEVEL lines file
   lines-IsMarked sound = wrapped-IsMarked states (position_text x y g ∷ header_text w h rule ∷ []) head [] [] items begun (λ rest. refl) (inl (refl, refl))
       (omega arith) written sound
 
@@ -181,7 +181,7 @@ module _ (states : StatesReadBack) (rules : RulesReadBack) (rule : Rule) (r : Is
   )
 
 -- items from the corner on
-placed-corner : (position : Position) (items : List Item) → placed_behind position [] items ≡ placed_from position.x position.x position.y items
+placed-corner : (position : Position) (items : List Item) → placed_after position [] items ≡ placed_from position.x position.x position.y items
 placed-corner position items =
     placed_behind-from position [] items
     ∙ ap (λ x. placed_from position.x x (position.y +ℤ pos 0) items) (plus_zero position.x)
@@ -214,7 +214,7 @@ text-back states rules rule g (c ∷ cells) r gs sorted =
     let good = items_from-good rule box.left box.left box.top (c ∷ cells) inside.left inside.left inside.top follow in
     let left = inside.left in let wide = inside.wide in let right = inside.right in
     let top = inside.top in let high = inside.high in let bottom = inside.bottom in
-    let small : AreSmall box.left box.top (span box.left box.right) (span box.top box.bottom) g = record {
+    let small : AreSmall box.left box.top (box_side box.left box.right) (box_side box.top box.bottom) g = record {
       left = left;
       right = omega (arith, ints, wide, right);
       top = top;
@@ -226,10 +226,10 @@ text-back states rules rule g (c ∷ cells) r gs sorted =
     let written = AreGood-AreWritten rule box.left box.left box.top items good in
     let where-placed = placed-corner (record { x = box.left; y = box.top; generation = g }) items in
     let sound = ap (first_fault MAX_LEVEL rule) where-placed ∙ AreGood-sound rule box.left box.left box.top items good in
-    let f = file states rules rule r box.left box.top (span box.left box.right) (span box.top box.bottom) g small items written in
-    let marked = lines-IsMarked states rules rule r box.left box.top (span box.left box.right) (span box.top box.bottom) g small items written sound in
+    let f = file states rules rule r box.left box.top (box_side box.left box.right) (box_side box.top box.bottom) g small items written in
+    let marked = lines-IsMarked states rules rule r box.left box.top (box_side box.left box.right) (box_side box.top box.bottom) g small items written sound in
     let ended = lines-ended (rle_lines rule g (c ∷ cells))
-    (lines-AreLines states rules rule r box.left box.top (span box.left box.right) (span box.top box.bottom) g small items written) in (
+    (lines-AreLines states rules rule r box.left box.top (box_side box.left box.right) (box_side box.top box.bottom) g small items written) in (
       f,
       inr (subst (λ ls. IsMarked MAX_LEVEL ls f) (sym ended) marked),
       refl,

@@ -11,10 +11,10 @@ use Rattle.life_base.specs.declared.rule.Rule.TheVariants.{Life, Named}
 use Rattle.life_base.specs.Text.{is_whitespace, is_digit_text, trim_start, value_of}
 use Rattle.std.specs.Char.{is_ascii_digit}
 use Rattle.std.proofs.Math.Seq.{take-append_seam, drop-append_seam}
-use Rattle.life_rle.specs.States.{state_at, state_text, lettered, is_state_of}
+use Rattle.life_rle.specs.States.{leading_state, state_text, state_letters, is_state_of}
 use Rattle.life_rle.specs.declared.item.Item.{Item}
 use Rattle.life_rle.specs.declared.item.Item.TheVariants.{Cells, RowEnds}
-use Rattle.life_rle.specs.Items.{front_digits, behind_digits, Mark, Spelled, Broken, cells_of, item_behind, counted, item_in, next_of}
+use Rattle.life_rle.specs.Items.{leading_digits, after_digits_of, Mark, Spelled, Broken, next_of_cells, item_after, item_with_digits, item_in, next_of}
 use Rattle.life_rle.specs.Written.{count_text, item_text}
 use Rattle.life_rle.specs.Laws.{StatesReadBack}
 use Rattle.life_base.specs.declared.cell.TheConstants.{MAX_LEVEL}
@@ -68,20 +68,20 @@ IsTag-Stops [] h = absurd h
 IsTag-Stops (b ∷ bytes) h = h.1
 
 -- a state or `$` without a count
-pub next_of-tag : (level : ℕ) (tag : List ℕ) → IsTag tag → next_of level tag ≡ item_behind 1 tag
+pub next_of-tag : (level : ℕ) (tag : List ℕ) → IsTag tag → next_of level tag ≡ item_after 1 tag
 next_of-tag level [] h = absurd h
 next_of-tag level (b ∷ bytes) h =
     let trimmed : trim_start (b ∷ bytes) ≡ b ∷ bytes = ap (λ t. cond t (trim_start bytes) (b ∷ bytes)) h.0 in
     ap (item_in level) trimmed
-    ∙ ap (λ t. cond t Mark (counted level (front_digits (b ∷ bytes)) (behind_digits (b ∷ bytes)))) h.2
-    ∙ ap (λ n. counted level (take n (b ∷ bytes)) (drop n (b ∷ bytes))) (ap (λ t. cond t (1 + prefix_len is_ascii_digit bytes) 0) h.1)
+    ∙ ap (λ t. cond t Mark (item_with_digits level (leading_digits (b ∷ bytes)) (after_digits_of (b ∷ bytes)))) h.2
+    ∙ ap (λ n. item_with_digits level (take n (b ∷ bytes)) (drop n (b ∷ bytes))) (ap (λ t. cond t (1 + prefix_len is_ascii_digit bytes) 0) h.1)
 
 pub digit-plain : (b : ℕ) → is_ascii_digit b ≡ true → (is_whitespace b ≡ false) × (eqb b 33 ≡ false)
 digit-plain b h = (grind (arith, nat_tests), grind (arith, nat_tests))
 
 -- a state or `$` behind digits
 pub next_of-digits : (level n : ℕ) (digits tag : List ℕ) → is_digit_text digits ≡ true → n ≡ value_of digits → 0 < n → n ≤ most_count level → IsTag tag
-    → next_of level (digits ++ tag) ≡ item_behind n tag
+    → next_of level (digits ++ tag) ≡ item_after n tag
 next_of-digits level n [] tag h v low high t = cc
 next_of-digits level n (d ∷ digits) tag h v low high t =
     let parts = and_parts (is_ascii_digit d) (list_all is_ascii_digit digits) h in
@@ -90,25 +90,25 @@ next_of-digits level n (d ∷ digits) tag h v low high t =
     let some : eqb n 0 ≡ false = grind (arith, nat_tests) in
     let few : ltb (most_count level) n ≡ false = grind (arith, nat_tests) in
     ap (item_in level) trimmed
-    ∙ ap (λ t. cond t Mark (counted level (front_digits ((d ∷ digits) ++ tag)) (behind_digits ((d ∷ digits) ++ tag)))) plain.1
-    ∙ ap (λ front. counted level front (behind_digits ((d ∷ digits) ++ tag))) (front-stop is_ascii_digit (d ∷ digits) tag h (IsTag-Stops tag t))
-    ∙ ap (counted level (d ∷ digits)) (behind-stop is_ascii_digit (d ∷ digits) tag h (IsTag-Stops tag t))
-    ∙ ap (λ m. cond (eqb m 0) (Broken ZeroCount) (cond (ltb (most_count level) m) (Broken TooLarge) (item_behind m tag))) (sym v)
-    ∙ ap (λ t. cond t (Broken ZeroCount) (cond (ltb (most_count level) n) (Broken TooLarge) (item_behind n tag))) some
-    ∙ ap (λ t. cond t (Broken TooLarge) (item_behind n tag)) few
+    ∙ ap (λ t. cond t Mark (item_with_digits level (leading_digits ((d ∷ digits) ++ tag)) (after_digits_of ((d ∷ digits) ++ tag)))) plain.1
+    ∙ ap (λ front. item_with_digits level front (after_digits_of ((d ∷ digits) ++ tag))) (front-stop is_ascii_digit (d ∷ digits) tag h (IsTag-Stops tag t))
+    ∙ ap (item_with_digits level (d ∷ digits)) (behind-stop is_ascii_digit (d ∷ digits) tag h (IsTag-Stops tag t))
+    ∙ ap (λ m. cond (eqb m 0) (Broken ZeroCount) (cond (ltb (most_count level) m) (Broken TooLarge) (item_after m tag))) (sym v)
+    ∙ ap (λ t. cond t (Broken ZeroCount) (cond (ltb (most_count level) n) (Broken TooLarge) (item_after n tag))) some
+    ∙ ap (λ t. cond t (Broken TooLarge) (item_after n tag)) few
 
-next_of-count : (n : ℕ) (tag : List ℕ) → 0 < n → n ≤ most_count MAX_LEVEL → IsTag tag → next_of MAX_LEVEL (count_text n ++ tag) ≡ item_behind n tag
+next_of-count : (n : ℕ) (tag : List ℕ) → 0 < n → n ≤ most_count MAX_LEVEL → IsTag tag → next_of MAX_LEVEL (count_text n ++ tag) ≡ item_after n tag
 next_of-count n tag low high t =
     let small : n < 2 ^ 64 = omega arith in
-    elim (eqb n 1) as (λ b. eqb n 1 ≡ b → next_of MAX_LEVEL (cond b [] (decimal n) ++ tag) ≡ item_behind n tag) [
-      | true ↦ λ e. let one : 1 ≡ n = grind (arith, nat_tests) in next_of-tag MAX_LEVEL tag t ∙ ap (λ m. item_behind m tag) one
+    elim (eqb n 1) as (λ b. eqb n 1 ≡ b → next_of MAX_LEVEL (cond b [] (decimal n) ++ tag) ≡ item_after n tag) [
+      | true ↦ λ e. let one : 1 ≡ n = grind (arith, nat_tests) in next_of-tag MAX_LEVEL tag t ∙ ap (λ m. item_after m tag) one
       | false ↦ λ e. next_of-digits MAX_LEVEL n (decimal n) tag (decimal-is_digit_text n small) (sym (value_of-decimal n small)) low high t
     ] refl
 
 pub IsTag-letter : (b : ℕ) (rest : List ℕ) → 57 < b → IsTag (b ∷ rest)
 IsTag-letter b rest h = (grind (arith, nat_tests), grind (arith, nat_tests), grind (arith, nat_tests))
 
-pub lettered-IsTag : (state : ℕ) (rest : List ℕ) → IsTag (lettered state ++ rest)
+pub lettered-IsTag : (state : ℕ) (rest : List ℕ) → IsTag (state_letters state ++ rest)
 lettered-IsTag state rest =
     elim (eqb state 0) as (λ t. IsTag
     (cond t (46 ∷ []) (cond (leb state 24) ((64 + state) ∷ []) ((111 + (state - 1) / 24) ∷ (65 + (state - 1) % 24) ∷ [])) ++ rest)) [
@@ -131,7 +131,7 @@ abbrev pub IsNoRowEnd : List ℕ → Type 0
 IsNoRowEnd [] = Unit {0}
 IsNoRowEnd (b ∷ bytes) = eqb b 36 ≡ false
 
-lettered-IsNoRowEnd : (state : ℕ) (rest : List ℕ) → IsNoRowEnd (lettered state ++ rest)
+lettered-IsNoRowEnd : (state : ℕ) (rest : List ℕ) → IsNoRowEnd (state_letters state ++ rest)
 lettered-IsNoRowEnd state rest =
     elim (eqb state 0) as (λ t. IsNoRowEnd
     (cond t (46 ∷ []) (cond (leb state 24) ((64 + state) ∷ []) ((111 + (state - 1) / 24) ∷ (65 + (state - 1) % 24) ∷ [])) ++ rest)) [
@@ -144,9 +144,9 @@ state_text-IsNoRowEnd : (rule : Rule) (state : ℕ) (rest : List ℕ) → IsNoRo
 state_text-IsNoRowEnd (Life sets) state rest = elim (eqb state 0) as (λ t. IsNoRowEnd (cond t 98 111 ∷ rest)) [ true ↦ refl | false ↦ refl ]
 state_text-IsNoRowEnd (Named name) state rest = lettered-IsNoRowEnd state rest
 
-not_row_end : (n : ℕ) (tag : List ℕ) → IsTag tag → IsNoRowEnd tag → item_behind n tag ≡ cells_of n (state_at tag)
+not_row_end : (n : ℕ) (tag : List ℕ) → IsTag tag → IsNoRowEnd tag → item_after n tag ≡ next_of_cells n (leading_state tag)
 not_row_end n [] t h = absurd t
-not_row_end n (b ∷ tag) t h = ap (λ c. cond c (Spelled (RowEnds n) tag) (cells_of n (state_at (b ∷ tag)))) h
+not_row_end n (b ∷ tag) t h = ap (λ c. cond c (Spelled (RowEnds n) tag) (next_of_cells n (leading_state (b ∷ tag)))) h
 
 -- the item's text is read as the item, whatever follows
 pub item_text-Spelled : StatesReadBack → (rule : Rule) (item : Item) (rest : List ℕ) → IsWritten rule item → next_of MAX_LEVEL (item_text rule item ++ rest)
@@ -155,7 +155,7 @@ item_text-Spelled states rule (Cells count state) rest h =
     ap (next_of MAX_LEVEL) (append_assoc (count_text count) (state_text rule state) rest)
     ∙ next_of-count count (state_text rule state ++ rest) h.0 h.1 (state_text-IsTag rule state rest h.2)
     ∙ not_row_end count (state_text rule state ++ rest) (state_text-IsTag rule state rest h.2) (state_text-IsNoRowEnd rule state rest)
-    ∙ ap (cells_of count) (states rule state rest h.2)
+    ∙ ap (next_of_cells count) (states rule state rest h.2)
 item_text-Spelled states rule (RowEnds count) rest h =
     ap (next_of MAX_LEVEL) (append_assoc (count_text count) (36 ∷ []) rest)
     ∙ next_of-count count (36 ∷ rest) h.0 h.1 (refl, refl, refl)

@@ -14,8 +14,8 @@ use Rattle.life_rle.specs.Grammar.{IsRle, IsUnmarked, IsPreamble, opening_of}
 use Rattle.life_rle.specs.Header.{rule_in, header_form}
 use Rattle.life_rle.specs.Pattern.{Rle}
 use Rattle.life_rle.specs.Plane.{is_coordinate}
-use Rattle.life_rle.specs.Position.{default_position, Field, Corner, Generation, Other, and_then, corner_of, corner_in, field_of, with_field, position_with}
-use Rattle.life_rle.specs.Valid.{FilesAreValid}
+use Rattle.life_rle.specs.Position.{default_position, Field, Corner, Generation, Other, and_then, corner_of, corner_in, field_of, position_with_field, position_with}
+use Rattle.life_rle.specs.Valid.{RlesAreValid}
 use Rattle.life_rle.proofs.Openings.{opening-is}
 use Rattle.life_rle.proofs.RunsLaws.{IsRle-plane}
 
@@ -67,7 +67,7 @@ field-small level text n h =
     h)
 
 with-small : (level : ℕ) (text : List ℕ) (position : Position) (found : Field) → field_of level text ≡ Ok found → position.generation < 2 ^ 64
-    → (with_field position found).generation < 2 ^ 64
+    → (position_with_field position found).generation < 2 ^ 64
 with-small level text position (Corner x y) h l = l
 with-small level text position (Generation n) h l = field-small level text n h
 with-small level text position Other h l = l
@@ -77,9 +77,9 @@ fields-small : (level : ℕ) (position : Position) (fields : List (List ℕ)) (f
 fields-small level position [] found h l = let P : Position → Type 0 = λ p. p.generation < 2 ^ 64 in subst P (one-value position found (Ok position) refl h) l
 fields-small level position (field ∷ fields) found h l = by (field_of level field) refl h (λ p q k. fields-small level p fields found q k)
   where
-    by : (r : Result Field Kind) → field_of level field ≡ r → and_then r (λ f. position_with level (with_field position f) fields) ≡ Ok found
+    by : (r : Result Field Kind) → field_of level field ≡ r → and_then r (λ f. position_with level (position_with_field position f) fields) ≡ Ok found
         → ((p : Position) → position_with level p fields ≡ Ok found → p.generation < 2 ^ 64 → found.generation < 2 ^ 64) → found.generation < 2 ^ 64
-    by (Ok f) e h more = more (with_field position f) h (with-small level field position f e l)
+    by (Ok f) e h more = more (position_with_field position f) h (with-small level field position f e l)
     by (Err k) e h more = cc
 
 preamble-small : (level : ℕ) (given : Position) (lines : List (List ℕ)) (position : Position) → IsPreamble level given lines position
@@ -99,7 +99,7 @@ both-valid : (level : ℕ) (lines : List (List ℕ)) (file : Rle) → IsRle leve
 both-valid level lines file (inl u) = unmarked-valid level lines file u
 both-valid level lines file (inr m) = unmarked-valid level m.front (record file { items = m.earlier }) m.begun
 
-pub files_are_valid : FilesAreValid
+pub files_are_valid : RlesAreValid
 files_are_valid level lines file f =
     let both = both-valid level lines file f in
     let corner = IsRle-plane level lines file f in

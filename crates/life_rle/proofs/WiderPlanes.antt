@@ -14,12 +14,12 @@ use Rattle.life_rle.specs.declared.line.Opening.TheVariants.{Comment, PositionLi
 use Rattle.life_rle.specs.declared.position.Position.{Position}
 use Rattle.life_rle.specs.Grammar.{IsUnmarked, IsMarked, HasNoFault, IsPreamble, LineSpells, BodySpells, opening_of}
 use Rattle.life_rle.specs.Header.{header_of}
-use Rattle.life_rle.specs.Items.{Next, End, Mark, Spelled, Broken, Spells, next_of, item_in, counted, item_behind, front_digits, behind_digits}
-use Rattle.life_rle.specs.Laws.{WiderPlanesKeepFiles}
+use Rattle.life_rle.specs.Items.{Next, End, Mark, Spelled, Broken, Spells, next_of, item_in, item_with_digits, item_after, leading_digits, after_digits_of}
+use Rattle.life_rle.specs.Laws.{WiderPlanesKeepRles}
 use Rattle.std.specs.Option.{option_or}
-use Rattle.life_rle.specs.Pattern.{Rle, Placed, placed, item_fault, placed_fault, first_fault}
-use Rattle.life_rle.specs.Plane.{edge, is_coordinate, most_count}
-use Rattle.life_rle.specs.Position.{default_position, Field, Corner, and_then, corner_of, corner_in, field_of, with_field, position_with, position_of, is_position_line}
+use Rattle.life_rle.specs.Pattern.{Rle, PlacedItem, placed_items, item_fault, placed_fault, first_fault}
+use Rattle.life_rle.specs.Plane.{rle_plane_end, is_coordinate, most_count}
+use Rattle.life_rle.specs.Position.{default_position, Field, Corner, and_then, corner_of, corner_in, field_of, position_with_field, position_with, position_of, is_position_line}
 use Rattle.life_rle.specs.States.{is_state_of}
 use Rattle.life_rle.proofs.Openings.{opened}
 use Rattle.life_rle.proofs.Progress.{option_or-both, IsOpenBy-map, IsEndedBy-map}
@@ -73,12 +73,12 @@ fields-wider level wider position [] found wide h = h
 fields-wider level wider position (field ∷ fields) found wide h = by (field_of level field) refl h (λ p. fields-wider level wider p fields found wide)
   where
     by : (r : Result Field Kind) → field_of level field ≡ r
-        → and_then r (λ f. position_with level (with_field position f) fields) ≡ Ok found
+        → and_then r (λ f. position_with level (position_with_field position f) fields) ≡ Ok found
         → ((p : Position) → position_with level p fields ≡ Ok found → position_with wider p fields ≡ Ok found)
-        → and_then (field_of wider field) (λ f. position_with wider (with_field position f) fields) ≡ Ok found
+        → and_then (field_of wider field) (λ f. position_with wider (position_with_field position f) fields) ≡ Ok found
     by (Ok f) e h more =
-        ap (λ r. and_then r (λ f. position_with wider (with_field position f) fields)) (field-wider level wider field f wide e)
-        ∙ more (with_field position f) h
+        ap (λ r. and_then r (λ f. position_with wider (position_with_field position f) fields)) (field-wider level wider field f wide e)
+        ∙ more (position_with_field position f) h
     by (Err k) e h more = cc
 
 -- ---- lines before the header
@@ -119,12 +119,12 @@ not-more : (small great value : ℕ) → small ≤ great → nat_lt small value 
 not-more small great value wide h = grind (arith, nat_tests)
 
 counted-wider : (level wider : ℕ) (digits bytes : List ℕ) (next : Next) → level ≤ wider → (next ≡ Broken TooLarge → ⊥)
-    → counted level digits bytes ≡ next → counted wider digits bytes ≡ next
+    → item_with_digits level digits bytes ≡ next → item_with_digits wider digits bytes ≡ next
 counted-wider level wider [] bytes next wide n h = h
 counted-wider level wider (d ∷ digits) bytes next wide n h =
     counted-by (value_of (d ∷ digits) == 0)
     (nat_lt (most_count level) (value_of (d ∷ digits))) (nat_lt (most_count wider) (value_of (d ∷ digits)))
-    (item_behind (value_of (d ∷ digits)) bytes) next
+    (item_after (value_of (d ∷ digits)) bytes) next
     (not-more (2 ^ level) (2 ^ wider) (value_of (d ∷ digits)) (pow_mono wide)) n h
 
 -- the branch of a test that fails
@@ -137,8 +137,9 @@ in-wider : (level wider : ℕ) (bytes : List ℕ) (next : Next) → level ≤ wi
 in-wider level wider [] next wide n h = h
 in-wider level wider (b ∷ bytes) next wide n h =
     false-branch (b == 33) Mark
-    (counted level (front_digits (b ∷ bytes)) (behind_digits (b ∷ bytes))) (counted wider (front_digits (b ∷ bytes)) (behind_digits (b ∷ bytes))) next
-    (counted-wider level wider (front_digits (b ∷ bytes)) (behind_digits (b ∷ bytes)) next wide n) h
+    (item_with_digits level (leading_digits (b ∷ bytes)) (after_digits_of (b ∷ bytes)))
+    (item_with_digits wider (leading_digits (b ∷ bytes)) (after_digits_of (b ∷ bytes))) next
+    (counted-wider level wider (leading_digits (b ∷ bytes)) (after_digits_of (b ∷ bytes)) next wide n) h
 
 -- what stands in an item's place stands there in each wider plane too, unless it is a count too large
 next-wider : (level wider : ℕ) (bytes : List ℕ) (next : Next) → level ≤ wider → (next ≡ Broken TooLarge → ⊥)
@@ -179,14 +180,15 @@ item-wider : (level wider : ℕ) (rule : Rule) (row column : ℤ) (item : Item) 
 item-wider level wider rule row column (Cells count state) wide h =
     false-branch (not (is_state_of rule state)) (Some StateRange) _ _ None
     (sound-by
-    (int_lt row (edge level) && int_le (column +ℤ pos count) (edge level)) (int_lt row (edge wider) && int_le (column +ℤ pos count) (edge wider))
+    (int_lt row (rle_plane_end level) && int_le (column +ℤ pos count) (rle_plane_end level))
+    (int_lt row (rle_plane_end wider) && int_le (column +ℤ pos count) (rle_plane_end wider))
     (row-within (2 ^ (level - 1)) (2 ^ (wider - 1)) row (column +ℤ pos count) (sides level wider wide))) h
 item-wider level wider rule row column (RowEnds count) wide h =
-    sound-by (int_le (row +ℤ pos count) (edge level)) (int_le (row +ℤ pos count) (edge wider))
+    sound-by (int_le (row +ℤ pos count) (rle_plane_end level)) (int_le (row +ℤ pos count) (rle_plane_end wider))
     (end-within (2 ^ (level - 1)) (2 ^ (wider - 1)) (row +ℤ pos count) (sides level wider wide)) h
 
 -- items that break no rule in a plane break none in a wider one
-sound-wider : (level wider : ℕ) (rule : Rule) (items : List Placed) → level ≤ wider
+sound-wider : (level wider : ℕ) (rule : Rule) (items : List PlacedItem) → level ≤ wider
     → first_fault level rule items ≡ None → first_fault wider rule items ≡ None
 sound-wider level wider rule [] wide h = refl
 sound-wider level wider rule (p ∷ ps) wide h =
@@ -197,7 +199,7 @@ sound-wider level wider rule (p ∷ ps) wide h =
 -- ---- files
 
 sound-file : (level wider : ℕ) (file : Rle) → level ≤ wider → HasNoFault level file → HasNoFault wider file
-sound-file level wider file wide h = sound-wider level wider file.rule (placed file) wide h
+sound-file level wider file wide h = sound-wider level wider file.rule (placed_items file) wide h
 
 unmarked-wider : (level wider : ℕ) (lines : List (List ℕ)) (file : Rle) → level ≤ wider → IsUnmarked level lines file → IsUnmarked wider lines file
 unmarked-wider level wider lines file wide =
@@ -212,6 +214,6 @@ marked-wider level wider lines file wide =
     (λ whole. sound-file level wider whole wide) lines file
 
 -- every file of a plane is one of each wider plane
-pub wider_planes_keep_files : WiderPlanesKeepFiles
+pub wider_planes_keep_files : WiderPlanesKeepRles
 wider_planes_keep_files level wider lines file wide (inl u) = inl (unmarked-wider level wider lines file wide u)
 wider_planes_keep_files level wider lines file wide (inr m) = inr (marked-wider level wider lines file wide m)

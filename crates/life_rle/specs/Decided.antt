@@ -3,7 +3,7 @@ use Rattle.std.specs.Prelude.{◌≡◌, ℕ, ◌⊎◌, List, ◌∷◌, ◌++�
 use Rattle.life_base.specs.declared.kind.Kind.{Kind}
 use Rattle.life_rle.specs.declared.position.Position.{Position}
 use Rattle.life_rle.specs.Position.{default_position}
-use Rattle.life_rle.specs.Grammar.{IsPreamble, IsSomeRle, Breaks}
+use Rattle.life_rle.specs.Grammar.{IsPreamble, IsSomeRle, BreaksRle}
 
 -- comments and position lines alone
 abbrev pub LacksHeader : ℕ → List (List ℕ) → Type 0
@@ -16,7 +16,7 @@ pub record HasBroken (level : ℕ) (lines : List (List ℕ)) : Type 0 where
   pub rest : List (List ℕ)
   pub kind : Kind
   pub whole : lines ≡ front ++ line ∷ rest
-  pub breaks : Breaks level front line kind
+  pub breaks : BreaksRle level front line kind
 
 -- exactly one of the three holds
 abbrev pub IsDecided : Type 0

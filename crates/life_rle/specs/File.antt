@@ -9,9 +9,9 @@ use Rattle.life_base.specs.declared.cell.Run.{Run}
 use Rattle.life_rle.specs.declared.file.RleFile.{RleFile}
 use Rattle.life_rle.specs.declared.position.Position.{Position}
 use Rattle.life_rle.specs.Position.{default_position}
-use Rattle.life_rle.specs.Pattern.{Rle, placed}
+use Rattle.life_rle.specs.Pattern.{Rle, placed_items}
 use Rattle.life_rle.specs.Runs.{runs_of}
-use Rattle.life_rle.specs.Grammar.{IsPreamble, IsRle, IsSomeRle, Breaks}
+use Rattle.life_rle.specs.Grammar.{IsPreamble, IsRle, IsSomeRle, BreaksRle}
 
 -- the value has the file's rule, generation and corner, and its runs
 pub record Shows (value : RleFile) (file : Rle) : Type 0 where
@@ -19,21 +19,21 @@ pub record Shows (value : RleFile) (file : Rle) : Type 0 where
   pub generation : value.generation ≡ file.position.generation
   pub x : value.x ≡ file.position.x
   pub y : value.y ≡ file.position.y
-  pub runs : value.runs ≡ runs_of (placed file)
+  pub runs : value.runs ≡ runs_of (placed_items file)
 
 -- what lines lack that end before the header
-abbrev pub missing : List (List ℕ) → Option Kind
-missing lines = Some NoHeader
+abbrev pub missing_rle_part : List (List ℕ) → Option Kind
+missing_rle_part lines = Some NoHeader
 
 -- why lines are no file: the place and the kind of the fault
-abbrev pub Refuses : ℕ → List (List ℕ) → Fault → Type 0
-Refuses level lines fault = IsRefusal (IsSomeRle level) (Breaks level) missing lines fault
+abbrev pub RefusesRle : ℕ → List (List ℕ) → Fault → Type 0
+RefusesRle level lines fault = IsRefusal (IsSomeRle level) (BreaksRle level) missing_rle_part lines fault
 
 -- the runs of lines so far: none before the header, and then those of the file
 abbrev pub HasRuns : ℕ → List (List ℕ) → List Run → Type 0
 HasRuns level lines runs =
     ((position : Position) × IsPreamble level default_position lines position × (runs ≡ []))
-    ⊎ ((file : Rle) × IsRle level lines file × (runs ≡ runs_of (placed file)))
+    ⊎ ((file : Rle) × IsRle level lines file × (runs ≡ runs_of (placed_items file)))
 
 -- the runs of further lines are put behind those that were there
 pub record AddsRuns (level : ℕ) (lines more : List (List ℕ)) (old new : List Run) : Type 0 where
@@ -42,5 +42,5 @@ pub record AddsRuns (level : ℕ) (lines more : List (List ℕ)) (old new : List
   pub found : (before : List Run) → HasRuns level lines before → HasRuns level more (before ++ runs)
 
 -- runs, and perhaps more runs behind them
-abbrev pub IsFrontOf : List Run → List Run → Type 0
-IsFrontOf front runs = (more : List Run) × (runs ≡ front ++ more)
+abbrev pub IsPrefixOfRuns : List Run → List Run → Type 0
+IsPrefixOfRuns front runs = (more : List Run) × (runs ≡ front ++ more)

@@ -5,26 +5,26 @@ use Rattle.life_base.specs.declared.kind.Kind.TheVariants.{LineTooLong, NoHeader
 use Rattle.life_base.specs.Refusal.{Prefix}
 use Rattle.life_base.specs.Text.{begins_with, is_too_long}
 use Rattle.life_rle.specs.Pattern.{Rle}
-use Rattle.life_rle.specs.Grammar.{IsMarked, IsUnmarked, IsSomeRle, Breaks}
+use Rattle.life_rle.specs.Grammar.{IsMarked, IsUnmarked, IsSomeRle, BreaksRle}
 use Rattle.life_rle.specs.Decided.{LacksHeader}
 
 -- behind `!` any lines may follow: the file stays as it is, and none of them breaks a rule
-abbrev pub LinesBehindMarkAreFree : Type 0
-LinesBehindMarkAreFree =
+abbrev pub LinesAfterMarkAreFree : Type 0
+LinesAfterMarkAreFree =
     (level : ℕ) (lines more : List (List ℕ)) (file : Rle) → IsMarked level lines file
-    → IsMarked level (lines ++ more) file × ((line : List ℕ) (kind : Kind) → Breaks level (lines ++ more) line kind → ⊥)
+    → IsMarked level (lines ++ more) file × ((line : List ℕ) (kind : Kind) → BreaksRle level (lines ++ more) line kind → ⊥)
 
 -- no lines are a file with `!` and one without
 abbrev pub IsMarkDecided : Type 0
 IsMarkDecided = (level : ℕ) (lines : List (List ℕ)) (file other : Rle) → IsUnmarked level lines file → IsMarked level lines other → ⊥
 
 -- the front of a front is a front
-abbrev pub FrontsOfFronts : Type 0
-FrontsOfFronts = (level : ℕ) (lines more : List (List ℕ)) → Prefix (IsSomeRle level) (lines ++ more) → Prefix (IsSomeRle level) lines
+abbrev pub PrefixesOfPrefixes : Type 0
+PrefixesOfPrefixes = (level : ℕ) (lines more : List (List ℕ)) → Prefix (IsSomeRle level) (lines ++ more) → Prefix (IsSomeRle level) lines
 
 -- a front is a file, with `!` or without, or lacks its header
-abbrev pub FrontsAreFiles : Type 0
-FrontsAreFiles = (level : ℕ) (lines : List (List ℕ)) → Prefix (IsSomeRle level) lines ↔ (IsSomeRle level lines ⊎ LacksHeader level lines)
+abbrev pub RlePrefixesAreFiles : Type 0
+RlePrefixesAreFiles = (level : ℕ) (lines : List (List ℕ)) → Prefix (IsSomeRle level) lines ↔ (IsSomeRle level lines ⊎ LacksHeader level lines)
 
 -- a front doesn't begin with the first line of a macrocell file
 abbrev pub BeginsAsRle : Type 0
@@ -34,12 +34,12 @@ BeginsAsRle =
 -- which rule such a line breaks as the first
 abbrev pub MacrocellLineBreaks : Type 0
 MacrocellLineBreaks =
-    (level : ℕ) (line : List ℕ) → begins_with line (codes "[M2]") ≡ true → Breaks level [] line (if is_too_long line then LineTooLong else NoHeader)
+    (level : ℕ) (line : List ℕ) → begins_with line (codes "[M2]") ≡ true → BreaksRle level [] line (if is_too_long line then LineTooLong else NoHeader)
 
 -- LineTooLong is the kind of lines that are too long alone, and behind a front without `!` it is the only one that they break.
-abbrev pub LongLinesBreak : Type 0
-LongLinesBreak =
+abbrev pub LongRleLinesBreak : Type 0
+LongRleLinesBreak =
     (level : ℕ) (front : List (List ℕ)) (line : List ℕ)
-    → (Breaks level front line LineTooLong → is_too_long line ≡ true)
+    → (BreaksRle level front line LineTooLong → is_too_long line ≡ true)
     × (is_too_long line ≡ true → Prefix (IsSomeRle level) front → ((file : Rle) → IsMarked level front file → ⊥)
-    → (kind : Kind) → Breaks level front line kind ↔ (kind ≡ LineTooLong))
+    → (kind : Kind) → BreaksRle level front line kind ↔ (kind ≡ LineTooLong))

@@ -16,7 +16,7 @@ use Rattle.life_rle.specs.declared.line.Later.TheVariants.{Passed, Data}
 use Rattle.life_rle.specs.Items.{Next, End, Mark, Broken, Spelled, Spells}
 use Rattle.life_rle.specs.Position.{default_position, and_then, is_position_line, position_of}
 use Rattle.life_rle.specs.Header.{header_of}
-use Rattle.life_rle.specs.Pattern.{Rle, placed, placed_item, placed_fault, placed_behind, first_fault}
+use Rattle.life_rle.specs.Pattern.{Rle, placed_items, placed_item, placed_fault, placed_after, first_fault}
 
 -- what a line is before the header: a comment (or blank), a position line, or the header
 abbrev pub opening_of : ℕ → List ℕ → Result Opening Kind
@@ -85,7 +85,7 @@ pub record IsEndedBy (IsOpen : List (List ℕ) → Rle → Type 0) (IsLast : Lis
 
 -- no item breaks a rule
 abbrev pub HasNoFault : ℕ → Rle → Type 0
-HasNoFault level file = first_fault level file.rule (placed file) ≡ None
+HasNoFault level file = first_fault level file.rule (placed_items file) ≡ None
 
 -- a header stands in the lines, and no `!` has ended the pattern: the end of the input ends it
 abbrev pub IsUnmarked : ℕ → List (List ℕ) → Rle → Type 0
@@ -105,23 +105,23 @@ abbrev pub IsSomeRle : ℕ → List (List ℕ) → Type 0
 IsSomeRle level lines = (file : Rle) × IsRle level lines file
 
 -- which rule an item breaks first that follows more items of a file
-abbrev pub fault_behind : ℕ → Rle → List Item → Item → Option Kind
-fault_behind level file items item = placed_fault level file.rule (placed_item file.position (file.items ++ items) item)
+abbrev pub fault_after : ℕ → Rle → List Item → Item → Option Kind
+fault_after level file items item = placed_fault level file.rule (placed_item file.position (file.items ++ items) item)
 
 -- which rule the line breaks first behind these lines
-pub data Breaks (level : ℕ) (front : List (List ℕ)) (line : List ℕ) (kind : Kind) : Type 0 where
+pub data BreaksRle (level : ℕ) (front : List (List ℕ)) (line : List ℕ) (kind : Kind) : Type 0 where
   -- as a line before the header
-  before_header : (position : Position) → IsPreamble level default_position front position → opening_of level line ≡ Err kind → Breaks level front line kind
+  before_header : (position : Position) → IsPreamble level default_position front position → opening_of level line ≡ Err kind → BreaksRle level front line kind
   -- as a line behind the header, before its items
-  by_form : (file : Rle) → IsUnmarked level front file → later_of line ≡ Err kind → Breaks level front line kind
+  by_form : (file : Rle) → IsUnmarked level front file → later_of line ≡ Err kind → BreaksRle level front line kind
   -- behind items that break none, in the place of an item
   by_text : (file : Rle) (items : List Item) → IsUnmarked level front file → later_of line ≡ Ok Data → Spells level line items (Broken kind)
-      → first_fault level file.rule (placed_behind file.position file.items items) ≡ None → Breaks level front line kind
+      → first_fault level file.rule (placed_after file.position file.items items) ≡ None → BreaksRle level front line kind
   -- behind items that break none, by an item
   by_item : (file : Rle) (items : List Item) (item : Item) (rest : List ℕ) → IsUnmarked level front file → later_of line ≡ Ok Data
       → Spells level line items (Spelled item rest)
-      → first_fault level file.rule (placed_behind file.position file.items items) ≡ None → fault_behind level file items item ≡ Some kind
-      → Breaks level front line kind
+      → first_fault level file.rule (placed_after file.position file.items items) ≡ None → fault_after level file items item ≡ Some kind
+      → BreaksRle level front line kind
 
 -- the kinds of rule that a line of RLE can break
 abbrev pub is_rle_kind : Kind → Bool

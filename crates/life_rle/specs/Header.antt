@@ -6,7 +6,7 @@ use Rattle.life_base.specs.declared.kind.Kind.TheVariants.{BadHeader}
 use Rattle.life_base.specs.declared.rule.Rule.{Rule}
 use Rattle.life_base.specs.Text.{is_digit_text, begins_with, trim_start}
 use Rattle.life_base.specs.Rules.{rule_of, default_rule}
-use Rattle.life_rle.specs.Items.{front_digits, behind_digits}
+use Rattle.life_rle.specs.Items.{leading_digits, after_digits_of}
 
 infixl 10 ◌>>=◌
 abbrev pub ◌>>=◌ : {A B : Type 0} → Option A → (A → Option B) → Option B
@@ -19,7 +19,7 @@ after_word word bytes = if begins_with bytes word then Some (trim_start (drop (l
 
 -- what stands behind a digit text and the whitespace after it
 abbrev pub after_number : List ℕ → Option (List ℕ)
-after_number bytes = if is_digit_text (front_digits bytes) then Some (trim_start (behind_digits bytes)) else None
+after_number bytes = if is_digit_text (leading_digits bytes) then Some (trim_start (after_digits_of bytes)) else None
 
 -- the text of the rule, if there is one
 abbrev pub rule_part : List ℕ → Option (Option (List ℕ))

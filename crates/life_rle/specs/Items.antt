@@ -10,15 +10,15 @@ use Rattle.life_base.specs.Text.{trim_start, value_of}
 use Rattle.life_rle.specs.declared.item.Item.{Item}
 use Rattle.life_rle.specs.declared.item.Item.TheVariants.{Cells, RowEnds}
 use Rattle.life_rle.specs.Plane.{most_count}
-use Rattle.life_rle.specs.States.{state_at}
+use Rattle.life_rle.specs.States.{leading_state}
 
 -- the digits in front of a text
-abbrev pub front_digits : List ℕ → List ℕ
-front_digits text = take_while is_ascii_digit text
+abbrev pub leading_digits : List ℕ → List ℕ
+leading_digits text = take_while is_ascii_digit text
 
 -- what stands behind the digits in front of a text
-abbrev pub behind_digits : List ℕ → List ℕ
-behind_digits text = drop (prefix_len is_ascii_digit text) text
+abbrev pub after_digits_of : List ℕ → List ℕ
+after_digits_of text = drop (prefix_len is_ascii_digit text) text
 
 -- what stands in an item's place: nothing, the mark `!`, an item and the bytes behind it, or none of these
 pub data Next : Type 0 where
@@ -28,27 +28,27 @@ pub data Next : Type 0 where
   Broken : (kind : Kind) → Next
 
 -- cells of the state that was found, if one was
-abbrev pub cells_of : ℕ → Option (ℕ × List ℕ) → Next
-cells_of count None = Broken BadItem
-cells_of count (Some found) = Spelled (Cells count found.0) found.1
+abbrev pub next_of_cells : ℕ → Option (ℕ × List ℕ) → Next
+next_of_cells count None = Broken BadItem
+next_of_cells count (Some found) = Spelled (Cells count found.0) found.1
 
 -- an item with this count, whose `$` or state is in front of the bytes
-abbrev pub item_behind : ℕ → List ℕ → Next
-item_behind count [] = Broken BadItem
-item_behind count (b ∷ bytes) = if b == byte "$" then Spelled (RowEnds count) bytes else cells_of count (state_at (b ∷ bytes))
+abbrev pub item_after : ℕ → List ℕ → Next
+item_after count [] = Broken BadItem
+item_after count (b ∷ bytes) = if b == byte "$" then Spelled (RowEnds count) bytes else next_of_cells count (leading_state (b ∷ bytes))
 
 -- an item with these digits in front; without digits the count is 1, and else from 1 to the width of the plane
-abbrev pub counted : ℕ → List ℕ → List ℕ → Next
-counted level [] bytes = item_behind 1 bytes
-counted level (d ∷ digits) bytes =
+abbrev pub item_with_digits : ℕ → List ℕ → List ℕ → Next
+item_with_digits level [] bytes = item_after 1 bytes
+item_with_digits level (d ∷ digits) bytes =
     if value_of (d ∷ digits) == 0 then Broken ZeroCount
     else if nat_lt (most_count level) (value_of (d ∷ digits)) then Broken TooLarge
-    else item_behind (value_of (d ∷ digits)) bytes
+    else item_after (value_of (d ∷ digits)) bytes
 
 -- what is in front of bytes that begin without whitespace
 abbrev pub item_in : ℕ → List ℕ → Next
 item_in level [] = End
-item_in level (b ∷ bytes) = if b == byte "!" then Mark else counted level (front_digits (b ∷ bytes)) (behind_digits (b ∷ bytes))
+item_in level (b ∷ bytes) = if b == byte "!" then Mark else item_with_digits level (leading_digits (b ∷ bytes)) (after_digits_of (b ∷ bytes))
 
 -- what stands in the next item's place, whitespace passed over
 abbrev pub next_of : ℕ → List ℕ → Next

@@ -9,59 +9,59 @@ use Rattle.life_base.specs.declared.cell.TheConstants.{MAX_LEVEL}
 use Rattle.life_base.specs.declared.rule.Rule.{Rule}
 use Rattle.life_base.specs.Text.{lines_of}
 use Rattle.life_base.specs.Rules.{IsRule}
-use Rattle.life_rle.specs.States.{state_at, state_text, is_state_of}
-use Rattle.life_rle.specs.Pattern.{Rle, cell}
-use Rattle.life_rle.specs.Grammar.{IsRle, IsSomeRle, Breaks, is_rle_kind}
-use Rattle.life_rle.specs.File.{Refuses}
+use Rattle.life_rle.specs.States.{leading_state, state_text, is_state_of}
+use Rattle.life_rle.specs.Pattern.{Rle, rle_cell}
+use Rattle.life_rle.specs.Grammar.{IsRle, IsSomeRle, BreaksRle, is_rle_kind}
+use Rattle.life_rle.specs.File.{RefusesRle}
 use Rattle.life_rle.specs.Written.{item_text, items_of, rle_lines, rle_text}
-use Rattle.life_rle.specs.Sorted.{are_sorted_cells, state_in}
+use Rattle.life_rle.specs.Sorted.{are_sorted_cells, state_in_cells}
 
 -- lines are an RLE file of at most one pattern
 abbrev pub IsOneRle : Type 0
 IsOneRle = (level : ℕ) (lines : List (List ℕ)) (f g : Rle) → IsRle level lines f → IsRle level lines g → f ≡ g
 
 -- every file of a plane is a file of each wider one, and is the same pattern there
-abbrev pub WiderPlanesKeepFiles : Type 0
-WiderPlanesKeepFiles = (level wider : ℕ) (lines : List (List ℕ)) (file : Rle) → level ≤ wider → IsRle level lines file → IsRle wider lines file
+abbrev pub WiderPlanesKeepRles : Type 0
+WiderPlanesKeepRles = (level wider : ℕ) (lines : List (List ℕ)) (file : Rle) → level ≤ wider → IsRle level lines file → IsRle wider lines file
 
 -- a line that breaks a rule stands behind a front of a file, breaks one kind first, and no lines behind it make a file
 abbrev pub BreaksForGood : Type 0
 BreaksForGood =
-    (level : ℕ) (front : List (List ℕ)) (line : List ℕ) (kind : Kind) → Breaks level front line kind
+    (level : ℕ) (front : List (List ℕ)) (line : List ℕ) (kind : Kind) → BreaksRle level front line kind
     → Prefix (IsSomeRle level) front
-    × ((other : Kind) → Breaks level front line other → other ≡ kind)
+    × ((other : Kind) → BreaksRle level front line other → other ≡ kind)
     × ((more : List (List ℕ)) (file : Rle) → IsRle level ((front ++ line ∷ []) ++ more) file → ⊥)
 
 -- no line breaks a rule behind those before it
-abbrev pub AreUnbroken : ℕ → List (List ℕ) → Type 0
-AreUnbroken level lines = (k : ℕ) (kind : Kind) → k < length lines → Breaks level (take k lines) (slice_index_or lines k []) kind → ⊥
+abbrev pub IsUnbrokenRle : ℕ → List (List ℕ) → Type 0
+IsUnbrokenRle level lines = (k : ℕ) (kind : Kind) → k < length lines → BreaksRle level (take k lines) (slice_index_or lines k []) kind → ⊥
 
 -- lines are the front of a file exactly if no line breaks a rule
-abbrev pub FrontsAreUnbroken : Type 0
-FrontsAreUnbroken = (level : ℕ) (lines : List (List ℕ)) → Prefix (IsSomeRle level) lines ↔ AreUnbroken level lines
+abbrev pub RlePrefixesAreUnbroken : Type 0
+RlePrefixesAreUnbroken = (level : ℕ) (lines : List (List ℕ)) → Prefix (IsSomeRle level) lines ↔ IsUnbrokenRle level lines
 
 -- a line breaks a rule with one of the kinds of the format
-abbrev pub LinesBreakByKinds : Type 0
-LinesBreakByKinds = (level : ℕ) (front : List (List ℕ)) (line : List ℕ) (kind : Kind) → Breaks level front line kind → is_rle_kind kind ≡ true
+abbrev pub RleLinesBreakByKinds : Type 0
+RleLinesBreakByKinds = (level : ℕ) (front : List (List ℕ)) (line : List ℕ) (kind : Kind) → BreaksRle level front line kind → is_rle_kind kind ≡ true
 
 -- and each of these kinds names its line
-abbrev pub KindsNameLines : Type 0
-KindsNameLines = (kind : Kind) → is_rle_kind kind ≡ true → is_placeless kind ≡ false
+abbrev pub RleKindsNameLines : Type 0
+RleKindsNameLines = (kind : Kind) → is_rle_kind kind ≡ true → is_placeless kind ≡ false
 
 -- lines that are no file have one fault
-abbrev pub FaultsAreUnique : Type 0
-FaultsAreUnique = (level : ℕ) (lines : List (List ℕ)) (one other : Fault) → Refuses level lines one → Refuses level lines other → one ≡ other
+abbrev pub RleFaultsAreUnique : Type 0
+RleFaultsAreUnique = (level : ℕ) (lines : List (List ℕ)) (one other : Fault) → RefusesRle level lines one → RefusesRle level lines other → one ≡ other
 
 -- the text of a state is read as that state, whatever follows
 abbrev pub StatesReadBack : Type 0
-StatesReadBack = (rule : Rule) (state : ℕ) (rest : List ℕ) → is_state_of rule state ≡ true → state_at (state_text rule state ++ rest) ≡ Some (state, rest)
+StatesReadBack = (rule : Rule) (state : ℕ) (rest : List ℕ) → is_state_of rule state ≡ true → leading_state (state_text rule state ++ rest) ≡ Some (state, rest)
 
 -- the text of sorted cells is a file of the rule, the generation and these cells, and 0 elsewhere
 abbrev pub RleTextReadsBack : Type 0
 RleTextReadsBack =
     (rule : Rule) (generation : ℕ) (cells : List Cell) → IsRule rule → generation < 2 ^ 64 → are_sorted_cells MAX_LEVEL rule cells ≡ true
     → (file : Rle) × IsRle MAX_LEVEL (lines_of (rle_text rule generation cells)) file × (file.rule ≡ rule) × (file.position.generation ≡ generation)
-    × ((x y : ℤ) → cell file x y ≡ state_in cells x y)
+    × ((x y : ℤ) → rle_cell file x y ≡ state_in_cells cells x y)
 
 -- The texts stand in groups, in their order, a group on each line: a line has at most 70 bytes, and the first text of the next
 -- group would not have fitted on it.

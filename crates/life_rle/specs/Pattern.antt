@@ -10,7 +10,7 @@ use Rattle.life_base.specs.declared.rule.Rule.{Rule}
 use Rattle.life_rle.specs.declared.item.Item.{Item}
 use Rattle.life_rle.specs.declared.item.Item.TheVariants.{Cells, RowEnds}
 use Rattle.life_rle.specs.declared.position.Position.{Position}
-use Rattle.life_rle.specs.Plane.{edge}
+use Rattle.life_rle.specs.Plane.{rle_plane_end}
 use Rattle.life_rle.specs.States.{is_state_of}
 
 -- a rule, where the upper left cell lies and in which generation, and a list of items
@@ -36,27 +36,27 @@ columns_in (Cells count state ∷ items) = if list_any is_row_end items then col
 columns_in (RowEnds count ∷ items) = columns_in items
 
 -- an item, and the row and the first column where it stands
-pub record Placed : Type 0 where
+pub record PlacedItem : Type 0 where
   pub row : ℤ
   pub column : ℤ
   pub item : Item
 
 -- where an item stands behind these
-abbrev pub placed_item : Position → List Item → Item → Placed
+abbrev pub placed_item : Position → List Item → Item → PlacedItem
 placed_item position before item = record { row = position.y +ℤ pos (rows_in before); column = position.x +ℤ pos (columns_in before); item = item }
 
 -- the items that follow `before`, each where it stands behind all items before it
-abbrev pub placed_behind : Position → List Item → List Item → List Placed
-placed_behind position before [] = []
-placed_behind position before (item ∷ items) = placed_item position before item ∷ placed_behind position (before ++ item ∷ []) items
+abbrev pub placed_after : Position → List Item → List Item → List PlacedItem
+placed_after position before [] = []
+placed_after position before (item ∷ items) = placed_item position before item ∷ placed_after position (before ++ item ∷ []) items
 
 -- all items of a file, each where it stands
-abbrev pub placed : Rle → List Placed
-placed file = placed_behind file.position [] file.items
+abbrev pub placed_items : Rle → List PlacedItem
+placed_items file = placed_after file.position [] file.items
 
 -- whether an item's cells, which lie side by side in one row, lie over the pair
-abbrev pub covers : Placed → ℤ → ℤ → Bool
-covers p x y = elim p.item [
+abbrev pub item_covers : PlacedItem → ℤ → ℤ → Bool
+item_covers p x y = elim p.item [
   | Cells count state ↦ int_eq y p.row && (int_le p.column x && int_lt x (p.column +ℤ pos count))
   | RowEnds count ↦ false
 ]
@@ -66,27 +66,27 @@ item_state (Cells count state) = state
 item_state (RowEnds count) = 0
 
 -- the state of the item that covers the pair, else 0
-abbrev pub cell_among : List Placed → ℤ → ℤ → ℕ
+abbrev pub cell_among : List PlacedItem → ℤ → ℤ → ℕ
 cell_among [] x y = 0
-cell_among (p ∷ ps) x y = if covers p x y then item_state p.item else cell_among ps x y
+cell_among (p ∷ ps) x y = if item_covers p x y then item_state p.item else cell_among ps x y
 
 -- the state of a pair
-abbrev pub cell : Rle → ℤ → ℤ → ℕ
-cell file x y = cell_among (placed file) x y
+abbrev pub rle_cell : Rle → ℤ → ℤ → ℕ
+rle_cell file x y = cell_among (placed_items file) x y
 
 -- Which rule an item breaks at its place: its state, and then the plane. Cells of any state, 0 too, stay in the plane; row ends
 -- may bring the row to the edge and no further.
 abbrev pub item_fault : ℕ → Rule → ℤ → ℤ → Item → Option Kind
 item_fault level rule row column (Cells count state) =
     if not (is_state_of rule state) then Some StateRange
-    else if int_lt row (edge level) && int_le (column +ℤ pos count) (edge level) then None
+    else if int_lt row (rle_plane_end level) && int_le (column +ℤ pos count) (rle_plane_end level) then None
     else Some OutOfPlane
-item_fault level rule row column (RowEnds count) = if int_le (row +ℤ pos count) (edge level) then None else Some OutOfPlane
+item_fault level rule row column (RowEnds count) = if int_le (row +ℤ pos count) (rle_plane_end level) then None else Some OutOfPlane
 
-abbrev pub placed_fault : ℕ → Rule → Placed → Option Kind
+abbrev pub placed_fault : ℕ → Rule → PlacedItem → Option Kind
 placed_fault level rule p = item_fault level rule p.row p.column p.item
 
 -- the fault of the first item that has one
-abbrev pub first_fault : ℕ → Rule → List Placed → Option Kind
+abbrev pub first_fault : ℕ → Rule → List PlacedItem → Option Kind
 first_fault level rule [] = None
 first_fault level rule (p ∷ ps) = option_or (placed_fault level rule p) (first_fault level rule ps)

@@ -33,20 +33,20 @@ IsItemText level text (Cells count state) = (digits last : List ℕ) × (text �
 IsItemText level text (RowEnds count) = (digits last : List ℕ) × (text ≡ digits ++ last) × IsCountText level digits count × (last ≡ codes "$")
 
 -- a line of texts of these items, each with any whitespace before it, then any whitespace, then these bytes
-abbrev pub IsTextOf : ℕ → List ℕ → List Item → List ℕ → Type 0
-IsTextOf level line [] rest = (space : List ℕ) × (is_blank space ≡ true) × (line ≡ space ++ rest)
-IsTextOf level line (item ∷ items) rest =
-    (space text more : List ℕ) × (is_blank space ≡ true) × IsItemText level text item × (line ≡ space ++ (text ++ more)) × IsTextOf level more items rest
+abbrev pub IsTextOfItems : ℕ → List ℕ → List Item → List ℕ → Type 0
+IsTextOfItems level line [] rest = (space : List ℕ) × (is_blank space ≡ true) × (line ≡ space ++ rest)
+IsTextOfItems level line (item ∷ items) rest =
+    (space text more : List ℕ) × (is_blank space ≡ true) × IsItemText level text item × (line ≡ space ++ (text ++ more)) × IsTextOfItems level more items rest
 
 -- Reading a line finds items and its end exactly if the line is their texts; items and `!` exactly if it is their texts, `!` and anything
 -- behind it; and items, one more and a rest exactly if it is their texts, that item's and the rest.
 abbrev pub ItemsArePlain : Type 0
 ItemsArePlain =
     (level : ℕ) (line : List ℕ) (items : List Item)
-    → (Spells level line items End ↔ IsTextOf level line items [])
-    × (Spells level line items Mark ↔ ((free : List ℕ) × IsTextOf level line items (byte "!" ∷ free)))
+    → (Spells level line items End ↔ IsTextOfItems level line items [])
+    × (Spells level line items Mark ↔ ((free : List ℕ) × IsTextOfItems level line items (byte "!" ∷ free)))
     × ((item : Item) (rest : List ℕ) → Spells level line items (Spelled item rest)
-    ↔ ((text : List ℕ) × IsItemText level text item × IsTextOf level line items (text ++ rest)))
+    ↔ ((text : List ℕ) × IsItemText level text item × IsTextOfItems level line items (text ++ rest)))
 
 -- tokens one after another, each with any whitespace behind it, and then these bytes
 abbrev pub AreTokens : List ℕ → List (List ℕ) → List ℕ → Type 0
@@ -103,4 +103,4 @@ pub data IsNoItem (level : ℕ) (bytes : List ℕ) (kind : Kind) : Type 0 where
 abbrev pub FaultsArePlain : Type 0
 FaultsArePlain =
     (level : ℕ) (line : List ℕ) (items : List Item) (kind : Kind)
-    → Spells level line items (Broken kind) ↔ ((rest : List ℕ) × IsTextOf level line items rest × HasItemPlace rest × IsNoItem level rest kind)
+    → Spells level line items (Broken kind) ↔ ((rest : List ℕ) × IsTextOfItems level line items rest × HasItemPlace rest × IsNoItem level rest kind)

@@ -53,15 +53,15 @@ field_of level text =
     else Ok Other
 
 -- the position with what a field gives in place of what it had
-abbrev pub with_field : Position → Field → Position
-with_field position (Corner x y) = record { x = x; y = y; generation = position.generation }
-with_field position (Generation n) = record { x = position.x; y = position.y; generation = n }
-with_field position Other = position
+abbrev pub position_with_field : Position → Field → Position
+position_with_field position (Corner x y) = record { x = x; y = y; generation = position.generation }
+position_with_field position (Generation n) = record { x = position.x; y = position.y; generation = n }
+position_with_field position Other = position
 
 -- the fields are checked from left to right, and of several of one name the last counts
 abbrev pub position_with : ℕ → Position → List (List ℕ) → Result Position Kind
 position_with level position [] = Ok position
-position_with level position (field ∷ fields) = and_then (field_of level field) (λ found. position_with level (with_field position found) fields)
+position_with level position (field ∷ fields) = and_then (field_of level field) (λ found. position_with level (position_with_field position found) fields)
 
 -- the position that a position line gives: its fields are separated by whitespace
 abbrev pub position_of : ℕ → List ℕ → Result Position Kind

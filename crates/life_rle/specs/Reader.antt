@@ -9,16 +9,16 @@ use Rattle.life_rle.specs.declared.item.Token.{Token}
 use Rattle.life_rle.specs.declared.item.Token.TheVariants as found
 use Rattle.life_rle.specs.declared.cursor.Cursor.{Cursor}
 use Rattle.life_base.specs.declared.cell.Run.{Run}
-use Rattle.life_rle.specs.Items.{Next, End, Mark, Spelled, Broken, item_behind, next_of, Spells}
+use Rattle.life_rle.specs.Items.{Next, End, Mark, Spelled, Broken, item_after, next_of, Spells}
 use Rattle.life_rle.specs.Plane.{is_coordinate}
 use Rattle.life_rle.specs.Pattern.{item_fault, first_fault}
 use Rattle.life_rle.specs.Runs.{runs_of, with_run}
-use Rattle.life_rle.specs.Cursor.{IsNear, moved, moved_behind, placed_at}
+use Rattle.life_rle.specs.Cursor.{IsNear, cursor_after_item, cursor_after_items, placed_at}
 
 -- the item at a place of a line has this count, whose digits end at another place; without digits it is 1
 pub data IsCount (level : ℕ) (line : List ℕ) (at count place : ℕ) : Type 0 where
   none : is_ascii_digit (slice_index line at) ≡ false → count ≡ 1 → place ≡ at → IsCount level line at count place
-  digits : at < place → next_of level (drop at line) ≡ item_behind count (drop place line) → IsCount level line at count place
+  digits : at < place → next_of level (drop at line) ≡ item_after count (drop place line) → IsCount level line at count place
 
 -- A count was read at a place, and the place behind its digits, which is in the line: the item there is the one that the whole spells. Or the
 -- whole spells none, and this is why.
@@ -29,8 +29,8 @@ IsCountRead level line at result = MatchResult result
 -- what was found behind a count
 abbrev pub IsItemAt : List ℕ → ℕ → ℕ → Token → Type 0
 IsItemAt line count place (found.Spelled item behind) =
-    (place < behind) × (behind ≤ length line) × (item_behind count (drop place line) ≡ Spelled item (drop behind line))
-IsItemAt line count place (found.Broken kind) = item_behind count (drop place line) ≡ Broken kind
+    (place < behind) × (behind ≤ length line) × (item_after count (drop place line) ≡ Spelled item (drop behind line))
+IsItemAt line count place (found.Broken kind) = item_after count (drop place line) ≡ Broken kind
 IsItemAt line count place _ = ⊥
 
 -- what was found at a place of a line
@@ -51,7 +51,7 @@ IsNumberRead level _ _ = ⊥
 -- was put behind the runs
 pub record IsItemTaken (level : ℕ) (rule : Rule) (here : Cursor) (item : Item) (before after : List Run) (next : Cursor) : Type 0 where
   pub sound : item_fault level rule here.y here.x item ≡ None
-  pub cursor : next ≡ moved here item
+  pub cursor : next ≡ cursor_after_item here item
   pub near : IsNear level next
   pub runs : after ≡ before ++ with_run here.y here.x item []
 
@@ -61,18 +61,19 @@ TakesItem level rule cursor item before after result = MatchResult result (IsIte
     (λ kind. (after ≡ before) × ((kind ≡ Memory) ⊎ (item_fault level rule cursor.y cursor.x item ≡ Some kind)))
 
 -- a line was read up to `next`: its items break no rule, the cursor is behind them, and these are their runs
-pub record IsRead (level : ℕ) (rule : Rule) (from : Cursor) (line : List ℕ) (items : List Item) (next : Next) (now : Cursor) (found : List Run) : Type 0 where
-  pub spelled : Spells level line items next
-  pub sound : first_fault level rule (placed_at from items) ≡ None
-  pub cursor : now ≡ moved_behind from items
-  pub near : IsNear level now
-  pub runs : found ≡ runs_of (placed_at from items)
+pub record AreItemsRead (level : ℕ) (rule : Rule) (from : Cursor) (line : List ℕ) (items : List Item) (next : Next) (now : Cursor) (found : List Run) : Type 0
+  where
+    pub spelled : Spells level line items next
+    pub sound : first_fault level rule (placed_at from items) ≡ None
+    pub cursor : now ≡ cursor_after_items from items
+    pub near : IsNear level now
+    pub runs : found ≡ runs_of (placed_at from items)
 
 -- the same, with the line's runs put behind those that were there
 pub record ReadsItems (level : ℕ) (rule : Rule) (from : Cursor) (line : List ℕ) (next : Next) (now : Cursor) (before after : List Run) : Type 0 where
   pub items : List Item
   pub found : List Run
-  pub read : IsRead level rule from line items next now found
+  pub read : AreItemsRead level rule from line items next now found
   pub added : after ≡ before ++ found
 
 -- what stands behind the last item of a line
@@ -88,4 +89,4 @@ pub data ItemsBreak (level : ℕ) (rule : Rule) (from : Cursor) (line : List ℕ
   -- by an item
   bad_item : (items : List Item) (item : Item) (rest : List ℕ) → Spells level line items (Spelled item rest)
       → first_fault level rule (placed_at from items) ≡ None
-      → item_fault level rule (moved_behind from items).y (moved_behind from items).x item ≡ Some kind → ItemsBreak level rule from line kind
+      → item_fault level rule (cursor_after_items from items).y (cursor_after_items from items).x item ≡ Some kind → ItemsBreak level rule from line kind

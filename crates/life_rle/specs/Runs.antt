@@ -5,7 +5,7 @@ use Rattle.std.specs.Str.{byte}
 use Rattle.life_base.specs.declared.cell.Run.{Run}
 use Rattle.life_rle.specs.declared.item.Item.{Item}
 use Rattle.life_rle.specs.declared.item.Item.TheVariants.{Cells, RowEnds}
-use Rattle.life_rle.specs.Pattern.{Placed}
+use Rattle.life_rle.specs.Pattern.{PlacedItem}
 
 -- the run of an item, if its state is nonzero, in front of runs
 abbrev pub with_run : ℤ → ℤ → Item → List Run → List Run
@@ -14,7 +14,7 @@ with_run row column (Cells count (suc n)) runs = record { x = column; y = row; l
 with_run row column (RowEnds count) runs = runs
 
 -- one run for each item of nonzero state, at its row and first column
-abbrev pub runs_of : List Placed → List Run
+abbrev pub runs_of : List PlacedItem → List Run
 runs_of [] = []
 runs_of (p ∷ ps) = with_run p.row p.column p.item (runs_of ps)
 

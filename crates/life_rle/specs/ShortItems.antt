@@ -18,14 +18,14 @@ abbrev pub short_digits : ℕ → ℕ
 short_digits b = if nat_le (byte "1") b && nat_le b (byte "9") then 1 else 0
 
 -- if the byte at `last` is `b` or `o`, it ends an item that begins at the place, with this count
-pub record IsShort (level : ℕ) (line : List ℕ) (at count last : ℕ) : Type 0 where
+pub record IsShortItem (level : ℕ) (line : List ℕ) (at count last : ℕ) : Type 0 where
   pub inside : (at ≤ last) × (last ≤ at + 1)
   pub few : count ≤ 9
   pub dead : slice_index line last ≡ byte "b" → next_of level (drop at line) ≡ Spelled (Cells count 0) (drop (last + 1) line)
   pub live : slice_index line last ≡ byte "o" → next_of level (drop at line) ≡ Spelled (Cells count 1) (drop (last + 1) line)
 
 -- from here on the row has room for nine cells at each byte of the line
-pub record HasRoom (level : ℕ) (line : List ℕ) (at : ℕ) (here : Cursor) : Type 0 where
+pub record RowHasSpace (level : ℕ) (line : List ℕ) (at : ℕ) (here : Cursor) : Type 0 where
   pub near : IsNear level here
   pub room : (here.x +ℤ pos (9 * (length line - at))) ≤ℤ row_limit level here.y
 
@@ -39,5 +39,5 @@ ReadsOn level rule line at here found behind there more =
 pub record PassesDead (level : ℕ) (line : List ℕ) (at : ℕ) (here : Cursor) (behind : ℕ) (there : Cursor) : Type 0 where
   pub inside : (at ≤ behind) × (behind ≤ at + 2)
   pub row : there.y ≡ here.y
-  pub room : HasRoom level line behind there
+  pub room : RowHasSpace level line behind there
   pub read : (rule : Rule) (found : List Run) → ReadsOn level rule line at here found behind there found

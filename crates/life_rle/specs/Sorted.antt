@@ -21,6 +21,6 @@ are_sorted_cells level rule (c ∷ []) = is_live_cell level rule c
 are_sorted_cells level rule (c ∷ d ∷ cells) = (is_live_cell level rule c && rises c d) && are_sorted_cells level rule (d ∷ cells)
 
 -- the state that the cells give a pair, 0 where none does
-abbrev pub state_in : List Cell → ℤ → ℤ → ℕ
-state_in [] x y = 0
-state_in (c ∷ cells) x y = if int_eq y c.y && int_eq x c.x then c.state else state_in cells x y
+abbrev pub state_in_cells : List Cell → ℤ → ℤ → ℕ
+state_in_cells [] x y = 0
+state_in_cells (c ∷ cells) x y = if int_eq y c.y && int_eq x c.x then c.state else state_in_cells cells x y

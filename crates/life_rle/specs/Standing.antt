@@ -8,7 +8,7 @@ use Rattle.life_rle.specs.Pattern.{Rle}
 use Rattle.life_rle.specs.Position.{default_position}
 use Rattle.life_rle.specs.Grammar.{IsPreamble, IsUnmarked, IsMarked}
 use Rattle.life_rle.specs.File.{HasRuns}
-use Rattle.life_rle.specs.Cursor.{IsNear, IsBehind, start_of}
+use Rattle.life_rle.specs.Cursor.{IsNear, IsAfterItems, start_of}
 
 abbrev pub is_refused : Phase → Bool
 is_refused phases.Refused = true
@@ -23,7 +23,7 @@ abbrev pub StandsAt : ℕ → Phase → Cursor → List (List ℕ) → Type 0
 StandsAt level phases.Refused cursor lines = Unit {0}
 StandsAt level (phases.Before position) cursor lines = IsNear level cursor × IsPreamble level default_position lines position × (cursor ≡ start_of position)
 StandsAt level (phases.Items rule position) cursor lines =
-    (file : Rle) × IsUnmarked level lines file × IsNear level cursor × IsBehind cursor file × (rule ≡ file.rule) × (position ≡ file.position)
+    (file : Rle) × IsUnmarked level lines file × IsNear level cursor × IsAfterItems cursor file × (rule ≡ file.rule) × (position ≡ file.position)
 StandsAt level (phases.Over rule position) cursor lines = (file : Rle) × IsMarked level lines file × (rule ≡ file.rule) × (position ≡ file.position)
 
 -- behind any lines at which the first phase and cursor stand, the second stand with one line more, and these are the line's runs
@@ -33,12 +33,12 @@ pub record Advances (level : ℕ) (phase : Phase) (cursor : Cursor) (line : List
       → HasRuns level (lines ++ line ∷ []) (before ++ runs)
 
 -- such a line, whose runs are put behind those that were there
-pub record TakesLine (level : ℕ) (phase : Phase) (cursor : Cursor) (line : List ℕ) (next : Phase) (place : Cursor) (before after : List Run) : Type 0 where
+pub record TakesRleLine (level : ℕ) (phase : Phase) (cursor : Cursor) (line : List ℕ) (next : Phase) (place : Cursor) (before after : List Run) : Type 0 where
   pub runs : List Run
   pub advances : Advances level phase cursor line next place runs
   pub added : after ≡ before ++ runs
 
 -- before the mark the cursor is in the plane or at its edge
-abbrev pub IsPlaced : ℕ → Phase → Cursor → Type 0
-IsPlaced level (phases.Items rule position) cursor = IsNear level cursor
-IsPlaced level _ cursor = Unit {0}
+abbrev pub IsCursorPlaced : ℕ → Phase → Cursor → Type 0
+IsCursorPlaced level (phases.Items rule position) cursor = IsNear level cursor
+IsCursorPlaced level _ cursor = Unit {0}

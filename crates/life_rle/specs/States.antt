@@ -29,10 +29,10 @@ abbrev pub with_rest : Option ℕ → List ℕ → Option (ℕ × List ℕ)
 with_rest found rest = option_map (λ state. (state, rest)) found
 
 -- the state in front of the bytes, and what stands behind it
-abbrev pub state_at : List ℕ → Option (ℕ × List ℕ)
-state_at [] = None
-state_at (b ∷ []) = with_rest (single_state b) []
-state_at (b ∷ c ∷ rest) = option_or (with_rest (single_state b) (c ∷ rest)) (with_rest (prefixed_state b c) rest)
+abbrev pub leading_state : List ℕ → Option (ℕ × List ℕ)
+leading_state [] = None
+leading_state (b ∷ []) = with_rest (single_state b) []
+leading_state (b ∷ c ∷ rest) = option_or (with_rest (single_state b) (c ∷ rest)) (with_rest (prefixed_state b c) rest)
 
 -- the states under a rule: 0 and 1 under a B/S rule, 0 to 255 under a name
 abbrev pub is_state_of : Rule → ℕ → Bool
@@ -40,8 +40,8 @@ is_state_of (Life sets) state = nat_le state 1
 is_state_of (Named name) state = nat_le state 255
 
 -- the text of a state under a name: `.`, a letter, or a prefix and a letter
-abbrev pub lettered : ℕ → List ℕ
-lettered n =
+abbrev pub state_letters : ℕ → List ℕ
+state_letters n =
     if n == 0 then codes "."
     else if nat_le n 24 then (64 + n) ∷ []
     else (111 + (n - 1) / 24) ∷ (65 + (n - 1) % 24) ∷ []
@@ -49,4 +49,4 @@ lettered n =
 -- the text of a state that is written: `b` and `o` under a B/S rule
 abbrev pub state_text : Rule → ℕ → List ℕ
 state_text (Life sets) n = (if n == 0 then byte "b" else byte "o") ∷ []
-state_text (Named name) n = lettered n
+state_text (Named name) n = state_letters n

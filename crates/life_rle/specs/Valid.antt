@@ -6,11 +6,11 @@ use Rattle.life_rle.specs.Pattern.{Rle}
 use Rattle.life_rle.specs.Grammar.{IsRle}
 
 -- its rule is one, its generation is below 2 ^ 64, and its corner lies in the plane
-pub record IsValid (level : ℕ) (file : Rle) : Type 0 where
+pub record IsValidRle (level : ℕ) (file : Rle) : Type 0 where
   pub rule : IsRule file.rule
   pub generation : file.position.generation < 2 ^ 64
   pub x : is_coordinate level file.position.x ≡ true
   pub y : is_coordinate level file.position.y ≡ true
 
-abbrev pub FilesAreValid : Type 0
-FilesAreValid = (level : ℕ) (lines : List (List ℕ)) (file : Rle) → IsRle level lines file → IsValid level file
+abbrev pub RlesAreValid : Type 0
+RlesAreValid = (level : ℕ) (lines : List (List ℕ)) (file : Rle) → IsRle level lines file → IsValidRle level file

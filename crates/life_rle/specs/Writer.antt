@@ -10,7 +10,7 @@ use Rattle.life_rle.specs.declared.item.Item.TheVariants.{Cells, RowEnds}
 use Rattle.life_base.specs.declared.bounds.Bounds.{Bounds}
 use Rattle.life_rle.specs.declared.pen.Pen.{Pen}
 use Rattle.life_rle.specs.declared.wrapping.ItemLines.{ItemLines}
-use Rattle.life_rle.specs.Plane.{edge}
+use Rattle.life_rle.specs.Plane.{rle_plane_end}
 use Rattle.life_rle.specs.States.{is_state_of, state_text}
 use Rattle.life_rle.specs.Written.{with_cells, item_text, items_from}
 
@@ -24,13 +24,13 @@ abbrev pub feed : ℕ → ℕ → List ℕ
 feed used len = if nat_le (used + len) 70 then [] else codes "\n"
 
 -- how many bytes the line has behind such a text
-abbrev pub used_behind : ℕ → ℕ → ℕ
-used_behind used len = if nat_le (used + len) 70 then used + len else len
+abbrev pub used_after : ℕ → ℕ → ℕ
+used_after used len = if nat_le (used + len) 70 then used + len else len
 
 -- texts and the last line feed, from a line on that has some bytes
 abbrev pub text_from : ℕ → List (List ℕ) → List ℕ
 text_from used [] = codes "\n"
-text_from used (text ∷ texts) = feed used (length text) ++ (text ++ text_from (used_behind used (length text)) texts)
+text_from used (text ∷ texts) = feed used (length text) ++ (text ++ text_from (used_after used (length text)) texts)
 
 -- items and `!`, from such a line on
 abbrev pub items_text : Rule → ℕ → List Item → List ℕ
@@ -41,7 +41,7 @@ abbrev pub text_with : Rule → ItemLines → List Item → List ℕ
 text_with rule lines items = lines.text.items ++ items_text rule lines.used items
 
 -- these items were written, whatever items follow
-pub record Puts (rule : Rule) (old : ItemLines) (items : List Item) (new : ItemLines) : Type 0 where
+pub record PutsItems (rule : Rule) (old : ItemLines) (items : List Item) (new : ItemLines) : Type 0 where
   pub short : new.used ≤ 70
   pub text : (more : List Item) → text_with rule new more ≡ text_with rule old (items ++ more)
 
@@ -50,16 +50,16 @@ abbrev pub run_of : Cell → Run
 run_of c = record { x = c.x; y = c.y; len = 1; state = c.state }
 
 -- a run with one cell more
-abbrev pub longer : Run → Run
-longer run = record { x = run.x; y = run.y; len = run.len + 1; state = run.state }
+abbrev pub longer_run : Run → Run
+longer_run run = record { x = run.x; y = run.y; len = run.len + 1; state = run.state }
 
 -- the column behind a run
-abbrev pub column_behind : Run → ℤ
-column_behind run = run.x +ℤ pos run.len
+abbrev pub column_after_run : Run → ℤ
+column_after_run run = run.x +ℤ pos run.len
 
 -- whether a cell goes on with a run
-abbrev pub joins : Run → Cell → Bool
-joins run c = (int_eq c.y run.y && int_eq c.x (column_behind run)) && c.state == run.state
+abbrev pub continues_run : Run → Cell → Bool
+continues_run run c = (int_eq c.y run.y && int_eq c.x (column_after_run run)) && c.state == run.state
 
 -- the item of a run
 abbrev pub item_of : Run → Item
@@ -67,28 +67,28 @@ item_of run = Cells run.len run.state
 
 -- the whole text of a pen behind which these cells follow
 abbrev pub pen_text : Rule → Pen → List Cell → List ℕ
-pen_text rule pen cells = text_with rule pen.lines (with_cells pen.run.len pen.run.state (items_from pen.left (column_behind pen.run) pen.run.y cells))
+pen_text rule pen cells = text_with rule pen.lines (with_cells pen.run.len pen.run.state (items_from pen.left (column_after_run pen.run) pen.run.y cells))
 
 -- live cells in the plane
 pub record IsLiveRun (run : Run) : Type 0 where
-  pub left : neg_ℤ (edge MAX_LEVEL) ≤ℤ run.x
-  pub right : column_behind run ≤ℤ edge MAX_LEVEL
-  pub top : neg_ℤ (edge MAX_LEVEL) ≤ℤ run.y
-  pub bottom : run.y <ℤ edge MAX_LEVEL
+  pub left : neg_ℤ (rle_plane_end MAX_LEVEL) ≤ℤ run.x
+  pub right : column_after_run run ≤ℤ rle_plane_end MAX_LEVEL
+  pub top : neg_ℤ (rle_plane_end MAX_LEVEL) ≤ℤ run.y
+  pub bottom : run.y <ℤ rle_plane_end MAX_LEVEL
   pub live : 0 < run.state
 
 -- the pen's line has room, rows begin in the plane, and its run lies there
 pub record IsPen (pen : Pen) : Type 0 where
   pub short : pen.lines.used ≤ 70
-  pub left : neg_ℤ (edge MAX_LEVEL) ≤ℤ pen.left
+  pub left : neg_ℤ (rle_plane_end MAX_LEVEL) ≤ℤ pen.left
   pub run : IsLiveRun pen.run
 
 -- a live cell in the plane
 pub record IsGoodCell (rule : Rule) (c : Cell) : Type 0 where
-  pub left : neg_ℤ (edge MAX_LEVEL) ≤ℤ c.x
-  pub right : c.x <ℤ edge MAX_LEVEL
-  pub top : neg_ℤ (edge MAX_LEVEL) ≤ℤ c.y
-  pub bottom : c.y <ℤ edge MAX_LEVEL
+  pub left : neg_ℤ (rle_plane_end MAX_LEVEL) ≤ℤ c.x
+  pub right : c.x <ℤ rle_plane_end MAX_LEVEL
+  pub top : neg_ℤ (rle_plane_end MAX_LEVEL) ≤ℤ c.y
+  pub bottom : c.y <ℤ rle_plane_end MAX_LEVEL
   pub state : is_state_of rule c.state ≡ true
   pub live : 0 < c.state
 
@@ -103,15 +103,15 @@ Follow rule left x y (c ∷ cells) = IsGoodCell rule c × IsAhead left x y c × 
 
 -- a box of the plane
 pub record IsInPlane (box : Bounds) : Type 0 where
-  pub left : neg_ℤ (edge MAX_LEVEL) ≤ℤ box.left
+  pub left : neg_ℤ (rle_plane_end MAX_LEVEL) ≤ℤ box.left
   pub wide : box.left ≤ℤ box.right
-  pub right : box.right <ℤ edge MAX_LEVEL
-  pub top : neg_ℤ (edge MAX_LEVEL) ≤ℤ box.top
+  pub right : box.right <ℤ rle_plane_end MAX_LEVEL
+  pub top : neg_ℤ (rle_plane_end MAX_LEVEL) ≤ℤ box.top
   pub high : box.top ≤ℤ box.bottom
-  pub bottom : box.bottom <ℤ edge MAX_LEVEL
+  pub bottom : box.bottom <ℤ rle_plane_end MAX_LEVEL
 
 -- the next cell was taken, whatever cells follow
 pub record WritesCell (rule : Rule) (pen : Pen) (cell : Cell) (next : Pen) : Type 0 where
   pub sound : IsPen next
-  pub place : (next.left ≡ pen.left) × (column_behind next.run ≡ cell.x +ℤ pos 1) × (next.run.y ≡ cell.y)
+  pub place : (next.left ≡ pen.left) × (column_after_run next.run ≡ cell.x +ℤ pos 1) × (next.run.y ≡ cell.y)
   pub text : (cells : List Cell) → pen_text rule next cells ≡ pen_text rule pen (cell ∷ cells)

@@ -17,13 +17,13 @@ abbrev pub box_of_cell : Cell → Bounds
 box_of_cell c = record { left = c.x; top = c.y; right = c.x; bottom = c.y }
 
 -- the least box around both
-abbrev pub joined : Bounds → Bounds → Bounds
-joined a b = record { left = int_min a.left b.left; top = int_min a.top b.top; right = int_max a.right b.right; bottom = int_max a.bottom b.bottom }
+abbrev pub box_around : Bounds → Bounds → Bounds
+box_around a b = record { left = int_min a.left b.left; top = int_min a.top b.top; right = int_max a.right b.right; bottom = int_max a.bottom b.bottom }
 
 -- the least box around a cell and more cells
 abbrev pub box_of : Cell → List Cell → Bounds
 box_of c [] = box_of_cell c
-box_of c (d ∷ cells) = joined (box_of_cell c) (box_of d cells)
+box_of c (d ∷ cells) = box_around (box_of_cell c) (box_of d cells)
 
 -- dead cells in front of items, if any
 abbrev pub with_gap : ℕ → List Item → List Item
@@ -62,13 +62,13 @@ item_text rule (Cells count state) = count_text count ++ state_text rule state
 item_text rule (RowEnds count) = count_text count ++ codes "$"
 
 -- texts on lines: a text goes on the current line if the line then has at most 70 bytes, else it begins the next line
-abbrev pub wrapped : List ℕ → List (List ℕ) → List (List ℕ)
-wrapped line [] = line ∷ []
-wrapped line (text ∷ texts) = if nat_le (length line + length text) 70 then wrapped (line ++ text) texts else line ∷ wrapped text texts
+abbrev pub wrapped_lines : List ℕ → List (List ℕ) → List (List ℕ)
+wrapped_lines line [] = line ∷ []
+wrapped_lines line (text ∷ texts) = if nat_le (length line + length text) 70 then wrapped_lines (line ++ text) texts else line ∷ wrapped_lines text texts
 
 -- the lines of the items, with `!` behind them
 abbrev pub item_lines : Rule → List Item → List (List ℕ)
-item_lines rule items = wrapped [] (map (item_text rule) items ++ codes "!" ∷ [])
+item_lines rule items = wrapped_lines [] (map (item_text rule) items ++ codes "!" ∷ [])
 
 -- ` Gen=G`, if the generation isn't 0
 abbrev pub generation_text : ℕ → List ℕ
@@ -82,14 +82,14 @@ abbrev pub header_text : ℕ → ℕ → Rule → List ℕ
 header_text width height rule = ((codes "x = " ++ decimal width) ++ (codes ", y = " ++ decimal height)) ++ (codes ", rule = " ++ rule_text rule)
 
 -- the number of whole numbers from one to another
-abbrev pub span : ℤ → ℤ → ℕ
-span low high = nat_abs (high -ℤ low) + 1
+abbrev pub box_side : ℤ → ℤ → ℕ
+box_side low high = nat_abs (high -ℤ low) + 1
 
 -- the lines of a pattern in this box
 abbrev pub lines_in_box : Rule → ℕ → Bounds → List Item → List (List ℕ)
 lines_in_box rule generation box items =
     position_text box.left box.top generation
-    ∷ header_text (span box.left box.right) (span box.top box.bottom) rule
+    ∷ header_text (box_side box.left box.right) (box_side box.top box.bottom) rule
     ∷ item_lines rule items
 
 -- the lines that are written for cells that rise by row and column; without cells the box lies at (0, 0), and its sides are 0

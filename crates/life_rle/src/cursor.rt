@@ -1,7 +1,7 @@
 //! The place of the next item.
 
 ghost use Rattle.std.specs.Prelude.{◌≡◌, ◌≤◌, List, IfErr};
-ghost use Rattle.life_rle.specs.Words.{most_count, item_fault, IsNear, start_of, moved, item_count, row_limit, Cells, RowEnds, Rule, Run, TakesItem};
+ghost use Rattle.life_rle.specs.Words.{most_count, item_fault, IsNear, start_of, cursor_after_item, item_count, row_limit, Cells, RowEnds, Rule, Run, TakesItem};
 
 use crate::item::Item;
 use crate::plane::{EDGE, is_state_of};
@@ -61,7 +61,7 @@ pub(crate) fn cells_fault(
 pub(crate) fn moved(cursor: Cursor, item: Item) -> Cursor
     requires near { IsNear MAX_LEVEL cursor }
     requires count { item_count item ≤ most_count MAX_LEVEL }
-    ensures { result ≡ moved cursor item }
+    ensures { result ≡ cursor_after_item cursor item }
 {
     match item {
         Item::Cells { count, .. } => Cursor {

@@ -1,7 +1,7 @@
 //! The items of a line.
 
 ghost use Rattle.std.specs.Prelude.{◌≡◌, ◌≢◌, ◌<◌, None, true, false, ℕ, List, length, slice_index, OnOk, IfErr};
-ghost use Rattle.life_rle.specs.Words.{is_ascii_digit, byte, capped, is_digit_text, value_of, single_state, prefixed_state, Broken, item_behind, counted, IsCount, IsCountRead, IsItemAt, IsTokenAt};
+ghost use Rattle.life_rle.specs.Words.{is_ascii_digit, byte, capped_number, is_digit_text, value_of, single_state, prefixed_state, Broken, item_after, item_with_digits, IsCount, IsCountRead, IsItemAt, IsTokenAt};
 
 use crate::plane::MOST_COUNT;
 use life_base::{Kind, MAX_LEVEL, State, is_whitespace, leading_number};
@@ -70,10 +70,11 @@ fn prefixed_state(prefix: u8, letter: u8) -> Option<State>
 /// Checks the count of an item.
 fn check_count(count: u64) -> Result<(), Kind>
     ensures ok { OnOk result ((digits bytes : List ℕ) → is_digit_text digits ≡ true
-        → count ≡ capped (value_of digits)
-        → counted MAX_LEVEL digits bytes ≡ item_behind count bytes) }
+        → count ≡ capped_number (value_of digits)
+        → item_with_digits MAX_LEVEL digits bytes ≡ item_after count bytes) }
     ensures err { IfErr result (λ kind. (digits bytes : List ℕ) → is_digit_text digits ≡ true
-        → count ≡ capped (value_of digits) → counted MAX_LEVEL digits bytes ≡ Broken kind) }
+        → count ≡ capped_number (value_of digits) → item_with_digits MAX_LEVEL digits bytes
+        ≡ Broken kind) }
 {
     if count == 0 {
         return Err(Kind::ZeroCount);

@@ -1,11 +1,11 @@
 //! The items of a line, read one after another.
 
 ghost use Rattle.std.specs.Prelude.{◌≡◌, ◌≤◌, ◌<◌, ◌+◌, ◌⊎◌, ◌∷◌, ◌++◌, ◌==◌, not, [], Some, None, IfOk, IfErr, OnOk, OnErr, length, filter, position, take_while};
-ghost use Rattle.life_rle.specs.Words.{vec_len, vec_capacity, byte, most_count, with_run, is_run_end, IsNear, moved, item_count, row_limit, Cells, IsFrontOf, TakesItem, ReadsItems, ReadsOn, last_of, ItemsBreak, IsMemory};
+ghost use Rattle.life_rle.specs.Words.{vec_len, vec_capacity, byte, most_count, with_run, is_run_end, IsNear, cursor_after_item, item_count, row_limit, Cells, IsPrefixOfRuns, TakesItem, ReadsItems, ReadsOn, last_of, ItemsBreak, IsMemory};
 
 use crate::cursor::{Cursor, cells_fault, end_rows, moved, row_limit};
 use crate::item::{Item, Token, token_at};
-use crate::short_items::{Place, begins_short, take_short_items};
+use crate::short_items::{ItemPlace, begins_short, take_short_items};
 use bstr::ByteSlice;
 use life_base::{Kind, LONGEST_LINE, MAX_LEVEL, Rule, Run, State};
 
@@ -175,7 +175,7 @@ fn take_item(
 #[inline(always)]
 fn limit_behind(limit: i64, item: Item, cursor: Cursor) -> i64
     ensures { (before : Cursor) → limit ≡ row_limit MAX_LEVEL before.y
-        → cursor ≡ moved before item → result ≡ row_limit MAX_LEVEL cursor.y }
+        → cursor ≡ cursor_after_item before item → result ≡ row_limit MAX_LEVEL cursor.y }
 {
     match item {
         Item::Cells { .. } => limit,
@@ -185,7 +185,13 @@ fn limit_behind(limit: i64, item: Item, cursor: Cursor) -> i64
 
 /// Takes the item at a place if there is one and it breaks no rule; anything else stays for the caller.
 #[inline(always)]
-fn take_one_item(rule: &Rule, here: Place, limit: i64, line: &[u8], runs: &mut Vec<Run>) -> Place
+fn take_one_item(
+    rule: &Rule,
+    here: ItemPlace,
+    limit: i64,
+    line: &[u8],
+    runs: &mut Vec<Run>,
+) -> ItemPlace
     requires inside { here.at < length line.now }
     requires near { IsNear MAX_LEVEL here.cursor }
     requires limit { limit ≡ row_limit MAX_LEVEL here.cursor.y }
@@ -198,14 +204,14 @@ fn take_one_item(rule: &Rule, here: Place, limit: i64, line: &[u8], runs: &mut V
         return here;
     };
     match take_item(rule, here.cursor, limit, item, runs) {
-        Ok(cursor) => Place { at: behind, cursor },
+        Ok(cursor) => ItemPlace { at: behind, cursor },
         Err(_) => here,
     }
 }
 
 /// Takes items from the start of a line on, as long as there are short ones among them.
 #[inline(always)]
-fn take_mixed_items(rule: &Rule, from: Cursor, line: &[u8], runs: &mut Vec<Run>) -> Place
+fn take_mixed_items(rule: &Rule, from: Cursor, line: &[u8], runs: &mut Vec<Run>) -> ItemPlace
     requires line { length line.now ≤ LONGEST_LINE }
     requires near { IsNear MAX_LEVEL from }
     ensures inside { result.at ≤ length line.now }
@@ -213,7 +219,7 @@ fn take_mixed_items(rule: &Rule, from: Cursor, line: &[u8], runs: &mut Vec<Run>)
     ensures read { ReadsOn MAX_LEVEL rule.now line.now 0 from runs.old.items result.at
         result.cursor runs.new.items }
 {
-    let mut here = Place {
+    let mut here = ItemPlace {
         at: 0,
         cursor: from,
     };
@@ -230,7 +236,7 @@ fn take_mixed_items(rule: &Rule, from: Cursor, line: &[u8], runs: &mut Vec<Run>)
 
 /// The same, if the line begins with a short item: few lines that don't have any later.
 #[inline(always)]
-fn take_first_items(rule: &Rule, from: Cursor, line: &[u8], runs: &mut Vec<Run>) -> Place
+fn take_first_items(rule: &Rule, from: Cursor, line: &[u8], runs: &mut Vec<Run>) -> ItemPlace
     requires line { length line.now ≤ LONGEST_LINE }
     requires near { IsNear MAX_LEVEL from }
     ensures inside { result.at ≤ length line.now }
@@ -241,7 +247,7 @@ fn take_first_items(rule: &Rule, from: Cursor, line: &[u8], runs: &mut Vec<Run>)
     if begins_short(line) {
         return take_mixed_items(rule, from, line, runs);
     }
-    Place {
+    ItemPlace {
         at: 0,
         cursor: from,
     }
@@ -261,10 +267,10 @@ pub(crate) fn read_items(
         (last_of read.marked) read.cursor runs.old.items runs.new.items) }
     ensures fault { IfErr result
         (λ kind. (kind ≡ Kind.Memory) ⊎ ItemsBreak MAX_LEVEL rule.now from line.now kind) }
-    ensures kept { OnErr result (IsFrontOf runs.old.items runs.new.items) }
+    ensures kept { OnErr result (IsPrefixOfRuns runs.old.items runs.new.items) }
 {
     reserve_runs(line, runs)?;
-    let Place { mut at, mut cursor } = take_first_items(rule, from, line, runs);
+    let ItemPlace { mut at, mut cursor } = take_first_items(rule, from, line, runs);
     let mut limit = row_limit(cursor.y);
     while at < line.len() {
         match token_at(line, at) {

@@ -1,7 +1,7 @@
 //! An RLE file that comes line by line.
 
 ghost use Rattle.std.specs.Prelude.{◌≡◌, ◌⊎◌, List, [], ℕ, Err, Ok, false, true, IfOk, IfErr, OnErr, IsErrOf, IsOkAnd};
-ghost use Rattle.life_rle.specs.Words.{IsNear, IsFrontOf, opening_of, later_of, Breaks, ItemsBreak, is_refused, is_over, Advances, TakesLine, IsPlaced, StandsAt, Data, Position};
+ghost use Rattle.life_rle.specs.Words.{IsNear, IsPrefixOfRuns, opening_of, later_of, BreaksRle, ItemsBreak, is_refused, is_over, Advances, TakesRleLine, IsCursorPlaced, StandsAt, Data, Position};
 
 use crate::cursor::{Cursor, start_of};
 use crate::line::{Later, Opening, later_of, opening_of};
@@ -54,12 +54,12 @@ fn behind_header(
     runs: &mut Vec<Run>,
 ) -> Result<(Phase, Cursor), Kind>
     requires { IsNear MAX_LEVEL cursor }
-    ensures advance { IfOk result (λ next. TakesLine MAX_LEVEL (Phase.Items rule position) cursor
+    ensures advance { IfOk result (λ next. TakesRleLine MAX_LEVEL (Phase.Items rule position) cursor
         line.now next.0 next.1 runs.old.items runs.new.items) }
     ensures going { IfOk result (λ next. is_refused next.0 ≡ false) }
     ensures fault { IfErr result (λ kind. (kind ≡ Kind.Memory) ⊎ (later_of line.now ≡ Err kind)
         ⊎ ((later_of line.now ≡ Ok Data) × ItemsBreak MAX_LEVEL rule cursor line.now kind)) }
-    ensures kept { OnErr result (IsFrontOf runs.old.items runs.new.items) }
+    ensures kept { OnErr result (IsPrefixOfRuns runs.old.items runs.new.items) }
 {
     match later_of(line)? {
         Later::Passed => Ok((Phase::Items(rule, position), cursor)),
@@ -82,15 +82,15 @@ fn after_line(
     line: &[u8],
     runs: &mut Vec<Run>,
 ) -> Result<(Phase, Cursor), Kind>
-    requires { IsPlaced MAX_LEVEL at.0 at.1 }
-    ensures advance { IfOk result (λ next. TakesLine MAX_LEVEL at.0 at.1 line.now next.0 next.1
+    requires { IsCursorPlaced MAX_LEVEL at.0 at.1 }
+    ensures advance { IfOk result (λ next. TakesRleLine MAX_LEVEL at.0 at.1 line.now next.0 next.1
         runs.old.items runs.new.items) }
     ensures going { IfOk result (λ next. is_refused next.0 ≡ false) }
     ensures fault { IfErr result (λ kind. (kind ≡ Kind.Memory)
         ⊎ ((kind ≡ Kind.Spent) × (is_refused at.0 ≡ true))
         ⊎ ((lines : List (List ℕ)) → StandsAt MAX_LEVEL at.0 at.1 lines
-        → Breaks MAX_LEVEL lines line.now kind)) }
-    ensures kept { OnErr result (IsFrontOf runs.old.items runs.new.items) }
+        → BreaksRle MAX_LEVEL lines line.now kind)) }
+    ensures kept { OnErr result (IsPrefixOfRuns runs.old.items runs.new.items) }
     ensures unspent { IfOk result (λ _. is_refused at.0 ≡ false) }
     ensures spent { is_refused at.0 ≡ true → IsErrOf result Kind.Spent }
     ensures free { is_over at.0 ≡ true → IsOkAnd result (λ _. runs.new.items ≡ runs.old.items) }
@@ -169,7 +169,7 @@ impl RleLines {
 
         // A refused line is the first that breaks a rule, and every later call answers Spent.
         ensures fault { IfErr result (λ kind. (kind ≡ Kind.Memory) ⊎ (kind ≡ Kind.Spent)
-            ⊎ Breaks MAX_LEVEL self.old.lines line.now kind) }
+            ⊎ BreaksRle MAX_LEVEL self.old.lines line.now kind) }
         ensures spent { IsErrOf result Kind.Spent ↔ (self.old.refused ≡ true) }
         ensures refused { OnErr result
             (self.new ≡ record { lines = self.old.lines; refused = true }) }
@@ -202,11 +202,11 @@ impl RleLines {
 
         // A refused line is the first that breaks a rule, and every later call answers Spent.
         ensures fault { IfErr result (λ kind. (kind ≡ Kind.Memory) ⊎ (kind ≡ Kind.Spent)
-            ⊎ Breaks MAX_LEVEL self.old.lines line.now kind) }
+            ⊎ BreaksRle MAX_LEVEL self.old.lines line.now kind) }
         ensures spent { IsErrOf result Kind.Spent ↔ (self.old.refused ≡ true) }
         ensures refused { OnErr result
             (self.new ≡ record { lines = self.old.lines; refused = true }) }
-        ensures kept { OnErr result (IsFrontOf runs.old.items runs.new.items) }
+        ensures kept { OnErr result (IsPrefixOfRuns runs.old.items runs.new.items) }
 
         // After the mark nothing is refused, not even when memory runs out.
         ensures free { self.old.refused ≡ false

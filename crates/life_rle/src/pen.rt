@@ -1,7 +1,7 @@
 //! Cells as items.
 
 ghost use Rattle.std.specs.Prelude.{◌≡◌, ◌++◌, ◌∷◌, [], neg_ℤ, ◌+ℤ◌, ◌-ℤ◌, ◌≤ℤ◌, nat_abs, OnOk, IfOk, IfErr};
-ghost use Rattle.life_rle.specs.Words.{edge, items_from, way_to, Puts, IsLiveRun, IsPen, IsGoodCell, IsAhead, Follow, run_of, longer, column_behind, joins, item_of, pen_text, items_text, WritesCell, IsMemory};
+ghost use Rattle.life_rle.specs.Words.{rle_plane_end, items_from, way_to, PutsItems, IsLiveRun, IsPen, IsGoodCell, IsAhead, Follow, run_of, longer_run, column_after_run, continues_run, item_of, pen_text, items_text, WritesCell, IsMemory};
 
 use crate::item::Item;
 use crate::wrapping::ItemLines;
@@ -22,7 +22,7 @@ fn run_of(cell: &Cell) -> Run
 /// A run with one cell more.
 fn longer(run: Run) -> Run
     requires { IsLiveRun run }
-    ensures { result ≡ longer run }
+    ensures { result ≡ longer_run run }
 {
     Run {
         len: run.len + 1,
@@ -33,7 +33,7 @@ fn longer(run: Run) -> Run
 /// The column after a run.
 fn column_behind(run: Run) -> i64
     requires { IsLiveRun run }
-    ensures { result ≡ column_behind run }
+    ensures { result ≡ column_after_run run }
 {
     run.x + run.len as i64
 }
@@ -41,7 +41,7 @@ fn column_behind(run: Run) -> i64
 /// Whether a cell goes on with a run.
 fn joins(run: Run, cell: &Cell) -> bool
     requires { IsLiveRun run }
-    ensures { result ≡ joins run cell.now }
+    ensures { result ≡ continues_run run cell.now }
 {
     cell.y == run.y && cell.x == column_behind(run) && cell.state == run.state
 }
@@ -58,9 +58,9 @@ fn item_of(run: Run) -> Item
 
 /// How far a coordinate is ahead of another.
 fn distance(from: i64, to: i64) -> u64
-    requires low { neg_ℤ (edge MAX_LEVEL) ≤ℤ from }
+    requires low { neg_ℤ (rle_plane_end MAX_LEVEL) ≤ℤ from }
     requires rises { from ≤ℤ to }
-    requires high { to ≤ℤ edge MAX_LEVEL }
+    requires high { to ≤ℤ rle_plane_end MAX_LEVEL }
     ensures { result ≡ nat_abs (to -ℤ from) }
 {
     (to - from) as u64
@@ -71,9 +71,10 @@ fn distance(from: i64, to: i64) -> u64
 fn put_way(lines: &mut ItemLines, rule: &Rule, left: i64, run: Run, cell: &Cell) -> Result<(), Kind>
     requires pen { IsPen (record { lines = lines.old; left = left; run = run }) }
     requires cell { IsGoodCell rule.now cell.now }
-    requires ahead { IsAhead left (column_behind run) run.y cell.now }
+    requires ahead { IsAhead left (column_after_run run) run.y cell.now }
     ensures way { OnOk result
-        (Puts rule.now lines.old (way_to left (column_behind run) run.y cell.now []) lines.new) }
+        (PutsItems rule.now lines.old (way_to left (column_after_run run) run.y cell.now [])
+        lines.new) }
     ensures memory { IfErr result IsMemory }
 {
     let count = distance(run.y, cell.y);
@@ -90,7 +91,7 @@ fn put_way(lines: &mut ItemLines, rule: &Rule, left: i64, run: Run, cell: &Cell)
 fn take(lines: &mut ItemLines, rule: &Rule, left: i64, run: Run, cell: &Cell) -> Result<Run, Kind>
     requires pen { IsPen (record { lines = lines.old; left = left; run = run }) }
     requires cell { IsGoodCell rule.now cell.now }
-    requires ahead { IsAhead left (column_behind run) run.y cell.now }
+    requires ahead { IsAhead left (column_after_run run) run.y cell.now }
     ensures cell { IfOk result (λ next. WritesCell rule.now
         (record { lines = lines.old; left = left; run = run }) cell.now
         (record { lines = lines.new; left = left; run = next })) }
@@ -127,7 +128,8 @@ impl Pen {
     /// Writes the run and the cells after it, with `!` at the end, and returns the text.
     fn finish(self, rule: &Rule, cells: &[Cell]) -> Result<Vec<u8>, Kind>
         requires pen { IsPen self }
-        requires cells { Follow rule.now self.left (column_behind self.run) self.run.y cells.now }
+        requires cells { Follow rule.now self.left (column_after_run self.run) self.run.y
+            cells.now }
         ensures text { IfOk result (λ text. text.items ≡ pen_text rule.now self cells.now) }
         ensures memory { IfErr result IsMemory }
     {
@@ -152,7 +154,7 @@ pub(crate) fn write_cells(
     first: &Cell,
     cells: &[Cell],
 ) -> Result<Vec<u8>, Kind>
-    requires left { neg_ℤ (edge MAX_LEVEL) ≤ℤ bounds.left }
+    requires left { neg_ℤ (rle_plane_end MAX_LEVEL) ≤ℤ bounds.left }
     requires top { bounds.top ≡ first.now.y }
     requires cells { Follow rule.now bounds.left bounds.left bounds.top (first.now ∷ cells.now) }
     ensures text { IfOk result (λ whole. whole.items ≡ text.items ++ items_text rule.now 0

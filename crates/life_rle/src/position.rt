@@ -1,7 +1,7 @@
 //! Position lines.
 
 ghost use Rattle.std.specs.Prelude.{◌≡◌, ◌==◌, true, ◌≤◌, ◌<◌, ◌^◌, ◌-◌, Option, Ok, position, IfSome, pos, neg_ℤ, ◌≤ℤ◌};
-ghost use Rattle.life_rle.specs.Words.{before_first, after_first, u64_of, words_of, is_position_line, signed_number, corner_in, field_of, with_field, and_then, position_with, position_of, Generation, IsNumberRead};
+ghost use Rattle.life_rle.specs.Words.{before_first, after_first, u64_of, words_of, is_position_line, signed_number, corner_in, field_of, position_with_field, and_then, position_with, position_of, Generation, IsNumberRead};
 
 use crate::plane::is_coordinate;
 use bstr::ByteSlice;
@@ -57,7 +57,7 @@ fn signed_number(text: &[u8]) -> Option<i64>
 /// The position with the corner that a text gives for its own.
 fn with_corner(position: Position, text: &[u8]) -> Result<Position, Kind>
     ensures { result ≡ and_then (corner_in MAX_LEVEL text.now)
-        (λ found. Ok (with_field position found)) }
+        (λ found. Ok (position_with_field position found)) }
 {
     let (x, y) = split_at_comma(text);
     let Some(x) = signed_number(x) else {
@@ -78,7 +78,7 @@ fn with_corner(position: Position, text: &[u8]) -> Result<Position, Kind>
 /// The position with the generation that a text gives for its own.
 fn with_generation(position: Position, text: &[u8]) -> Result<Position, Kind>
     ensures { result ≡ and_then (and_then (u64_of text.now) (λ n. Ok (Generation n)))
-        (λ found. Ok (with_field position found)) }
+        (λ found. Ok (position_with_field position found)) }
 {
     let generation = read_u64(text)?;
     Ok(Position {
@@ -90,7 +90,7 @@ fn with_generation(position: Position, text: &[u8]) -> Result<Position, Kind>
 /// The position with what a field gives.
 fn with_field(position: Position, field: &[u8]) -> Result<Position, Kind>
     ensures { result ≡ and_then (field_of MAX_LEVEL field.now)
-        (λ found. Ok (with_field position found)) }
+        (λ found. Ok (position_with_field position found)) }
 {
     if begins_with(field, b"Pos=") {
         return with_corner(position, &field[4..]);

@@ -1,7 +1,7 @@
 //! RLE files, read whole.
 
 ghost use Rattle.std.specs.Prelude.{◌≡◌, ◌⊎◌, ◌++◌, ◌∷◌, [], true, false, IfOk, IfErr, OnOk};
-ghost use Rattle.life_rle.specs.Words.{OrMemory, lines_of, HasRuns, Shows, Refuses, Breaks, is_rle_kind, Rle, IsPlainRle};
+ghost use Rattle.life_rle.specs.Words.{OrMemory, lines_of, HasRuns, Shows, RefusesRle, BreaksRle, is_rle_kind, Rle, IsPlainRle};
 
 use crate::file::RleFile;
 use crate::lines::RleLines;
@@ -22,7 +22,7 @@ fn take_numbered(
     ensures runs { OnOk result (HasRuns MAX_LEVEL reader.old.lines runs.old.items
         → HasRuns MAX_LEVEL reader.new.lines runs.new.items) }
     ensures fault { IfErr result (λ fault. OrMemory fault
-        (Breaks MAX_LEVEL reader.old.lines line.now fault.kind × (fault.place.line ≡ number))) }
+        (BreaksRle MAX_LEVEL reader.old.lines line.now fault.kind × (fault.place.line ≡ number))) }
 {
     match reader.line_into(line, runs) {
         Ok(()) => Ok(()),
@@ -61,7 +61,7 @@ pub fn read_rle(alloc: Global, bytes: &[u8]) -> Result<RleFile, Fault>
     ensures file { IfOk result (λ value. (file : Rle)
         × IsPlainRle MAX_LEVEL (lines_of bytes.now) file × Shows value file) }
     ensures fault { IfErr result
-        (λ fault. OrMemory fault (Refuses MAX_LEVEL (lines_of bytes.now) fault)) }
+        (λ fault. OrMemory fault (RefusesRle MAX_LEVEL (lines_of bytes.now) fault)) }
     ensures kinds { IfErr result (λ fault. OrMemory fault (is_rle_kind fault.kind ≡ true)) }
 {
     let mut reader = RleLines::new(alloc);

@@ -1,7 +1,7 @@
 //! Short items of a line: cells of state 0 or 1, written `b` or `o`, whose count has at most one digit. Most items of soups are short.
 
 ghost use Rattle.std.specs.Prelude.{◌≡◌, ◌≤◌, ◌<◌, ◌+◌, length, slice_index, IsTrue};
-ghost use Rattle.life_rle.specs.Words.{byte, IsNear, row_limit, HasRoom, ReadsOn, IsShort, PassesDead, short_count, short_digits, Rule};
+ghost use Rattle.life_rle.specs.Words.{byte, IsNear, row_limit, RowHasSpace, ReadsOn, IsShortItem, PassesDead, short_count, short_digits, Rule};
 
 use crate::cursor::{Cursor, moved};
 use crate::item::Item;
@@ -40,7 +40,7 @@ const FAR: i64 = 9 * LONGEST_LINE as i64;
 
 /// A place of a line, and where the item there begins on the plane.
 #[derive(Clone, Copy)]
-pub(crate) struct Place {
+pub(crate) struct ItemPlace {
     pub(crate) at: usize,
     pub(crate) cursor: Cursor,
 }
@@ -65,7 +65,7 @@ fn short_digits(byte: u8) -> usize
 #[inline(always)]
 fn short_item(line: &[u8], at: usize) -> (u64, usize)
     requires { at + 1 < length line.now }
-    ensures { IsShort MAX_LEVEL line.now at result.0 result.1 }
+    ensures { IsShortItem MAX_LEVEL line.now at result.0 result.1 }
 {
     let first = line[at];
     (short_count(first), at + short_digits(first))
@@ -85,16 +85,16 @@ pub(crate) fn begins_short(line: &[u8]) -> bool
 
 /// The place after a short item of dead cells, if one is here.
 #[inline(always)]
-fn pass_dead(line: &[u8], here: Place) -> Place
+fn pass_dead(line: &[u8], here: ItemPlace) -> ItemPlace
     requires inside { here.at + 1 < length line.now }
-    requires room { HasRoom MAX_LEVEL line.now here.at here.cursor }
+    requires room { RowHasSpace MAX_LEVEL line.now here.at here.cursor }
     ensures { PassesDead MAX_LEVEL line.now here.at here.cursor result.at result.cursor }
 {
     let (count, last) = short_item(line, here.at);
     if line[last] != b'b' {
         return here;
     }
-    Place {
+    ItemPlace {
         at: last + 1,
         cursor: moved(here.cursor, Item::Cells { count, state: 0 }),
     }
@@ -103,7 +103,12 @@ fn pass_dead(line: &[u8], here: Place) -> Place
 /// Takes short items from a place of a line on, and puts their runs after the runs. It stops before the line's last four bytes, before an
 /// item that isn't short, where there may be no capacity for one more run, and near the edge of the plane.
 #[inline(always)]
-pub(crate) fn take_short_items(line: &[u8], from: Place, limit: i64, runs: &mut Vec<Run>) -> Place
+pub(crate) fn take_short_items(
+    line: &[u8],
+    from: ItemPlace,
+    limit: i64,
+    runs: &mut Vec<Run>,
+) -> ItemPlace
     requires line { length line.now ≤ LONGEST_LINE }
     requires inside { from.at < length line.now }
     requires near { IsNear MAX_LEVEL from.cursor }
@@ -137,7 +142,7 @@ pub(crate) fn take_short_items(line: &[u8], from: Place, limit: i64, runs: &mut 
             len: count,
             state: 1,
         });
-        here = Place {
+        here = ItemPlace {
             at: last + 1,
             cursor: moved(here.cursor, Item::Cells { count, state: 1 }),
         };

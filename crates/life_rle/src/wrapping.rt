@@ -1,7 +1,7 @@
 //! Texts of items, on lines of at most 70 bytes.
 
 ghost use Rattle.std.specs.Prelude.{◌≡◌, ◌+◌, ◌<◌, ◌≤◌, ◌++◌, ◌∷◌, [], length, drop, OnOk, IfOk, IfErr, IfSome, MatchOption};
-ghost use Rattle.life_rle.specs.Words.{Rule, state_text, lettered, item_count, Cells, RowEnds, count_text, item_text, with_gap, tag_text, Puts, text_with, IsMemory};
+ghost use Rattle.life_rle.specs.Words.{Rule, state_text, state_letters, item_count, Cells, RowEnds, count_text, item_text, with_gap, tag_text, PutsItems, text_with, IsMemory};
 
 use crate::item::Item;
 use itoa::write_digits;
@@ -35,7 +35,7 @@ fn write_pair(room: &mut [u8; ITEM_ROOM], prefix: u8, letter: u8) -> usize
 /// The letter of a state under a name, where its text is one byte.
 #[inline(always)]
 fn single_lettered(state: State) -> Option<u8>
-    ensures { MatchOption result (24 < state) (λ letter. lettered state ≡ letter ∷ []) }
+    ensures { MatchOption result (24 < state) (λ letter. state_letters state ≡ letter ∷ []) }
 {
     if state == 0 {
         Some(b'.')
@@ -49,7 +49,7 @@ fn single_lettered(state: State) -> Option<u8>
 /// The letter of a state, where its text is one byte.
 #[inline(always)]
 fn single_state(rule: &Rule, state: State) -> Option<u8>
-    ensures { MatchOption result ((24 < state) × (state_text rule.now state ≡ lettered state))
+    ensures { MatchOption result ((24 < state) × (state_text rule.now state ≡ state_letters state))
         (λ letter. state_text rule.now state ≡ letter ∷ []) }
 {
     match rule {
@@ -156,7 +156,7 @@ impl ItemLines {
     #[inline(always)]
     pub(crate) fn put_item(&mut self, rule: &Rule, item: Item) -> Result<(), Kind>
         requires { self.old.used ≤ 70 }
-        ensures item { OnOk result (Puts rule.now self.old (item ∷ []) self.new) }
+        ensures item { OnOk result (PutsItems rule.now self.old (item ∷ []) self.new) }
         ensures memory { IfErr result IsMemory }
     {
         let count = item_count(item);
@@ -173,7 +173,7 @@ impl ItemLines {
     #[inline(never)]
     fn put_long_cells(&mut self, rule: &Rule, count: u64, state: State) -> Result<(), Kind>
         requires { self.old.used ≤ 70 }
-        ensures item { OnOk result (Puts rule.now self.old (Cells count state ∷ []) self.new) }
+        ensures item { OnOk result (PutsItems rule.now self.old (Cells count state ∷ []) self.new) }
         ensures memory { IfErr result IsMemory }
     {
         self.put_text(rule, Item::Cells { count, state })
@@ -183,7 +183,7 @@ impl ItemLines {
     #[inline(never)]
     fn put_long_row_ends(&mut self, rule: &Rule, count: u64) -> Result<(), Kind>
         requires { self.old.used ≤ 70 }
-        ensures item { OnOk result (Puts rule.now self.old (RowEnds count ∷ []) self.new) }
+        ensures item { OnOk result (PutsItems rule.now self.old (RowEnds count ∷ []) self.new) }
         ensures memory { IfErr result IsMemory }
     {
         self.put_text(rule, Item::RowEnds { count })
@@ -193,7 +193,7 @@ impl ItemLines {
     #[inline(always)]
     fn put_long(&mut self, rule: &Rule, item: Item) -> Result<(), Kind>
         requires { self.old.used ≤ 70 }
-        ensures item { OnOk result (Puts rule.now self.old (item ∷ []) self.new) }
+        ensures item { OnOk result (PutsItems rule.now self.old (item ∷ []) self.new) }
         ensures memory { IfErr result IsMemory }
     {
         match item {
@@ -205,7 +205,7 @@ impl ItemLines {
     /// Writes the text of an item.
     fn put_text(&mut self, rule: &Rule, item: Item) -> Result<(), Kind>
         requires { self.old.used ≤ 70 }
-        ensures item { OnOk result (Puts rule.now self.old (item ∷ []) self.new) }
+        ensures item { OnOk result (PutsItems rule.now self.old (item ∷ []) self.new) }
         ensures memory { IfErr result IsMemory }
     {
         let mut room = [0; ITEM_ROOM];
@@ -226,7 +226,7 @@ impl ItemLines {
     #[inline(always)]
     pub(crate) fn put_gap(&mut self, rule: &Rule, count: u64) -> Result<(), Kind>
         requires { self.old.used ≤ 70 }
-        ensures gap { OnOk result (Puts rule.now self.old (with_gap count []) self.new) }
+        ensures gap { OnOk result (PutsItems rule.now self.old (with_gap count []) self.new) }
         ensures memory { IfErr result IsMemory }
     {
         if count == 0 {

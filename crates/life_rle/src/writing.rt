@@ -1,7 +1,7 @@
 //! RLE files, written.
 
 ghost use Rattle.std.specs.Prelude.{◌≡◌, ◌++◌, ◌∷◌, [], true, codes, OnOk, IfOk, IfErr};
-ghost use Rattle.life_rle.specs.Words.{signed_decimal, fault_of, are_sorted_cells, generation_text, position_text, header_text, rle_text, span, IsInPlane, IsMemory};
+ghost use Rattle.life_rle.specs.Words.{signed_decimal, fault_of, are_sorted_cells, generation_text, position_text, header_text, rle_text, box_side, IsInPlane, IsMemory};
 
 use crate::bounds::bounds_of;
 use crate::pen::write_cells;
@@ -63,7 +63,7 @@ fn append_header(out: &mut Vec<u8>, width: u64, height: u64, rule: &Rule) -> Res
 /// How many columns a box has.
 fn width_of(bounds: Bounds) -> u64
     requires { IsInPlane bounds }
-    ensures { result ≡ span bounds.left bounds.right }
+    ensures { result ≡ box_side bounds.left bounds.right }
 {
     (bounds.right - bounds.left) as u64 + 1
 }
@@ -71,7 +71,7 @@ fn width_of(bounds: Bounds) -> u64
 /// How many rows a box has.
 fn height_of(bounds: Bounds) -> u64
     requires { IsInPlane bounds }
-    ensures { result ≡ span bounds.top bounds.bottom }
+    ensures { result ≡ box_side bounds.top bounds.bottom }
 {
     (bounds.bottom - bounds.top) as u64 + 1
 }

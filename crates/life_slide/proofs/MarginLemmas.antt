@@ -2,7 +2,7 @@
 use Rattle.std.proofs.Common.{◌≡◌, ◌⊎◌, inl, inr, ℕ, suc, ◌+◌, ◌^◌, Bool, true, false, ℤ, ◌≤ℤ◌, ◌<ℤ◌, sym, ◌∙◌, ap, subst, arith}
 use Rattle.std.proofs.lemmas.Int.{ints, by_lt_z}
 use Rattle.life_base.specs.Tree.{Tree, quad, depth, blank}
-use Rattle.life_block.specs.Pieces.{IsPiece, ahead}
+use Rattle.life_block.specs.Pieces.{IsPiece, step_ahead}
 use Rattle.life_block.proofs.PieceLemmas.{zero-of_blank}
 use Rattle.life_slide.specs.declared.margins.Margins.{Margins}
 use Rattle.life_slide.specs.Margins.{AreMarginsAt, AreMarginsOf, AreMarginsOfFour, IsAlong, IsOnSide, Misses}
@@ -32,46 +32,47 @@ margins-blank t m is cells x y p =
 
 -- ---- four squares
 
-first-half : (x : ℤ) (side : ℕ) (u : ℤ) → IsOnSide x (side + side) u → u <ℤ ahead x side → IsOnSide x side u
+first-half : (x : ℤ) (side : ℕ) (u : ℤ) → IsOnSide x (side + side) u → u <ℤ step_ahead x side → IsOnSide x side u
 first-half x side u i l = record { from = i.from; to = l }
 
-second-half : (x : ℤ) (side : ℕ) (u : ℤ) → IsOnSide x (side + side) u → ahead x side ≤ℤ u → IsOnSide (ahead x side) side u
+second-half : (x : ℤ) (side : ℕ) (u : ℤ) → IsOnSide x (side + side) u → step_ahead x side ≤ℤ u → IsOnSide (step_ahead x side) side u
 second-half x side u i l = let b = i.to in record { from = l; to = omega (arith, ints, b) }
 
 -- where a column or row is that lies in a margin, by the widths that allow it
 module _ (x : ℤ) (side : ℕ) (u : ℤ) (near other far behind width : ℕ) (s : IsAlong side near other far behind width) where
-  near-first : u <ℤ ahead x width → u <ℤ ahead x side → (u <ℤ ahead x near) × (u <ℤ ahead x other)
+  near-first : u <ℤ step_ahead x width → u <ℤ step_ahead x side → (u <ℤ step_ahead x near) × (u <ℤ step_ahead x other)
   near-first l h = let a = s.first in let b = s.second in (omega (arith, ints, l, h, a), omega (arith, ints, l, h, b))
 
-  far-first : u <ℤ ahead x width → (u <ℤ ahead (ahead x side) far) × (u <ℤ ahead (ahead x side) behind)
+  far-first : u <ℤ step_ahead x width → (u <ℤ step_ahead (step_ahead x side) far) × (u <ℤ step_ahead (step_ahead x side) behind)
   far-first l = let a = s.third in let b = s.fourth in (omega (arith, ints, l, a), omega (arith, ints, l, b))
 
-  near-last : ahead x (side + side) ≤ℤ ahead u width → ahead x side ≤ℤ u
-      → (ahead (ahead x side) side ≤ℤ ahead u near) × (ahead (ahead x side) side ≤ℤ ahead u other)
+  near-last : step_ahead x (side + side) ≤ℤ step_ahead u width → step_ahead x side ≤ℤ u
+      → (step_ahead (step_ahead x side) side ≤ℤ step_ahead u near) × (step_ahead (step_ahead x side) side ≤ℤ step_ahead u other)
   near-last l h = let a = s.first in let b = s.second in (omega (arith, ints, l, h, a), omega (arith, ints, l, h, b))
 
-  far-last : ahead x (side + side) ≤ℤ ahead u width → (ahead x side ≤ℤ ahead u far) × (ahead x side ≤ℤ ahead u behind)
+  far-last : step_ahead x (side + side) ≤ℤ step_ahead u width → (step_ahead x side ≤ℤ step_ahead u far) × (step_ahead x side ≤ℤ step_ahead u behind)
   far-last l = let a = s.third in let b = s.fourth in (omega (arith, ints, l, a), omega (arith, ints, l, b))
 
 module _ (cells : ℤ → ℤ → ℕ) (x y : ℤ) (side : ℕ) (nw ne sw se m : Margins) (a : AreMarginsAt cells x y side nw)
-    (b : AreMarginsAt cells (ahead x side) y side ne) (c : AreMarginsAt cells x (ahead y side) side sw)
-    (d : AreMarginsAt cells (ahead x side) (ahead y side) side se) (s : AreMarginsOfFour side nw ne sw se m) where
+    (b : AreMarginsAt cells (step_ahead x side) y side ne) (c : AreMarginsAt cells x (step_ahead y side) side sw)
+    (d : AreMarginsAt cells (step_ahead x side) (step_ahead y side) side se) (s : AreMarginsOfFour side nw ne sw se m) where
   -- a cell lies in one of the four
   by-four : (u v : ℤ) → IsOnSide x (side + side) u → IsOnSide y (side + side) v
-      → (IsOnSide x side u → IsOnSide y side v → u <ℤ ahead x side → v <ℤ ahead y side → cells u v ≡ 0)
-      → (IsOnSide (ahead x side) side u → IsOnSide y side v → ahead x side ≤ℤ u → v <ℤ ahead y side → cells u v ≡ 0)
-      → (IsOnSide x side u → IsOnSide (ahead y side) side v → u <ℤ ahead x side → ahead y side ≤ℤ v → cells u v ≡ 0)
-      → (IsOnSide (ahead x side) side u → IsOnSide (ahead y side) side v → ahead x side ≤ℤ u → ahead y side ≤ℤ v → cells u v ≡ 0) → cells u v ≡ 0
+      → (IsOnSide x side u → IsOnSide y side v → u <ℤ step_ahead x side → v <ℤ step_ahead y side → cells u v ≡ 0)
+      → (IsOnSide (step_ahead x side) side u → IsOnSide y side v → step_ahead x side ≤ℤ u → v <ℤ step_ahead y side → cells u v ≡ 0)
+      → (IsOnSide x side u → IsOnSide (step_ahead y side) side v → u <ℤ step_ahead x side → step_ahead y side ≤ℤ v → cells u v ≡ 0)
+      → (IsOnSide (step_ahead x side) side u → IsOnSide (step_ahead y side) side v → step_ahead x side ≤ℤ u → step_ahead y side ≤ℤ v → cells u v ≡ 0)
+      → cells u v ≡ 0
   by-four u v iu iv f g h k =
-      by_lt_z u (ahead x side)
-      (λ lu. by_lt_z v (ahead y side)
+      by_lt_z u (step_ahead x side)
+      (λ lu. by_lt_z v (step_ahead y side)
       (λ lv. f (first-half x side u iu lu) (first-half y side v iv lv) lu lv)
       (λ lv. h (first-half x side u iu lu) (second-half y side v iv lv) lu lv))
-      (λ lu. by_lt_z v (ahead y side)
+      (λ lu. by_lt_z v (step_ahead y side)
       (λ lv. g (second-half x side u iu lu) (first-half y side v iv lv) lu lv)
       (λ lv. k (second-half x side u iu lu) (second-half y side v iv lv) lu lv))
 
-  four-west : (u v : ℤ) → IsOnSide x (side + side) u → IsOnSide y (side + side) v → u <ℤ ahead x m.west → cells u v ≡ 0
+  four-west : (u v : ℤ) → IsOnSide x (side + side) u → IsOnSide y (side + side) v → u <ℤ step_ahead x m.west → cells u v ≡ 0
   four-west u v iu iv l =
       by-four u v iu iv
       (λ i j p q. a.west u v i j (near-first x side u _ _ _ _ _ s.west l p).0)
@@ -79,7 +80,7 @@ module _ (cells : ℤ → ℤ → ℕ) (x y : ℤ) (side : ℕ) (nw ne sw se m :
       (λ i j p q. c.west u v i j (near-first x side u _ _ _ _ _ s.west l p).1)
       (λ i j p q. d.west u v i j (far-first x side u _ _ _ _ _ s.west l).1)
 
-  four-north : (u v : ℤ) → IsOnSide x (side + side) u → IsOnSide y (side + side) v → v <ℤ ahead y m.north → cells u v ≡ 0
+  four-north : (u v : ℤ) → IsOnSide x (side + side) u → IsOnSide y (side + side) v → v <ℤ step_ahead y m.north → cells u v ≡ 0
   four-north u v iu iv l =
       by-four u v iu iv
       (λ i j p q. a.north u v i j (near-first y side v _ _ _ _ _ s.north l q).0)
@@ -87,7 +88,7 @@ module _ (cells : ℤ → ℤ → ℕ) (x y : ℤ) (side : ℕ) (nw ne sw se m :
       (λ i j p q. c.north u v i j (far-first y side v _ _ _ _ _ s.north l).0)
       (λ i j p q. d.north u v i j (far-first y side v _ _ _ _ _ s.north l).1)
 
-  four-east : (u v : ℤ) → IsOnSide x (side + side) u → IsOnSide y (side + side) v → ahead x (side + side) ≤ℤ ahead u m.east → cells u v ≡ 0
+  four-east : (u v : ℤ) → IsOnSide x (side + side) u → IsOnSide y (side + side) v → step_ahead x (side + side) ≤ℤ step_ahead u m.east → cells u v ≡ 0
   four-east u v iu iv l =
       by-four u v iu iv
       (λ i j p q. a.east u v i j (far-last x side u _ _ _ _ _ s.east l).0)
@@ -95,7 +96,7 @@ module _ (cells : ℤ → ℤ → ℕ) (x y : ℤ) (side : ℕ) (nw ne sw se m :
       (λ i j p q. c.east u v i j (far-last x side u _ _ _ _ _ s.east l).1)
       (λ i j p q. d.east u v i j (near-last x side u _ _ _ _ _ s.east l p).1)
 
-  four-south : (u v : ℤ) → IsOnSide x (side + side) u → IsOnSide y (side + side) v → ahead y (side + side) ≤ℤ ahead v m.south → cells u v ≡ 0
+  four-south : (u v : ℤ) → IsOnSide x (side + side) u → IsOnSide y (side + side) v → step_ahead y (side + side) ≤ℤ step_ahead v m.south → cells u v ≡ 0
   four-south u v iu iv l =
       by-four u v iu iv
       (λ i j p q. a.south u v i j (far-last y side v _ _ _ _ _ s.south l).0)
@@ -121,8 +122,8 @@ margins-joined t a b c d j nw ne sw se m is ea eb ec ed ha hb hc hd s = subst (�
     whole : AreMarginsOf (quad a b c d) m
     whole cells x y p =
         let e = side-of a ea in
-        let pieces = subst (λ side. IsPiece cells x y a × IsPiece cells (ahead x side) y b × IsPiece cells x (ahead y side) c
-        × IsPiece cells (ahead x side) (ahead y side) d) e p in
+        let pieces = subst (λ side. IsPiece cells x y a × IsPiece cells (step_ahead x side) y b × IsPiece cells x (step_ahead y side) c
+        × IsPiece cells (step_ahead x side) (step_ahead y side) d) e p in
         let pa = at cells a ea nw ha _ _ pieces.0 in
         let pb = at cells b eb ne hb _ _ pieces.1 in
         let pc = at cells c ec sw hc _ _ pieces.2 in
@@ -139,8 +140,8 @@ margins-joined t a b c d j nw ne sw se m is ea eb ec ed ha hb hc hd s = subst (�
 
 -- whether the square that begins so far in the first of two squares side by side has this column or row of the last, or of the first, which begins there
 abbrev pub Sees : Bool → ℕ → ℤ → ℤ → Type 0
-Sees true offset place u = u <ℤ ahead place offset
-Sees false offset place u = ahead place offset ≤ℤ u
+Sees true offset place u = u <ℤ step_ahead place offset
+Sees false offset place u = step_ahead place offset ≤ℤ u
 
 missed-column : (cells : ℤ → ℤ → ℕ) (x y : ℤ) (side columns : ℕ) (m : Margins) (last : Bool) → AreMarginsAt cells x y side m
     → Misses last columns side m.west m.east → (u v : ℤ) → IsOnSide x side u → IsOnSide y side v → Sees last columns x u → cells u v ≡ 0

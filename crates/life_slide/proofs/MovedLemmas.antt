@@ -7,18 +7,18 @@ use Rattle.life_base.specs.Tree.{Tree, point, quad, depth, blank, half_side, sta
 use Rattle.life_base.specs.declared.bounds.Bounds.{Bounds}
 use Rattle.life_base.proofs.Squares.{Inside, depth-blank, full-blank, same_quads}
 use Rattle.life_base.proofs.Basics.{halves, zero_unless}
-use Rattle.life_quad.specs.Cells.{IsLeastBox}
+use Rattle.life_quad.specs.Cells.{IsBoundingBoxOfTree}
 use Rattle.life_base.specs.declared.cell.TheConstants.{MAX_LEVEL}
-use Rattle.life_quad.specs.Moves.{trimmed}
+use Rattle.life_quad.specs.Moves.{trimmed_square}
 use Rattle.life_quad.specs.Refused.{SomePart}
 use Rattle.life_quad.proofs.LawLemmas.{cells_lie_inside, equal_by_plane, trimmed_by_cells, trimmed_is_fixed, trimming_keeps_cells, trimming_stops}
 use Rattle.life_block.specs.Needed.{square_from}
-use Rattle.life_block.specs.Pieces.{IsPiece, ahead}
+use Rattle.life_block.specs.Pieces.{IsPiece, step_ahead}
 use Rattle.life_block.proofs.NeedLemmas.{AreParts, depth-square, joined-is, own-part, piece-is, quarter-part, square-piece}
 use Rattle.life_block.proofs.PieceLemmas.{IsPiece-moved, blank-of_zero}
 use Rattle.life_block.proofs.RootLemmas.{cells-of_root}
 use Rattle.life_block.proofs.PlaneLemmas.{full-square}
-use Rattle.life_slide.specs.Pieces.{cells_from, IsNear, plane_from, root_from}
+use Rattle.life_slide.specs.Pieces.{cells_from, IsNearMiddle, plane_from, root_from}
 
 -- ---- from another origin
 
@@ -42,13 +42,13 @@ unfolding square_from
 square-from f a b zero x y = refl
 square-from f a b (suc k) x y =
     let d = 2 ^ k in
-    let ex : ahead (x +ℤ a) d ≡ ahead x d +ℤ a = omega (arith, ints) in
-    let ey : ahead (y +ℤ b) d ≡ ahead y d +ℤ b = omega (arith, ints) in
+    let ex : step_ahead (x +ℤ a) d ≡ step_ahead x d +ℤ a = omega (arith, ints) in
+    let ey : step_ahead (y +ℤ b) d ≡ step_ahead y d +ℤ b = omega (arith, ints) in
     same_quads
     (square-from f a b k x y)
-    (ap (λ u. square_from f k u (y +ℤ b)) ex ∙ square-from f a b k (ahead x d) y)
-    (ap (λ v. square_from f k (x +ℤ a) v) ey ∙ square-from f a b k x (ahead y d))
-    ((λ i. square_from f k (ex i) (ey i)) ∙ square-from f a b k (ahead x d) (ahead y d))
+    (ap (λ u. square_from f k u (y +ℤ b)) ex ∙ square-from f a b k (step_ahead x d) y)
+    (ap (λ v. square_from f k (x +ℤ a) v) ey ∙ square-from f a b k x (step_ahead y d))
+    ((λ i. square_from f k (ex i) (ey i)) ∙ square-from f a b k (step_ahead x d) (step_ahead y d))
 
 -- ---- squares of planes without states above 255
 
@@ -84,12 +84,12 @@ centre-cells f below k outside =
 
 -- a square with a cell so far east or south isn't trimmed
 pub trim-reach : (s : Tree) → IsFull s → (m : ℕ) → 1 ≤ m → (n : ℕ) → depth s ≡ suc n → (x y : ℤ) → tree_cell s x y ≢ 0
-    → (pos (2 ^ (n - 1)) ≤ℤ x) ⊎ (pos (2 ^ (n - 1)) ≤ℤ y) → trimmed s m ≡ s
+    → (pos (2 ^ (n - 1)) ≤ℤ x) ⊎ (pos (2 ^ (n - 1)) ≤ℤ y) → trimmed_square s m ≡ s
 trim-reach s full m positive n level x y some far =
     equal_by_plane r s (trimmed_is_fixed s m full positive).0 full (omega (arith, lower, higher, level)) keeps
   where
     r : Tree
-    r = trimmed s m
+    r = trimmed_square s m
 
     keeps : (u v : ℤ) → tree_cell r u v ≡ tree_cell s u v
     keeps = trimming_keeps_cells s m full positive
@@ -134,21 +134,21 @@ level-fits j k n low high = by (cases_lt k j)
         absurd (omega (arith, more, low, high))
     by (inr l) = l
 
-module _ (t : Tree) (box : Bounds) (least : IsLeastBox t box) (high : 1 ≤ depth t) where
+module _ (t : Tree) (box : Bounds) (least : IsBoundingBoxOfTree t box) (high : 1 ≤ depth t) where
   abbrev g : ℤ → ℤ → ℕ
   g = cells_from t box.left box.top
 
   abbrev k : ℕ
   k = depth t
 
-  pub column-near : IsNear k box.left
+  pub column-near : IsNearMiddle k box.left
   column-near =
       let left = cells_lie_inside t _ _ least.at_left.1 in
       let w = left.0 in
       let e = left.1 in
       record { low = omega (arith, ints, w); high = omega (arith, ints, e) }
 
-  pub row-near : IsNear k box.top
+  pub row-near : IsNearMiddle k box.top
   row-near =
       let top = cells_lie_inside t _ _ least.at_top.1 in
       let n = top.2 in
@@ -247,7 +247,7 @@ module _ (t : Tree) (box : Bounds) (least : IsLeastBox t box) (high : 1 ≤ dept
         let s = at.3 in
         apart (record { west = omega (arith, ints, w); east = e; north = omega (arith, ints, n); south = s }))
 
-    middle : ahead c (2 ^ j) ≡ pos 0
+    middle : step_ahead c (2 ^ j) ≡ pos 0
     middle = omega (arith, ints)
 
     -- the square that begins at the box is the south-eastern quarter of that of the moved cells
@@ -255,11 +255,11 @@ module _ (t : Tree) (box : Bounds) (least : IsLeastBox t box) (high : 1 ≤ dept
         → quad (blank j) (blank j) (blank j) inner ≡ square_from g (suc j) c c
     quarter-is inner full level piece =
         let m = middle in
-        let blank-at : (u v : ℤ) → ((x y : ℤ) → u ≤ℤ x → x <ℤ ahead u (2 ^ j) → v ≤ℤ y → y <ℤ ahead v (2 ^ j) → g x y ≡ 0)
+        let blank-at : (u v : ℤ) → ((x y : ℤ) → u ≤ℤ x → x <ℤ step_ahead u (2 ^ j) → v ≤ℤ y → y <ℤ step_ahead v (2 ^ j) → g x y ≡ 0)
         → blank j ≡ square_from g j u v = (λ u v zeros.
         piece-is g j u v (blank j) (full-blank j) (depth-blank j) (blank-of_zero g j u v (record { zero_at = zeros }))) in
-        let ex : box.left ≡ ahead c (2 ^ j) +ℤ box.left = omega (arith, ints) in
-        let ey : box.top ≡ ahead c (2 ^ j) +ℤ box.top = omega (arith, ints) in
+        let ex : box.left ≡ step_ahead c (2 ^ j) +ℤ box.left = omega (arith, ints) in
+        let ey : box.top ≡ step_ahead c (2 ^ j) +ℤ box.top = omega (arith, ints) in
         let quarters : AreParts g j c c (blank j) (blank j) (blank j) inner = record {
           nw = blank-at c c (λ x y w e n s. west-zero x y (omega (arith, ints, e, m)));
           ne = blank-at _ c (λ x y w e n s. north-zero x y (omega (arith, ints, s, m)));
@@ -269,11 +269,11 @@ module _ (t : Tree) (box : Bounds) (least : IsLeastBox t box) (high : 1 ≤ dept
         joined-is quarters
 
     -- the square that begins at the box, from the other origin
-    inner-square : square_from (tree_cell t) j box.left box.top ≡ square_from g j (ahead c (2 ^ j)) (ahead c (2 ^ j))
+    inner-square : square_from (tree_cell t) j box.left box.top ≡ square_from g j (step_ahead c (2 ^ j)) (step_ahead c (2 ^ j))
     inner-square =
         let m = middle in
-        let ex : box.left ≡ ahead c (2 ^ j) +ℤ box.left = omega (arith, ints, m) in
-        let ey : box.top ≡ ahead c (2 ^ j) +ℤ box.top = omega (arith, ints, m) in
+        let ex : box.left ≡ step_ahead c (2 ^ j) +ℤ box.left = omega (arith, ints, m) in
+        let ey : box.top ≡ step_ahead c (2 ^ j) +ℤ box.top = omega (arith, ints, m) in
         (λ i. square_from (tree_cell t) j (ex i) (ey i)) ∙ square-from (tree_cell t) box.left box.top j _ _
 
     -- ---- on the plane, from this level on
@@ -295,7 +295,7 @@ module _ (t : Tree) (box : Bounds) (least : IsLeastBox t box) (high : 1 ≤ dept
       plane = plane_from t box.left box.top
 
       -- the plane of the moved cells, trimmed, is their square one level higher, trimmed
-      root-trimmed : trimmed root m ≡ root_from t box.left box.top m
+      root-trimmed : trimmed_square root m ≡ root_from t box.left box.top m
       root-trimmed =
           let side : 2 ^ j ≤ 2 ^ 61 = pow_mono {i = j} {j = 61} (omega (arith, low)) in
           let higher : (x y : ℤ) → Inside (2 ^ j) x y → Inside (2 ^ 61) x y = (λ x y i.
@@ -322,7 +322,7 @@ module _ (t : Tree) (box : Bounds) (least : IsLeastBox t box) (high : 1 ≤ dept
           let ey : (y +ℤ neg_ℤ box.top) +ℤ box.top ≡ y = omega (arith, ints) in
           some (sym (λ i. tree_cell t (ex i) (ey i)) ∙ sym (centre-cells g below j outside-zero _ _) ∙ e)
 
-      root-still : IsTight box j m → trimmed root m ≡ root
+      root-still : IsTight box j m → trimmed_square root m ≡ root
       root-still (inl e) = (trimming_stops root m full-root positive).1 (omega (arith, deep-root, e))
       root-still (inr (inl l)) =
           trim-reach root full-root m positive j deep-root _ _ (moved-cell _ _ least.at_right.1) (inl (omega (arith, ints, l)))

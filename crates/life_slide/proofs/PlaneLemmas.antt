@@ -4,7 +4,7 @@ use Rattle.std.proofs.lemmas.Int.{ints}
 use Rattle.std.proofs.Math.Nat.{mod-eq_of_lt}
 use Rattle.life_base.specs.Tree.{Tree, depth, blank, half_side, tree_cell, IsFull}
 use Rattle.life_quad.specs.declared.id.Id.{Id}
-use Rattle.life_block.specs.Pieces.{IsPiece, ahead, back}
+use Rattle.life_block.specs.Pieces.{IsPiece, step_ahead, step_back}
 use Rattle.life_block.proofs.PieceLemmas.{IsPiece-moved, blank-of_zero}
 use Rattle.life_block.proofs.RootLemmas.{corner, piece-of_root, cell-outside}
 use Rattle.life_slide.specs.Pieces.{InBlock, IsBlock, in_corner}
@@ -12,7 +12,7 @@ use Rattle.life_base.proofs.Basics.{halves}
 
 -- where four squares begin, of which one is about the middle
 abbrev pub begin : Bool → Tree → ℤ
-begin later t = if later then back (corner t) (2 ^ depth t) else corner t
+begin later t = if later then step_back (corner t) (2 ^ depth t) else corner t
 
 pub known-corner : {P : Id → Type 0} (id other : Id) (east south : Bool) → P id → P other → InBlock P (in_corner east south id other)
 known-corner id other true true p q = record { nw = q; ne = q; sw = q; se = p }
@@ -35,31 +35,31 @@ module _ (content : Id → Tree) (t : Tree) (id other : Id) (full : IsFull t) (h
   root = subst (IsPiece (tree_cell t) c c) (sym is) (piece-of_root t full high)
 
   -- beside the square, and above or below it
-  beside : (u v : ℤ) → (ahead u s ≡ c) → IsPiece (tree_cell t) u v (content other)
+  beside : (u v : ℤ) → (step_ahead u s ≡ c) → IsPiece (tree_cell t) u v (content other)
   beside u v e =
       subst (IsPiece (tree_cell t) u v) (sym none) (blank-of_zero (tree_cell t) (depth t) u v (record {
         zero_at = λ x y w e2 n s2. cell-outside t x y (λ i. absurd (let west = i.west in omega (arith, ints, e, e2, west)));
       }))
 
-  behind : (u v : ℤ) → (u ≡ ahead c s) → IsPiece (tree_cell t) u v (content other)
+  behind : (u v : ℤ) → (u ≡ step_ahead c s) → IsPiece (tree_cell t) u v (content other)
   behind u v e =
       subst (IsPiece (tree_cell t) u v) (sym none) (blank-of_zero (tree_cell t) (depth t) u v (record {
         zero_at = λ x y w e2 n s2. cell-outside t x y (λ i. absurd (let east = i.east in let d = twice in omega (arith, ints, e, w, d, east)));
       }))
 
-  above : (u v : ℤ) → (ahead v s ≡ c) → IsPiece (tree_cell t) u v (content other)
+  above : (u v : ℤ) → (step_ahead v s ≡ c) → IsPiece (tree_cell t) u v (content other)
   above u v e =
       subst (IsPiece (tree_cell t) u v) (sym none) (blank-of_zero (tree_cell t) (depth t) u v (record {
         zero_at = λ x y w e2 n s2. cell-outside t x y (λ i. absurd (let north = i.north in omega (arith, ints, e, s2, north)));
       }))
 
-  below : (u v : ℤ) → (v ≡ ahead c s) → IsPiece (tree_cell t) u v (content other)
+  below : (u v : ℤ) → (v ≡ step_ahead c s) → IsPiece (tree_cell t) u v (content other)
   below u v e =
       subst (IsPiece (tree_cell t) u v) (sym none) (blank-of_zero (tree_cell t) (depth t) u v (record {
         zero_at = λ x y w e2 n s2. cell-outside t x y (λ i. absurd (let south = i.south in let d = twice in omega (arith, ints, e, n, d, south)));
       }))
 
-  around : ahead (back c s) s ≡ c
+  around : step_ahead (step_back c s) s ≡ c
   around = omega (arith, ints)
 
   pub block-corner : (east south : Bool) → IsBlock content (tree_cell t) s (begin east t) (begin south t) (in_corner east south id other)
@@ -87,7 +87,7 @@ module _ (content : Id → Tree) (t : Tree) (id other : Id) (full : IsFull t) (h
 pub place-is : (t : Tree) (later : Bool) (place : ℤ) (n : ℕ) → 1 ≤ depth t → n < 2 ^ depth t
     → (later ≡ false → pos n ≡ (place +ℤ pos (2 ^ (depth t - 1))))
     → (later ≡ true → pos n ≡ (place +ℤ pos (2 ^ (depth t - 1) + 2 ^ (depth t - 1) + 2 ^ (depth t - 1))))
-    → ahead (begin later t) (n % 2 ^ depth t) ≡ place
+    → step_ahead (begin later t) (n % 2 ^ depth t) ≡ place
 place-is t true place n high less first second =
     let e = second refl in
     let d = halves (depth t) high in

@@ -7,7 +7,7 @@ use Rattle.life_base.proofs.Squares.{same_quads}
 use Rattle.life_quad.specs.declared.id.Id.{Id}
 use Rattle.life_quad.specs.declared.moves.Quarters.{Quarters}
 use Rattle.life_block.specs.Needed.{square_from}
-use Rattle.life_block.specs.Pieces.{IsPiece, ahead}
+use Rattle.life_block.specs.Pieces.{IsPiece, step_ahead}
 use Rattle.life_block.proofs.NeedLemmas.{is-piece, piece-is}
 use Rattle.life_block.proofs.PieceLemmas.{blank-of_zero}
 use Rattle.life_slide.specs.declared.margins.Margins.{Margins}
@@ -17,7 +17,7 @@ use Rattle.life_slide.proofs.MarginLemmas.{missed}
 
 -- two planes with the same cells in a square
 pub square-agrees : (f g : ℤ → ℤ → ℕ) (k : ℕ) (x y : ℤ)
-    → ((u v : ℤ) → x ≤ℤ u → u <ℤ ahead x (2 ^ k) → y ≤ℤ v → v <ℤ ahead y (2 ^ k) → f u v ≡ g u v) → square_from f k x y ≡ square_from g k x y
+    → ((u v : ℤ) → x ≤ℤ u → u <ℤ step_ahead x (2 ^ k) → y ≤ℤ v → v <ℤ step_ahead y (2 ^ k) → f u v ≡ g u v) → square_from f k x y ≡ square_from g k x y
 unfolding square_from
 square-agrees f g zero x y h = ap point (h x y (omega (arith, ints)) (omega (arith, ints)) (omega (arith, ints)) (omega (arith, ints)))
 square-agrees f g (suc k) x y h =
@@ -36,36 +36,37 @@ behind-test u m h = grind (arith, ints, h)
 module _ (f : ℤ → ℤ → ℕ) (nw ne sw se : Bool) (x y : ℤ) (side : ℕ) where
   abbrev pub kept_cells : ℤ → ℤ → ℕ
   kept_cells u v =
-      if (if int_lt v (ahead y side) then (if int_lt u (ahead x side) then nw else ne) else (if int_lt u (ahead x side) then sw else se)) then f u v else 0
+      if (if int_lt v (step_ahead y side) then (if int_lt u (step_ahead x side) then nw else ne) else (if int_lt u (step_ahead x side) then sw else se)) then f
+      u v else 0
 
-  pub in-nw : (u v : ℤ) → u <ℤ ahead x side → v <ℤ ahead y side → kept_cells u v ≡ (if nw then f u v else 0)
+  pub in-nw : (u v : ℤ) → u <ℤ step_ahead x side → v <ℤ step_ahead y side → kept_cells u v ≡ (if nw then f u v else 0)
   in-nw u v h k =
-      let a = lt-int_lt u (ahead x side) h in
-      let b = lt-int_lt v (ahead y side) k in
+      let a = lt-int_lt u (step_ahead x side) h in
+      let b = lt-int_lt v (step_ahead y side) k in
       (λ i. if (if b i then (if a i then nw else ne) else (if a i then sw else se)) then f u v else 0)
 
-  pub in-ne : (u v : ℤ) → ahead x side ≤ℤ u → v <ℤ ahead y side → kept_cells u v ≡ (if ne then f u v else 0)
+  pub in-ne : (u v : ℤ) → step_ahead x side ≤ℤ u → v <ℤ step_ahead y side → kept_cells u v ≡ (if ne then f u v else 0)
   in-ne u v h k =
-      let a = behind-test u (ahead x side) h in
-      let b = lt-int_lt v (ahead y side) k in
+      let a = behind-test u (step_ahead x side) h in
+      let b = lt-int_lt v (step_ahead y side) k in
       (λ i. if (if b i then (if a i then nw else ne) else (if a i then sw else se)) then f u v else 0)
 
-  pub in-sw : (u v : ℤ) → u <ℤ ahead x side → ahead y side ≤ℤ v → kept_cells u v ≡ (if sw then f u v else 0)
+  pub in-sw : (u v : ℤ) → u <ℤ step_ahead x side → step_ahead y side ≤ℤ v → kept_cells u v ≡ (if sw then f u v else 0)
   in-sw u v h k =
-      let a = lt-int_lt u (ahead x side) h in
-      let b = behind-test v (ahead y side) k in
+      let a = lt-int_lt u (step_ahead x side) h in
+      let b = behind-test v (step_ahead y side) k in
       (λ i. if (if b i then (if a i then nw else ne) else (if a i then sw else se)) then f u v else 0)
 
-  pub in-se : (u v : ℤ) → ahead x side ≤ℤ u → ahead y side ≤ℤ v → kept_cells u v ≡ (if se then f u v else 0)
+  pub in-se : (u v : ℤ) → step_ahead x side ≤ℤ u → step_ahead y side ≤ℤ v → kept_cells u v ≡ (if se then f u v else 0)
   in-se u v h k =
-      let a = behind-test u (ahead x side) h in
-      let b = behind-test v (ahead y side) k in
+      let a = behind-test u (step_ahead x side) h in
+      let b = behind-test v (step_ahead y side) k in
       (λ i. if (if b i then (if a i then nw else ne) else (if a i then sw else se)) then f u v else 0)
 
 -- a square that is kept, or a blank one for it, on a plane that has its cells, or none there
 kept-piece : (f g : ℤ → ℤ → ℕ) (content : Id → Tree) (k : ℕ) (keeps : Bool) (u v : ℤ) (id other result : Id) → content other ≡ blank k
     → IsFull (content id) → depth (content id) ≡ k → result ≡ (if keeps then id else other)
-    → ((i j : ℤ) → u ≤ℤ i → i <ℤ ahead u (2 ^ k) → v ≤ℤ j → j <ℤ ahead v (2 ^ k) → g i j ≡ (if keeps then f i j else 0))
+    → ((i j : ℤ) → u ≤ℤ i → i <ℤ step_ahead u (2 ^ k) → v ≤ℤ j → j <ℤ step_ahead v (2 ^ k) → g i j ≡ (if keeps then f i j else 0))
     → IsPiece f u v (content id) → IsPiece g u v (content result)
 kept-piece f g content k true u v id other result is full level e same p =
     subst (λ q. IsPiece g u v (content q)) (sym e) (is-piece g k u v (content id)
@@ -104,17 +105,18 @@ module _ (content : Id → Tree) (f : ℤ → ℤ → ℕ) (k : ℕ) (x y : ℤ)
 
   module _ (lc : columns < 2 ^ k) (lr : rows < 2 ^ k) (ma : AreMarginsOf (content q.nw) nw) (mb : AreMarginsOf (content q.ne) ne)
       (mc : AreMarginsOf (content q.sw) sw) (md : AreMarginsOf (content q.se) se) where
-    same-cell : (u v : ℤ) → ahead x columns ≤ℤ u → u <ℤ ahead (ahead x columns) (2 ^ k) → ahead y rows ≤ℤ v → v <ℤ ahead (ahead y rows) (2 ^ k)
+    same-cell : (u v : ℤ) → step_ahead x columns ≤ℤ u → u <ℤ step_ahead (step_ahead x columns) (2 ^ k) → step_ahead y rows ≤ℤ v
+        → v <ℤ step_ahead (step_ahead y rows) (2 ^ k)
         → seen_cells u v ≡ f u v
     same-cell u v w e n s =
-        by_lt_z u (ahead x (2 ^ k))
-        (λ lu. by_lt_z v (ahead y (2 ^ k))
+        by_lt_z u (step_ahead x (2 ^ k))
+        (λ lu. by_lt_z v (step_ahead y (2 ^ k))
         (λ lv. agrees a.keeps _ _ (in-nw f a.keeps b.keeps c.keeps d.keeps x y (2 ^ k) u v lu lv)
         (λ gone. missed _ k nw false false columns rows known.nw.1 ma (a.missed gone) f x y h.nw u v (first x columns u w lu) (first y rows v n lv) w n))
         (λ lv. agrees c.keeps _ _ (in-sw f a.keeps b.keeps c.keeps d.keeps x y (2 ^ k) u v lu lv)
         (λ gone. missed _ k sw false true columns rows known.sw.1 mc (c.missed gone) f x _ h.sw u v (first x columns u w lu) (last y rows v s lr lv) w
         (turned y rows v s))))
-        (λ lu. by_lt_z v (ahead y (2 ^ k))
+        (λ lu. by_lt_z v (step_ahead y (2 ^ k))
         (λ lv. agrees b.keeps _ _ (in-ne f a.keeps b.keeps c.keeps d.keeps x y (2 ^ k) u v lu lv)
         (λ gone. missed _ k ne true false columns rows known.ne.1 mb (b.missed gone) f _ y h.ne u v (last x columns u e lc lu) (first y rows v n lv)
         (turned x columns u e) n))
@@ -122,14 +124,15 @@ module _ (content : Id → Tree) (f : ℤ → ℤ → ℕ) (k : ℕ) (x y : ℤ)
         (λ gone. missed _ k se true true columns rows known.se.1 md (d.missed gone) f _ _ h.se u v (last x columns u e lc lu) (last y rows v s lr lv)
         (turned x columns u e) (turned y rows v s))))
       where
-        first : (z : ℤ) (n : ℕ) (u : ℤ) → ahead z n ≤ℤ u → u <ℤ ahead z (2 ^ k) → IsOnSide z (2 ^ k) u
+        first : (z : ℤ) (n : ℕ) (u : ℤ) → step_ahead z n ≤ℤ u → u <ℤ step_ahead z (2 ^ k) → IsOnSide z (2 ^ k) u
         first z n u w l = record { from = omega (arith, ints, w); to = l }
 
-        last : (z : ℤ) (n : ℕ) (u : ℤ) → u <ℤ ahead (ahead z n) (2 ^ k) → n < 2 ^ k → ahead z (2 ^ k) ≤ℤ u → IsOnSide (ahead z (2 ^ k)) (2 ^ k) u
+        last : (z : ℤ) (n : ℕ) (u : ℤ) → u <ℤ step_ahead (step_ahead z n) (2 ^ k) → n < 2 ^ k → step_ahead z (2 ^ k) ≤ℤ u
+            → IsOnSide (step_ahead z (2 ^ k)) (2 ^ k) u
         last z n u e l w = record { from = w; to = omega (arith, ints, e, l) }
 
-        turned : (z : ℤ) (n : ℕ) (u : ℤ) → u <ℤ ahead (ahead z n) (2 ^ k) → u <ℤ ahead (ahead z (2 ^ k)) n
+        turned : (z : ℤ) (n : ℕ) (u : ℤ) → u <ℤ step_ahead (step_ahead z n) (2 ^ k) → u <ℤ step_ahead (step_ahead z (2 ^ k)) n
         turned z n u e = omega (arith, ints, e)
 
-    pub seen-same : square_from seen_cells k (ahead x columns) (ahead y rows) ≡ square_from f k (ahead x columns) (ahead y rows)
+    pub seen-same : square_from seen_cells k (step_ahead x columns) (step_ahead y rows) ≡ square_from f k (step_ahead x columns) (step_ahead y rows)
     seen-same = square-agrees seen_cells f k _ _ same-cell

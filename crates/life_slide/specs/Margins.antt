@@ -4,7 +4,7 @@ use Rattle.life_base.specs.Tree.{Tree, depth}
 use Rattle.life_quad.specs.declared.id.Id.{Id}
 use Rattle.life_quad.specs.declared.moves.Quarters.{Quarters}
 use Rattle.life_block.specs.Needed.{square_from}
-use Rattle.life_block.specs.Pieces.{IsPiece, ahead}
+use Rattle.life_block.specs.Pieces.{IsPiece, step_ahead}
 use Rattle.life_slide.specs.declared.margins.Margins.{Margins}
 use Rattle.life_slide.specs.declared.margins.MarginTable.{MarginTable}
 use Rattle.life_slide.specs.Pieces.{IsBlock}
@@ -12,14 +12,14 @@ use Rattle.life_slide.specs.Pieces.{IsBlock}
 -- a column or a row of a square with this side length that begins at a place
 pub record IsOnSide (place : ℤ) (side : ℕ) (u : ℤ) : Type 0 where
   pub from : place ≤ℤ u
-  pub to : u <ℤ ahead place side
+  pub to : u <ℤ step_ahead place side
 
 -- the square with this side length that begins in the column x and the row y has state 0 in so many columns or rows along each of its sides
 pub record AreMarginsAt (cells : ℤ → ℤ → ℕ) (x y : ℤ) (side : ℕ) (m : Margins) : Type 0 where
-  pub west : (u v : ℤ) → IsOnSide x side u → IsOnSide y side v → u <ℤ ahead x m.west → cells u v ≡ 0
-  pub north : (u v : ℤ) → IsOnSide x side u → IsOnSide y side v → v <ℤ ahead y m.north → cells u v ≡ 0
-  pub east : (u v : ℤ) → IsOnSide x side u → IsOnSide y side v → ahead x side ≤ℤ ahead u m.east → cells u v ≡ 0
-  pub south : (u v : ℤ) → IsOnSide x side u → IsOnSide y side v → ahead y side ≤ℤ ahead v m.south → cells u v ≡ 0
+  pub west : (u v : ℤ) → IsOnSide x side u → IsOnSide y side v → u <ℤ step_ahead x m.west → cells u v ≡ 0
+  pub north : (u v : ℤ) → IsOnSide x side u → IsOnSide y side v → v <ℤ step_ahead y m.north → cells u v ≡ 0
+  pub east : (u v : ℤ) → IsOnSide x side u → IsOnSide y side v → step_ahead x side ≤ℤ step_ahead u m.east → cells u v ≡ 0
+  pub south : (u v : ℤ) → IsOnSide x side u → IsOnSide y side v → step_ahead y side ≤ℤ step_ahead v m.south → cells u v ≡ 0
 
 -- so it is wherever on a plane the square is
 abbrev pub AreMarginsOf : Tree → Margins → Type 0
@@ -60,4 +60,5 @@ pub record IsSeenOrOther (east south : Bool) (columns rows side : ℕ) (m : Marg
 pub record IsSeenAs (content : Id → Tree) (cells : ℤ → ℤ → ℕ) (columns rows k : ℕ) (x y : ℤ) (block : Quarters) : Type 0 where
   pub other : ℤ → ℤ → ℕ
   pub are : IsBlock content other (2 ^ k) x y block
-  pub same : square_from other k (ahead x (columns % 2 ^ k)) (ahead y (rows % 2 ^ k)) ≡ square_from cells k (ahead x (columns % 2 ^ k)) (ahead y (rows % 2 ^ k))
+  pub same : square_from other k (step_ahead x (columns % 2 ^ k)) (step_ahead y (rows % 2 ^ k))
+      ≡ square_from cells k (step_ahead x (columns % 2 ^ k)) (step_ahead y (rows % 2 ^ k))

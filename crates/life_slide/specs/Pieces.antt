@@ -3,21 +3,21 @@ use Rattle.std.specs.Prelude.{◌≡◌, ℕ, ◌+◌, ◌-◌, ◌*◌, ◌%◌
 use Rattle.std.specs.Int.{bit_at}
 use Rattle.life_base.specs.Tree.{Tree, tree_cell}
 use Rattle.life_base.specs.declared.cell.TheConstants.{MAX_LEVEL}
-use Rattle.life_quad.specs.Moves.{trimmed}
+use Rattle.life_quad.specs.Moves.{trimmed_square}
 use Rattle.life_quad.specs.declared.id.Id.{Id}
 use Rattle.life_quad.specs.declared.moves.Quarters.{Quarters}
 use Rattle.life_block.specs.Needed.{square_from}
-use Rattle.life_block.specs.Pieces.{IsPiece, ahead}
+use Rattle.life_block.specs.Pieces.{IsPiece, step_ahead}
 use Rattle.life_slide.specs.declared.grid.Three.{Three}
 use Rattle.life_slide.specs.declared.grid.Four.{Four}
 
 -- three rows of three squares
-abbrev pub Nine : Type 0
-Nine = Three (Three Id)
+abbrev pub NineSquares : Type 0
+NineSquares = Three (Three Id)
 
 -- four values side by side
-abbrev pub four_of : {T : Type 0} → T → T → T → T → Four T
-four_of a b c d = record { first = a; second = b; third = c; fourth = d }
+abbrev pub four_values : {T : Type 0} → T → T → T → T → Four T
+four_values a b c d = record { first = a; second = b; third = c; fourth = d }
 
 -- the last three of four, or the first three
 abbrev pub three_from : {T : Type 0} → Bool → Four T → Three T
@@ -27,22 +27,22 @@ three_from last four =
 
 -- where they begin
 abbrev pub start : Bool → ℤ → ℕ → ℤ
-start last place side = if last then ahead place side else place
+start last place side = if last then step_ahead place side else place
 
 -- the four western and the four eastern squares of two rows of three
-abbrev pub western : Three Id → Three Id → Quarters
-western north south = record { nw = north.first; ne = north.second; sw = south.first; se = south.second }
+abbrev pub western_quarters : Three Id → Three Id → Quarters
+western_quarters north south = record { nw = north.first; ne = north.second; sw = south.first; se = south.second }
 
-abbrev pub eastern : Three Id → Three Id → Quarters
-eastern north south = record { nw = north.second; ne = north.third; sw = south.second; se = south.third }
+abbrev pub eastern_quarters : Three Id → Three Id → Quarters
+eastern_quarters north south = record { nw = north.second; ne = north.third; sw = south.second; se = south.third }
 
 -- each of the values has a property
-pub record InThree {T : Type 0} (P : T → Type 0) (three : Three T) : Type 0 where
+pub record AllOfThree {T : Type 0} (P : T → Type 0) (three : Three T) : Type 0 where
   pub first : P three.first
   pub second : P three.second
   pub third : P three.third
 
-pub record InFour {T : Type 0} (P : T → Type 0) (four : Four T) : Type 0 where
+pub record AllOfFour {T : Type 0} (P : T → Type 0) (four : Four T) : Type 0 where
   pub first : P four.first
   pub second : P four.second
   pub third : P four.third
@@ -54,42 +54,42 @@ pub record InBlock (P : Id → Type 0) (block : Quarters) : Type 0 where
   pub sw : P block.sw
   pub se : P block.se
 
-abbrev pub InNine : (Id → Type 0) → Nine → Type 0
-InNine P = InThree (InThree P)
+abbrev pub AllOfNine : (Id → Type 0) → NineSquares → Type 0
+AllOfNine P = AllOfThree (AllOfThree P)
 
 -- each of the values has a property of its place: the first is at this one, and each of the others a side length further
 module _ {T : Type 0} (P : ℤ → T → Type 0) (side : ℕ) (place : ℤ) where
-  pub record AreThreeAt (three : Three T) : Type 0 where
+  pub record AreThreeAlong (three : Three T) : Type 0 where
     pub first : P place three.first
-    pub second : P (ahead place side) three.second
-    pub third : P (ahead (ahead place side) side) three.third
+    pub second : P (step_ahead place side) three.second
+    pub third : P (step_ahead (step_ahead place side) side) three.third
 
-  pub record AreFourAt (four : Four T) : Type 0 where
+  pub record AreFourAlong (four : Four T) : Type 0 where
     pub first : P place four.first
-    pub second : P (ahead place side) four.second
-    pub third : P (ahead (ahead place side) side) four.third
-    pub fourth : P (ahead (ahead (ahead place side) side) side) four.fourth
+    pub second : P (step_ahead place side) four.second
+    pub third : P (step_ahead (step_ahead place side) side) four.third
+    pub fourth : P (step_ahead (step_ahead (step_ahead place side) side) side) four.fourth
 
 -- squares of one side length as pieces of the plane, of which the north-western one begins in the column x and the row y
 module _ (content : Id → Tree) (cells : ℤ → ℤ → ℕ) (side : ℕ) (x : ℤ) where
-  abbrev pub AreThree : ℤ → Three Id → Type 0
-  AreThree y = AreThreeAt (λ column id. IsPiece cells column y (content id)) side x
+  abbrev pub AreThreePieces : ℤ → Three Id → Type 0
+  AreThreePieces y = AreThreeAlong (λ column id. IsPiece cells column y (content id)) side x
 
-  abbrev pub AreNine : ℤ → Nine → Type 0
-  AreNine = AreThreeAt AreThree side
+  abbrev pub AreNinePieces : ℤ → NineSquares → Type 0
+  AreNinePieces = AreThreeAlong AreThreePieces side
 
-  abbrev pub AreFour : ℤ → Four Id → Type 0
-  AreFour y = AreFourAt (λ column id. IsPiece cells column y (content id)) side x
+  abbrev pub AreFourPieces : ℤ → Four Id → Type 0
+  AreFourPieces y = AreFourAlong (λ column id. IsPiece cells column y (content id)) side x
 
   pub record AreTwo (y : ℤ) (a b : Id) : Type 0 where
     pub west : IsPiece cells x y (content a)
-    pub east : IsPiece cells (ahead x side) y (content b)
+    pub east : IsPiece cells (step_ahead x side) y (content b)
 
   pub record IsBlock (y : ℤ) (block : Quarters) : Type 0 where
     pub nw : IsPiece cells x y (content block.nw)
-    pub ne : IsPiece cells (ahead x side) y (content block.ne)
-    pub sw : IsPiece cells x (ahead y side) (content block.sw)
-    pub se : IsPiece cells (ahead x side) (ahead y side) (content block.se)
+    pub ne : IsPiece cells (step_ahead x side) y (content block.ne)
+    pub sw : IsPiece cells x (step_ahead y side) (content block.sw)
+    pub se : IsPiece cells (step_ahead x side) (step_ahead y side) (content block.se)
 
 -- the word has the states of eight rows of eight cells from the column x and the row y on, the north-western one in the highest bit
 abbrev pub HasRows : (ℤ → ℤ → ℕ) → ℤ → ℤ → ℕ → Type 0
@@ -101,8 +101,8 @@ pub record HasBlockAt (content : Id → Tree) (cells : ℤ → ℤ → ℕ) (col
   pub west : ℤ
   pub north : ℤ
   pub are : IsBlock content cells (2 ^ k) west north block
-  pub column : ahead west (columns % 2 ^ k) ≡ x
-  pub row : ahead north (rows % 2 ^ k) ≡ y
+  pub column : step_ahead west (columns % 2 ^ k) ≡ x
+  pub row : step_ahead north (rows % 2 ^ k) ≡ y
 
 -- a square in one corner of four, and another one everywhere else
 abbrev pub in_corner : Bool → Bool → Id → Id → Quarters
@@ -112,7 +112,7 @@ in_corner false true id other = record { nw = other; ne = other; sw = id; se = o
 in_corner true true id other = record { nw = other; ne = other; sw = other; se = id }
 
 -- a square of level k that begins there meets the square of level k about the middle of the plane
-pub record IsNear (k : ℕ) (place : ℤ) : Type 0 where
+pub record IsNearMiddle (k : ℕ) (place : ℤ) : Type 0 where
   pub low : neg_ℤ (pos (2 ^ (k - 1) + 2 ^ (k - 1) + 2 ^ (k - 1))) ≤ℤ place
   pub high : place <ℤ pos (2 ^ (k - 1))
 
@@ -127,4 +127,4 @@ plane_from t columns rows =
 
 -- the same plane, trimmed, but not below this level
 abbrev pub root_from : Tree → ℤ → ℤ → ℕ → Tree
-root_from t columns rows least = trimmed (plane_from t columns rows) least
+root_from t columns rows least = trimmed_square (plane_from t columns rows) least

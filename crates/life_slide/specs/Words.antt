@@ -1,12 +1,12 @@
 -- The words of the contracts of this crate.
 pub use Rattle.life_base.specs.declared.cell.TheConstants.{MAX_LEVEL}
 pub use Rattle.life_base.specs.Tree.{depth, is_blank_tree, Tree, tree_cell}
-pub use Rattle.life_block.specs.Bits.{HasSquare}
+pub use Rattle.life_block.specs.Bits.{HasSquareBits}
 pub use Rattle.life_block.specs.Needed.{square_from}
-pub use Rattle.life_block.specs.Pieces.{ahead, IsAt, IsPiece}
+pub use Rattle.life_block.specs.Pieces.{step_ahead, IsOfLevel, IsPiece}
 pub use Rattle.life_lanes.specs.Places.{place_in}
-pub use Rattle.life_quad.specs.Cells.{IsLeastBox}
-pub use Rattle.life_quad.specs.Grows.{IsWantOf, Keeps}
+pub use Rattle.life_quad.specs.Cells.{IsBoundingBoxOfTree}
+pub use Rattle.life_quad.specs.Grows.{IsShortageIn, KeepsStore}
 pub use Rattle.life_quad.specs.Keeping.{AddsOnly}
 pub use Rattle.life_quad.specs.Memory.{Recalls}
 pub use Rattle.life_quad.specs.Refused.{SomePart}
@@ -14,7 +14,7 @@ pub use Rattle.life_quad.specs.Store.{four}
 pub use Rattle.life_quad.specs.declared.id.Id.{Id as IdValue}
 pub use Rattle.life_quad.specs.declared.moves.Quarters.{Quarters as QuartersValue}
 pub use Rattle.life_slide.specs.Margins.{AreMarginsOfFour, AreMargins, AreMarginsOf, IsAlong, IsSeenOrOther, IsSeenAs, Misses}
-pub use Rattle.life_slide.specs.Needed.{own_square_at, SomeOfBlock, SomeOfNine}
-pub use Rattle.life_slide.specs.Pieces.{AreFour, AreNine, AreTwo, eastern, four_of, HasBlockAt, HasRows, in_corner, InBlock, InFour, InNine, InThree, IsBlock, IsNear, plane_from, root_from, start, three_from, western}
-pub use Rattle.life_slide.specs.Remembered.{ids_of, IsAnswer, Remembers}
+pub use Rattle.life_slide.specs.Needed.{own_square_at, SomeOfBlock, SomeOfNineSquares}
+pub use Rattle.life_slide.specs.Pieces.{AreFourPieces, AreNinePieces, AreTwo, eastern_quarters, four_values, HasBlockAt, HasRows, in_corner, InBlock, AllOfFour, AllOfNine, AllOfThree, IsBlock, IsNearMiddle, plane_from, root_from, start, three_from, western_quarters}
+pub use Rattle.life_slide.specs.Remembered.{ids_of_quarters, IsSlideAnswer, RemembersSlides}
 pub use Rattle.std.specs.Int.{bit_at}

@@ -1,6 +1,6 @@
 //! Squares of one level side by side.
 ghost use Rattle.std.specs.Prelude.{◌≡◌, ℕ, ℤ, ◌+◌, ◌^◌, true};
-ghost use Rattle.life_slide.specs.Words.{IsAt, InThree, InFour, InNine, InBlock, IsBlock, AreNine, AreFour, AreTwo, ahead, start, four_of, three_from, western, eastern, ids_of};
+ghost use Rattle.life_slide.specs.Words.{IsOfLevel, AllOfThree, AllOfFour, AllOfNine, InBlock, IsBlock, AreNinePieces, AreFourPieces, AreTwo, step_ahead, start, four_values, three_from, western_quarters, eastern_quarters, ids_of_quarters};
 
 use life_quad::{Id, Quarters, Squares, divide};
 
@@ -27,7 +27,7 @@ pub(crate) type Nine = Three<Three<Id>>;
 impl<T: Copy> Four<T> {
     // These four, in order.
     fn of(first: T, second: T, third: T, fourth: T) -> Four<T>
-        ensures { result ≡ four_of first second third fourth }
+        ensures { result ≡ four_values first second third fourth }
     {
         Four {
             first,
@@ -60,16 +60,19 @@ impl<T: Copy> Four<T> {
 // The northern halves of two squares side by side, and their southern halves.
 #[inline(always)]
 fn halves<S: Squares>(squares: &S, level: u8, west: Id, east: Id) -> (Four<Id>, Four<Id>)
-    requires west { IsAt (S.knows squares.now) (S.content squares.now) (level + 1) west }
-    requires east { IsAt (S.knows squares.now) (S.content squares.now) (level + 1) east }
-    ensures northern { InFour (IsAt (S.knows squares.now) (S.content squares.now) level) result.0 }
-    ensures southern { InFour (IsAt (S.knows squares.now) (S.content squares.now) level) result.1 }
+    requires west { IsOfLevel (S.knows squares.now) (S.content squares.now) (level + 1) west }
+    requires east { IsOfLevel (S.knows squares.now) (S.content squares.now) (level + 1) east }
+    ensures northern { AllOfFour (IsOfLevel (S.knows squares.now) (S.content squares.now) level)
+        result.0 }
+    ensures southern { AllOfFour (IsOfLevel (S.knows squares.now) (S.content squares.now) level)
+        result.1 }
     ensures north { (cells : ℤ → ℤ → ℕ) (x y : ℤ)
         → AreTwo (S.content squares.now) cells (2 ^ (level + 1)) x y west east
-        → AreFour (S.content squares.now) cells (2 ^ level) x y result.0 }
+        → AreFourPieces (S.content squares.now) cells (2 ^ level) x y result.0 }
     ensures south { (cells : ℤ → ℤ → ℕ) (x y : ℤ)
         → AreTwo (S.content squares.now) cells (2 ^ (level + 1)) x y west east
-        → AreFour (S.content squares.now) cells (2 ^ level) x (ahead y (2 ^ level)) result.1 }
+        → AreFourPieces (S.content squares.now) cells (2 ^ level) x (step_ahead y (2 ^ level))
+        result.1 }
 {
     let west = divide(squares, west);
     let east = divide(squares, east);
@@ -87,11 +90,13 @@ pub(crate) fn quarters<S: Squares>(
     east: bool,
     south: bool,
 ) -> Nine
-    requires { InBlock (IsAt (S.knows squares.now) (S.content squares.now) (level + 1)) block.now }
-    ensures known { InNine (IsAt (S.knows squares.now) (S.content squares.now) level) result }
+    requires { InBlock (IsOfLevel (S.knows squares.now) (S.content squares.now) (level + 1))
+        block.now }
+    ensures known { AllOfNine (IsOfLevel (S.knows squares.now) (S.content squares.now) level)
+        result }
     ensures pieces { (cells : ℤ → ℤ → ℕ) (x y : ℤ)
         → IsBlock (S.content squares.now) cells (2 ^ (level + 1)) x y block.now
-        → AreNine (S.content squares.now) cells (2 ^ level) (start east x (2 ^ level))
+        → AreNinePieces (S.content squares.now) cells (2 ^ level) (start east x (2 ^ level))
         (start south y (2 ^ level)) result }
 {
     let (a, b) = halves(squares, level, block.nw, block.ne);
@@ -102,7 +107,7 @@ pub(crate) fn quarters<S: Squares>(
 
 // The four western squares of two rows of three.
 pub(crate) fn western(north: &Three<Id>, south: &Three<Id>) -> Quarters
-    ensures { result ≡ western north.now south.now }
+    ensures { result ≡ western_quarters north.now south.now }
 {
     Quarters {
         nw: north.first,
@@ -114,7 +119,7 @@ pub(crate) fn western(north: &Three<Id>, south: &Three<Id>) -> Quarters
 
 // The four eastern ones.
 pub(crate) fn eastern(north: &Three<Id>, south: &Three<Id>) -> Quarters
-    ensures { result ≡ eastern north.now south.now }
+    ensures { result ≡ eastern_quarters north.now south.now }
 {
     Quarters {
         nw: north.second,
@@ -138,7 +143,7 @@ pub(crate) fn are_all(block: &Quarters, id: Id) -> bool
 
 /// The four squares as nine Ids, for a memory of nine: the first again in place of the other five.
 pub(crate) fn ids(block: &Quarters) -> [Id; 9]
-    ensures { result ≡ ids_of block.now }
+    ensures { result ≡ ids_of_quarters block.now }
 {
     let Quarters { nw, ne, sw, se } = *block;
     [nw, ne, sw, se, nw, nw, nw, nw, nw]

@@ -1,6 +1,6 @@
 //! Four squares of level 2, two by two, as a word of their 64 cells.
 ghost use Rattle.std.specs.Prelude.{◌≡◌, ℕ, ℤ, ◌+◌, ◌-◌, ◌*◌, ◌%◌, ◌<◌, IfSome};
-ghost use Rattle.life_slide.specs.Words.{bit_at, place_in, HasSquare, HasRows, IsBlock, InBlock, IsAt, ahead, four};
+ghost use Rattle.life_slide.specs.Words.{bit_at, place_in, HasSquareBits, HasRows, IsBlock, InBlock, IsOfLevel, step_ahead, four};
 
 use crate::slide::Offset;
 use life_lanes::{by_quarters, by_rows};
@@ -26,7 +26,7 @@ fn cells_in<S: Squares>(squares: &S, id: Id) -> Option<u64>
 
 // The eight rows of the cells of four squares of level 2, where the store gives them.
 fn rows_of<S: Squares>(squares: &S, block: &Quarters) -> Option<u64>
-    requires { InBlock (IsAt (S.knows squares.now) (S.content squares.now) 2) block.now }
+    requires { InBlock (IsOfLevel (S.knows squares.now) (S.content squares.now) 2) block.now }
     ensures { IfSome result (λ rows. (cells : ℤ → ℤ → ℕ) (x y : ℤ)
         → IsBlock (S.content squares.now) cells 4 x y block.now → HasRows cells x y rows) }
 {
@@ -42,7 +42,7 @@ fn cells_at(rows: u64, east: u64, south: u64) -> u16
     requires east { east < 4 }
     requires south { south < 4 }
     ensures { (cells : ℤ → ℤ → ℕ) (x y : ℤ) → HasRows cells x y rows
-        → HasSquare cells (ahead x east) (ahead y south) result }
+        → HasSquareBits cells (step_ahead x east) (step_ahead y south) result }
 {
     first_square(rows << (8 * south + east))
 }
@@ -54,12 +54,14 @@ pub(crate) fn leaf_cells<S: Squares>(
     level: u8,
     block: &Quarters,
 ) -> Option<u16>
-    requires known { InBlock (IsAt (S.knows squares.now) (S.content squares.now) level) block.now }
+    requires known { InBlock (IsOfLevel (S.knows squares.now) (S.content squares.now) level)
+        block.now }
     ensures small { IfSome result (λ n. n < 65536) }
     ensures level { IfSome result (λ _. level ≡ 2) }
     ensures cells { IfSome result (λ n. (cells : ℤ → ℤ → ℕ) (x y : ℤ)
         → IsBlock (S.content squares.now) cells 4 x y block.now
-        → HasSquare cells (ahead x (offset.columns % 4)) (ahead y (offset.rows % 4)) n) }
+        → HasSquareBits cells (step_ahead x (offset.columns % 4)) (step_ahead y (offset.rows % 4))
+        n) }
 {
     if level != 2 {
         return None;

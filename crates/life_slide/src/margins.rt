@@ -1,6 +1,6 @@
 //! Columns and rows along the sides of a square in which it has no cell.
 ghost use Rattle.std.specs.Prelude.{◌≡◌, ◌+◌, ◌-◌, ◌^◌, ◌<◌, ◌≤◌, min, true, IfOk, IfSome};
-ghost use Rattle.life_slide.specs.Words.{MAX_LEVEL, Tree, IdValue, IsAt, AreMarginsOfFour, AreMargins, AreMarginsOf, Misses, IsSeenOrOther};
+ghost use Rattle.life_slide.specs.Words.{MAX_LEVEL, Tree, IdValue, IsOfLevel, AreMarginsOfFour, AreMargins, AreMarginsOf, Misses, IsSeenOrOther};
 
 use crate::grid::has;
 use crate::slide::Offset;
@@ -132,7 +132,7 @@ fn find<S: Squares>(
     id: Id,
     known: &mut MarginTable,
 ) -> Result<Margins, Kind>
-    requires at { IsAt (S.knows squares.now) (S.content squares.now) level id }
+    requires at { IsOfLevel (S.knows squares.now) (S.content squares.now) level id }
     requires high { level ≤ MAX_LEVEL }
     requires right { AreMargins (S.content squares.now) known.old }
     ensures margins { IfOk result (AreMarginsOf (S.content squares.now id)) }
@@ -170,7 +170,7 @@ pub(crate) fn margins_of<S: Squares>(
     known: &mut MarginTable,
     are_wanted: bool,
 ) -> Margins
-    requires at { IsAt (S.knows squares.now) (S.content squares.now) level id }
+    requires at { IsOfLevel (S.knows squares.now) (S.content squares.now) level id }
     requires high { level ≤ MAX_LEVEL }
     requires right { AreMargins (S.content squares.now) known.old }
     ensures margins { AreMarginsOf (S.content squares.now id) result }

@@ -1,6 +1,6 @@
 //! Squares, moved on the plane.
 ghost use Rattle.std.specs.Prelude.{◌≡◌, ◌⊎◌, pos, neg_ℤ, ◌+ℤ◌, ◌<ℤ◌, ◌≤ℤ◌, ◌+◌, ◌-◌, ◌^◌, ◌<◌, ◌≤◌, IfOk, IfErr, OnErr};
-ghost use Rattle.life_slide.specs.Words.{MAX_LEVEL, SomePart, depth, IsLeastBox, plane_from, root_from, IsNear, AddsOnly, Keeps, IsWantOf};
+ghost use Rattle.life_slide.specs.Words.{MAX_LEVEL, SomePart, depth, IsBoundingBoxOfTree, plane_from, root_from, IsNearMiddle, AddsOnly, KeepsStore, IsShortageIn};
 
 use crate::plane::square_at;
 use life_base::{Bounds, Kind, MAX_LEVEL};
@@ -59,7 +59,7 @@ pub fn moved_to_middle<S: SharedSquares, T: Squares>(
     least: u8,
 ) -> Result<Id, Kind>
     requires known { S.knows from.now id }
-    requires bounds { IsLeastBox (S.content from.now id) found.now }
+    requires bounds { IsBoundingBoxOfTree (S.content from.now id) found.now }
     requires columns { found.now.right <ℤ (found.now.left +ℤ pos (2 ^ 61)) }
     requires rows { found.now.bottom <ℤ (found.now.top +ℤ pos (2 ^ 61)) }
     requires positive { 1 ≤ least }
@@ -67,8 +67,8 @@ pub fn moved_to_middle<S: SharedSquares, T: Squares>(
     ensures known { IfOk result (T.knows to.new) }
     ensures square { IfOk result (λ r. T.content to.new r
         ≡ root_from (S.content from.now id) found.now.left found.now.top least) }
-    ensures keeps { Keeps T.Squares to.old to.new }
-    ensures refusals { IfErr result (IsWantOf T.Squares to.new) }
+    ensures keeps { KeepsStore T.Squares to.old to.new }
+    ensures refusals { IfErr result (IsShortageIn T.Squares to.new) }
     ensures needed { OnErr result (SomePart (T.needs_node to.new)
         (root_from (S.content from.now id) found.now.left found.now.top least)) }
     ensures adds { AddsOnly T.stored (λ P. SomePart P
@@ -98,13 +98,13 @@ pub fn moved_on_plane<S: SharedSquares, T: Squares>(
 ) -> Result<Id, Kind>
     requires known { S.knows from.now id }
     requires whole { depth (S.content from.now id) ≡ MAX_LEVEL }
-    requires column { IsNear MAX_LEVEL (neg_ℤ (pos (2 ^ 61)) +ℤ neg_ℤ columns) }
-    requires row { IsNear MAX_LEVEL (neg_ℤ (pos (2 ^ 61)) +ℤ neg_ℤ rows) }
+    requires column { IsNearMiddle MAX_LEVEL (neg_ℤ (pos (2 ^ 61)) +ℤ neg_ℤ columns) }
+    requires row { IsNearMiddle MAX_LEVEL (neg_ℤ (pos (2 ^ 61)) +ℤ neg_ℤ rows) }
     ensures known { IfOk result (T.knows to.new) }
     ensures square { IfOk result (λ r. T.content to.new r
         ≡ plane_from (S.content from.now id) (neg_ℤ columns) (neg_ℤ rows)) }
-    ensures keeps { Keeps T.Squares to.old to.new }
-    ensures refusals { IfErr result (IsWantOf T.Squares to.new) }
+    ensures keeps { KeepsStore T.Squares to.old to.new }
+    ensures refusals { IfErr result (IsShortageIn T.Squares to.new) }
     ensures needed { OnErr result (SomePart (T.needs_node to.new)
         (plane_from (S.content from.now id) (neg_ℤ columns) (neg_ℤ rows))) }
     ensures adds { AddsOnly T.stored (λ P. SomePart P

@@ -1,6 +1,6 @@
 //! A square of the plane of a square.
 ghost use Rattle.std.specs.Prelude.{◌≡◌, ◌≢◌, ℕ, ℤ, pos, neg_ℤ, ◌+ℤ◌, ◌<ℤ◌, suc, ◌+◌, ◌-◌, ◌^◌, ◌<◌, ◌≤◌, true, false, IfOk, IfErr, OnErr};
-ghost use Rattle.life_slide.specs.Words.{MAX_LEVEL, SomePart, depth, tree_cell, IsPiece, IsAt, own_square_at, in_corner, IsNear, AddsOnly, Keeps, IsWantOf};
+ghost use Rattle.life_slide.specs.Words.{MAX_LEVEL, SomePart, depth, tree_cell, IsPiece, IsOfLevel, own_square_at, in_corner, IsNearMiddle, AddsOnly, KeepsStore, IsShortageIn};
 
 use crate::margins::half_side;
 use crate::slide::{Offset, slid, window};
@@ -13,7 +13,7 @@ use std::alloc::Global;
 fn placed(place: i64, level: u8) -> (bool, u64)
     requires low { 1 ≤ level }
     requires high { level ≤ MAX_LEVEL }
-    requires near { IsNear level place }
+    requires near { IsNearMiddle level place }
     ensures first { result.0 ≡ false → pos result.1 ≡ (place +ℤ pos (2 ^ (level - 1))) }
     ensures second { result.0 ≡ true
         → pos result.1 ≡ (place +ℤ pos (2 ^ (level - 1) + 2 ^ (level - 1) + 2 ^ (level - 1))) }
@@ -58,13 +58,13 @@ pub fn square_at<S: SharedSquares, T: Squares>(
     requires known { S.knows from.now id }
     requires high { 1 ≤ depth (S.content from.now id) }
     requires low { level ≤ depth (S.content from.now id) }
-    requires column { IsNear (depth (S.content from.now id)) x }
-    requires row { IsNear (depth (S.content from.now id)) y }
-    ensures at { IfOk result (IsAt (T.knows to.new) (T.content to.new) level) }
+    requires column { IsNearMiddle (depth (S.content from.now id)) x }
+    requires row { IsNearMiddle (depth (S.content from.now id)) y }
+    ensures at { IfOk result (IsOfLevel (T.knows to.new) (T.content to.new) level) }
     ensures square { IfOk result
         (λ r. IsPiece (tree_cell (S.content from.now id)) x y (T.content to.new r)) }
-    ensures keeps { Keeps T.Squares to.old to.new }
-    ensures refusals { IfErr result (IsWantOf T.Squares to.new) }
+    ensures keeps { KeepsStore T.Squares to.old to.new }
+    ensures refusals { IfErr result (IsShortageIn T.Squares to.new) }
     ensures needed { OnErr result (SomePart (T.needs_node to.new)
         (own_square_at (S.content from.now id) level x y)) }
     ensures adds { AddsOnly T.stored

@@ -1,6 +1,6 @@
 //! The answers of earlier calls for the same four squares.
 ghost use Rattle.std.specs.Prelude.{◌≡◌, ◌⊎◌, IfSome};
-ghost use Rattle.life_slide.specs.Words.{Recalls, IdValue, QuartersValue, ids_of};
+ghost use Rattle.life_slide.specs.Words.{Recalls, IdValue, QuartersValue, ids_of_quarters};
 
 use crate::grid::ids;
 use life_quad::{Id, NeighbourhoodMemory, Quarters};
@@ -15,7 +15,7 @@ fn is_kept(level: u8) -> bool {
 
 /// The answer that is remembered for four squares of this level.
 pub(crate) fn recalled(memory: &mut NeighbourhoodMemory, level: u8, block: &Quarters) -> Option<Id>
-    ensures answer { IfSome result (Recalls memory.old (ids_of block.now)) }
+    ensures answer { IfSome result (Recalls memory.old (ids_of_quarters block.now)) }
     ensures same { memory.new ≡ memory.old }
 {
     if !is_kept(level) {
@@ -26,8 +26,10 @@ pub(crate) fn recalled(memory: &mut NeighbourhoodMemory, level: u8, block: &Quar
 
 /// Remembers the answer for four squares of this level.
 pub(crate) fn remember(memory: &mut NeighbourhoodMemory, level: u8, block: &Quarters, answer: Id)
-    ensures { (other : QuartersValue) (next : IdValue) → Recalls memory.new (ids_of other) next
-        → Recalls memory.old (ids_of other) next ⊎ ((other ≡ block.now) × (next ≡ answer)) }
+    ensures { (other : QuartersValue) (next : IdValue)
+        → Recalls memory.new (ids_of_quarters other) next
+        → Recalls memory.old (ids_of_quarters other) next
+        ⊎ ((other ≡ block.now) × (next ≡ answer)) }
 {
     if !is_kept(level) {
         return;

@@ -1,6 +1,6 @@
 //! Which of four squares are seen.
 ghost use Rattle.std.specs.Prelude.{◌≡◌, ℕ, ℤ, ◌^◌, ◌%◌, ◌≤◌, ◌<◌};
-ghost use Rattle.life_slide.specs.Words.{MAX_LEVEL, IsAt, InBlock, IsBlock, AreMargins, IsSeenAs};
+ghost use Rattle.life_slide.specs.Words.{MAX_LEVEL, IsOfLevel, InBlock, IsBlock, AreMargins, IsSeenAs};
 
 use crate::grid::has;
 use crate::margins::{LEAST_LEVEL, MarginTable, margins_of, seen_or_other};
@@ -28,10 +28,11 @@ pub(crate) fn seen<S: Squares>(
     level: u8,
     block: &Quarters,
 ) -> Quarters
-    requires known { InBlock (IsAt (S.knows squares.now) (S.content squares.now) level) block.now }
+    requires known { InBlock (IsOfLevel (S.knows squares.now) (S.content squares.now) level)
+        block.now }
     requires high { level ≤ MAX_LEVEL }
     requires right { AreMargins (S.content squares.now) margins.old }
-    ensures known { InBlock (IsAt (S.knows squares.now) (S.content squares.now) level) result }
+    ensures known { InBlock (IsOfLevel (S.knows squares.now) (S.content squares.now) level) result }
     ensures seen { (cells : ℤ → ℤ → ℕ) (x y : ℤ)
         → IsBlock (S.content squares.now) cells (2 ^ level) x y block.now
         → IsSeenAs (S.content squares.now) cells offset.columns offset.rows level x y result }

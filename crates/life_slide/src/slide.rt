@@ -1,6 +1,6 @@
 //! The square that begins at another place.
 ghost use Rattle.std.specs.Prelude.{◌≡◌, ℕ, ℤ, ◌+◌, ◌^◌, ◌%◌, ◌/◌, ◌==◌, ◌<◌, ◌≤◌, IfOk, IfErr, OnErr};
-ghost use Rattle.life_slide.specs.Words.{MAX_LEVEL, SomeOfBlock, SomeOfNine, Remembers, IsPiece, IsAt, InBlock, InNine, IsBlock, AreNine, HasBlockAt, ahead, AreMargins, AddsOnly, Keeps, IsWantOf};
+ghost use Rattle.life_slide.specs.Words.{MAX_LEVEL, SomeOfBlock, SomeOfNineSquares, RemembersSlides, IsPiece, IsOfLevel, InBlock, AllOfNine, IsBlock, AreNinePieces, HasBlockAt, step_ahead, AreMargins, AddsOnly, KeepsStore, IsShortageIn};
 
 use crate::grid::{Nine, are_all, eastern, quarters, western};
 use crate::leaf::leaf_cells;
@@ -39,21 +39,22 @@ fn slid_of<S: Squares, T: Squares>(
     level: u8,
     block: &Quarters,
 ) -> Result<Id, Kind>
-    requires remembers { Remembers (S.knows from.now) (S.content from.now) (T.knows to.old)
+    requires remembers { RemembersSlides (S.knows from.now) (S.content from.now) (T.knows to.old)
         (T.content to.old) offset.columns offset.rows memory.old }
     requires right { AreMargins (S.content from.now) margins.old }
-    requires known { InBlock (IsAt (S.knows from.now) (S.content from.now) level) block.now }
+    requires known { InBlock (IsOfLevel (S.knows from.now) (S.content from.now) level) block.now }
     requires high { level ≤ MAX_LEVEL }
-    ensures at { IfOk result (IsAt (T.knows to.new) (T.content to.new) level) }
-    ensures remembers { IfOk result (λ _. Remembers (S.knows from.now) (S.content from.now)
+    ensures at { IfOk result (IsOfLevel (T.knows to.new) (T.content to.new) level) }
+    ensures remembers { IfOk result (λ _. RemembersSlides (S.knows from.now) (S.content from.now)
         (T.knows to.new) (T.content to.new) offset.columns offset.rows memory.new) }
     ensures right { IfOk result (λ _. AreMargins (S.content from.now) margins.new) }
     ensures slid { IfOk result (λ r. (cells : ℤ → ℤ → ℕ) (x y : ℤ)
         → IsBlock (S.content from.now) cells (2 ^ level) x y block.now
-        → IsPiece cells (ahead x (offset.columns % 2 ^ level)) (ahead y (offset.rows % 2 ^ level))
+        → IsPiece cells (step_ahead x (offset.columns % 2 ^ level))
+        (step_ahead y (offset.rows % 2 ^ level))
         (T.content to.new r)) }
-    ensures keeps { Keeps T.Squares to.old to.new }
-    ensures refusals { IfErr result (IsWantOf T.Squares to.new) }
+    ensures keeps { KeepsStore T.Squares to.old to.new }
+    ensures refusals { IfErr result (IsShortageIn T.Squares to.new) }
     ensures needed { OnErr result (SomeOfBlock (T.needs_node to.new) (S.content from.now)
         offset.columns offset.rows level block.now) }
     ensures adds { AddsOnly T.stored
@@ -78,21 +79,22 @@ fn slid_of_seen<S: Squares, T: Squares>(
     level: u8,
     block: &Quarters,
 ) -> Result<Id, Kind>
-    requires remembers { Remembers (S.knows from.now) (S.content from.now) (T.knows to.old)
+    requires remembers { RemembersSlides (S.knows from.now) (S.content from.now) (T.knows to.old)
         (T.content to.old) offset.columns offset.rows memory.old }
     requires right { AreMargins (S.content from.now) margins.old }
-    requires known { InBlock (IsAt (S.knows from.now) (S.content from.now) level) block.now }
+    requires known { InBlock (IsOfLevel (S.knows from.now) (S.content from.now) level) block.now }
     requires high { level ≤ MAX_LEVEL }
-    ensures at { IfOk result (IsAt (T.knows to.new) (T.content to.new) level) }
-    ensures remembers { IfOk result (λ _. Remembers (S.knows from.now) (S.content from.now)
+    ensures at { IfOk result (IsOfLevel (T.knows to.new) (T.content to.new) level) }
+    ensures remembers { IfOk result (λ _. RemembersSlides (S.knows from.now) (S.content from.now)
         (T.knows to.new) (T.content to.new) offset.columns offset.rows memory.new) }
     ensures right { IfOk result (λ _. AreMargins (S.content from.now) margins.new) }
     ensures slid { IfOk result (λ r. (cells : ℤ → ℤ → ℕ) (x y : ℤ)
         → IsBlock (S.content from.now) cells (2 ^ level) x y block.now
-        → IsPiece cells (ahead x (offset.columns % 2 ^ level)) (ahead y (offset.rows % 2 ^ level))
+        → IsPiece cells (step_ahead x (offset.columns % 2 ^ level))
+        (step_ahead y (offset.rows % 2 ^ level))
         (T.content to.new r)) }
-    ensures keeps { Keeps T.Squares to.old to.new }
-    ensures refusals { IfErr result (IsWantOf T.Squares to.new) }
+    ensures keeps { KeepsStore T.Squares to.old to.new }
+    ensures refusals { IfErr result (IsShortageIn T.Squares to.new) }
     ensures needed { OnErr result (SomeOfBlock (T.needs_node to.new) (S.content from.now)
         offset.columns offset.rows level block.now) }
     ensures adds { AddsOnly T.stored
@@ -122,22 +124,23 @@ fn slid_by_quarters<S: Squares, T: Squares>(
     level: u8,
     block: &Quarters,
 ) -> Result<Id, Kind>
-    requires remembers { Remembers (S.knows from.now) (S.content from.now) (T.knows to.old)
+    requires remembers { RemembersSlides (S.knows from.now) (S.content from.now) (T.knows to.old)
         (T.content to.old) offset.columns offset.rows memory.old }
     requires right { AreMargins (S.content from.now) margins.old }
-    requires known { InBlock (IsAt (S.knows from.now) (S.content from.now) level) block.now }
+    requires known { InBlock (IsOfLevel (S.knows from.now) (S.content from.now) level) block.now }
     requires high { level ≤ MAX_LEVEL }
     requires low { 1 ≤ level }
-    ensures at { IfOk result (IsAt (T.knows to.new) (T.content to.new) level) }
-    ensures remembers { IfOk result (λ _. Remembers (S.knows from.now) (S.content from.now)
+    ensures at { IfOk result (IsOfLevel (T.knows to.new) (T.content to.new) level) }
+    ensures remembers { IfOk result (λ _. RemembersSlides (S.knows from.now) (S.content from.now)
         (T.knows to.new) (T.content to.new) offset.columns offset.rows memory.new) }
     ensures right { IfOk result (λ _. AreMargins (S.content from.now) margins.new) }
     ensures slid { IfOk result (λ r. (cells : ℤ → ℤ → ℕ) (x y : ℤ)
         → IsBlock (S.content from.now) cells (2 ^ level) x y block.now
-        → IsPiece cells (ahead x (offset.columns % 2 ^ level)) (ahead y (offset.rows % 2 ^ level))
+        → IsPiece cells (step_ahead x (offset.columns % 2 ^ level))
+        (step_ahead y (offset.rows % 2 ^ level))
         (T.content to.new r)) }
-    ensures keeps { Keeps T.Squares to.old to.new }
-    ensures refusals { IfErr result (IsWantOf T.Squares to.new) }
+    ensures keeps { KeepsStore T.Squares to.old to.new }
+    ensures refusals { IfErr result (IsShortageIn T.Squares to.new) }
     ensures needed { OnErr result (SomeOfBlock (T.needs_node to.new) (S.content from.now)
         offset.columns offset.rows level block.now) }
     ensures adds { AddsOnly T.stored
@@ -171,25 +174,26 @@ fn slid_of_nine<S: Squares, T: Squares>(
     level: u8,
     nine: &Nine,
 ) -> Result<Id, Kind>
-    requires remembers { Remembers (S.knows from.now) (S.content from.now) (T.knows to.old)
+    requires remembers { RemembersSlides (S.knows from.now) (S.content from.now) (T.knows to.old)
         (T.content to.old) offset.columns offset.rows memory.old }
     requires right { AreMargins (S.content from.now) margins.old }
-    requires known { InNine (IsAt (S.knows from.now) (S.content from.now) level) nine.now }
+    requires known { AllOfNine (IsOfLevel (S.knows from.now) (S.content from.now) level) nine.now }
     requires high { level < MAX_LEVEL }
-    ensures at { IfOk result (IsAt (T.knows to.new) (T.content to.new) (level + 1)) }
-    ensures remembers { IfOk result (λ _. Remembers (S.knows from.now) (S.content from.now)
+    ensures at { IfOk result (IsOfLevel (T.knows to.new) (T.content to.new) (level + 1)) }
+    ensures remembers { IfOk result (λ _. RemembersSlides (S.knows from.now) (S.content from.now)
         (T.knows to.new) (T.content to.new) offset.columns offset.rows memory.new) }
     ensures right { IfOk result (λ _. AreMargins (S.content from.now) margins.new) }
     ensures slid { IfOk result (λ r. (cells : ℤ → ℤ → ℕ) (x y : ℤ)
-        → AreNine (S.content from.now) cells (2 ^ level) x y nine.now
-        → IsPiece cells (ahead x (offset.columns % 2 ^ level)) (ahead y (offset.rows % 2 ^ level))
+        → AreNinePieces (S.content from.now) cells (2 ^ level) x y nine.now
+        → IsPiece cells (step_ahead x (offset.columns % 2 ^ level))
+        (step_ahead y (offset.rows % 2 ^ level))
         (T.content to.new r)) }
-    ensures keeps { Keeps T.Squares to.old to.new }
-    ensures refusals { IfErr result (IsWantOf T.Squares to.new) }
-    ensures needed { OnErr result (SomeOfNine (T.needs_node to.new) (S.content from.now)
+    ensures keeps { KeepsStore T.Squares to.old to.new }
+    ensures refusals { IfErr result (IsShortageIn T.Squares to.new) }
+    ensures needed { OnErr result (SomeOfNineSquares (T.needs_node to.new) (S.content from.now)
         offset.columns offset.rows level nine.now) }
     ensures adds { AddsOnly T.stored
-        (λ P. SomeOfNine P (S.content from.now) offset.columns offset.rows level nine.now)
+        (λ P. SomeOfNineSquares P (S.content from.now) offset.columns offset.rows level nine.now)
         to.old to.new }
 {
     let nw = slid_of(
@@ -240,14 +244,16 @@ pub(crate) fn window<S: Squares>(
     low: u8,
     block: &Quarters,
 ) -> Quarters
-    requires known { InBlock (IsAt (S.knows squares.now) (S.content squares.now) level) block.now }
+    requires known { InBlock (IsOfLevel (S.knows squares.now) (S.content squares.now) level)
+        block.now }
     requires low { low ≤ level }
     requires high { level ≤ MAX_LEVEL }
-    ensures known { InBlock (IsAt (S.knows squares.now) (S.content squares.now) low) result }
+    ensures known { InBlock (IsOfLevel (S.knows squares.now) (S.content squares.now) low) result }
     ensures begins { (cells : ℤ → ℤ → ℕ) (x y : ℤ)
         → IsBlock (S.content squares.now) cells (2 ^ level) x y block.now
         → HasBlockAt (S.content squares.now) cells offset.columns offset.rows low
-        (ahead x (offset.columns % 2 ^ level)) (ahead y (offset.rows % 2 ^ level)) result }
+        (step_ahead x (offset.columns % 2 ^ level)) (step_ahead y (offset.rows % 2 ^ level))
+        result }
 {
     if level == low {
         return *block;
@@ -283,15 +289,16 @@ pub fn slid<S: SharedSquares, T: Squares>(
     level: u8,
     block: &Quarters,
 ) -> Result<Id, Kind>
-    requires known { InBlock (IsAt (S.knows from.now) (S.content from.now) level) block.now }
+    requires known { InBlock (IsOfLevel (S.knows from.now) (S.content from.now) level) block.now }
     requires high { level ≤ MAX_LEVEL }
-    ensures at { IfOk result (IsAt (T.knows to.new) (T.content to.new) level) }
+    ensures at { IfOk result (IsOfLevel (T.knows to.new) (T.content to.new) level) }
     ensures slid { IfOk result (λ r. (cells : ℤ → ℤ → ℕ) (x y : ℤ)
         → IsBlock (S.content from.now) cells (2 ^ level) x y block.now
-        → IsPiece cells (ahead x (offset.columns % 2 ^ level)) (ahead y (offset.rows % 2 ^ level))
+        → IsPiece cells (step_ahead x (offset.columns % 2 ^ level))
+        (step_ahead y (offset.rows % 2 ^ level))
         (T.content to.new r)) }
-    ensures keeps { Keeps T.Squares to.old to.new }
-    ensures refusals { IfErr result (IsWantOf T.Squares to.new) }
+    ensures keeps { KeepsStore T.Squares to.old to.new }
+    ensures refusals { IfErr result (IsShortageIn T.Squares to.new) }
     ensures needed { OnErr result (SomeOfBlock (T.needs_node to.new) (S.content from.now)
         offset.columns offset.rows level block.now) }
     ensures adds { AddsOnly T.stored

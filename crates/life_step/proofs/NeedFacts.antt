@@ -13,7 +13,7 @@ use Rattle.life_quad.specs.Store.{Nodes}
 use Rattle.life_table.specs.Meaning.{Becomes}
 use Rattle.life_table.specs.declared.table.Table.{Table}
 use Rattle.life_sweep.specs.Generation.{next_life, states_at, AnswersAt, TableAnswers, TableAnswersAt}
-use Rattle.life_block.specs.Needed.{level_behind}
+use Rattle.life_block.specs.Needed.{level_after}
 use Rattle.life_canon.specs.Files.{Reads}
 use Rattle.life_canon.specs.Store.{content, IsRead}
 use Rattle.life_canon.specs.Universe.{Universe, least_level, whole}
@@ -35,7 +35,7 @@ step-lacks Lacks bytes store pattern r l =
 
 -- the square to which that of the next generation is trimmed is one that the step needs
 pub root-by_rule : (P : Tree → Type 0) (root : Tree) {rule : Rule} {life : OuterTotalistic} {next : Tree} → rule ≡ Life life → IsFull next
-    → depth next ≡ level_behind (depth root) → ((x y : ℤ) → tree_cell next x y ≡ next_life life (tree_cell root) x y)
+    → depth next ≡ level_after (depth root) → ((x y : ℤ) → tree_cell next x y ≡ next_life life (tree_cell root) x y)
     → TrimmedTo P next (least_level rule) → SomeByRule P rule root
 root-by_rule P root {next = next} is full level cells smaller =
     subst (λ q. SomeByRule P q root) (sym is)

@@ -12,7 +12,7 @@ use Rattle.life_base.specs.declared.fault.Fault.{Fault}
 use Rattle.life_base.specs.declared.kind.Kind.TheVariants as kinds
 use Rattle.life_quad.specs.Cells.{IsCellList, population}
 use Rattle.life_quad.proofs.LawLemmas.{cells_are_listed, list_is_population, cells_lie_inside}
-use Rattle.life_strip.specs.Given.{IsOnPlane}
+use Rattle.life_strip.specs.Given.{IsRunOnPlane}
 use Rattle.life_table.specs.Meaning.{Answer, Becomes, Ambiguous}
 use Rattle.life_sweep.specs.Generation.{next_life, states_at}
 use Rattle.life_sweep.specs.Refused.{IfElse, HasStateFrom, fault_on, GenerationRefusal}
@@ -20,7 +20,7 @@ use Rattle.life_sweep.specs.Sweep as sweep_words
 use Rattle.life_sweep.specs.Sweep.{IsLeft}
 use Rattle.life_canon.specs.Texts.{AreCellsOf}
 use Rattle.life_canon.specs.Universe.{Universe, IsBlankOutside, corner}
-use Rattle.life_step.specs.Refusals.{HasMoreCells, IsOfPlane, LeavesByRule, SomeAmbiguous, IsFirstAmbiguous, LeavesPlane}
+use Rattle.life_step.specs.Refusals.{PatternHasMoreCells, IsOfPlane, LeavesByRule, SomeAmbiguousCell, IsFirstAmbiguousCell, LeavesPlane}
 
 pub if-else : {C D A B P Q : Type 0} → (C → D) → (D → C) → (A → P) → (B → Q) → IfElse C A B → IfElse D P Q
 if-else to from left right (inl h) = inl (to h.0, left h.1)
@@ -28,7 +28,7 @@ if-else to from left right (inr h) = inr (λ d. h.0 (from d), right h.1)
 
 -- ---- the plane
 
-on-plane : (x y : ℤ) → IsOfPlane MAX_LEVEL x y → IsOnPlane x y 1
+on-plane : (x y : ℤ) → IsOfPlane MAX_LEVEL x y → IsRunOnPlane x y 1
 unfolding corner
 on-plane x y h =
     let w = h.0.0 in
@@ -37,7 +37,7 @@ on-plane x y h =
     let s = h.1.1 in
     record { west = omega (arith, ints, w); east = omega (arith, ints, e); north = omega (arith, ints, n); south = omega (arith, ints, s) }
 
-of-plane : (x y : ℤ) → IsOnPlane x y 1 → IsOfPlane MAX_LEVEL x y
+of-plane : (x y : ℤ) → IsRunOnPlane x y 1 → IsOfPlane MAX_LEVEL x y
 unfolding corner
 of-plane x y h =
     let w = h.west in
@@ -56,7 +56,7 @@ blank-outside t e x y n = elim (eqb_tells (tree_cell t x y) 0) [
       absurd (n (of-plane x y (inside (half_side t) half i.0 i.1 i.2 i.3)))
 ]
   where
-    inside : (h : ℕ) → h ≤ 2 ^ 61 → neg_ℤ (pos h) ≤ℤ x → x <ℤ pos h → neg_ℤ (pos h) ≤ℤ y → y <ℤ pos h → IsOnPlane x y 1
+    inside : (h : ℕ) → h ≤ 2 ^ 61 → neg_ℤ (pos h) ≤ℤ x → x <ℤ pos h → neg_ℤ (pos h) ≤ℤ y → y <ℤ pos h → IsRunOnPlane x y 1
     inside h small a b c d = record {
       west = omega (arith, ints, small, a);
       east = omega (arith, ints, small, b);
@@ -81,12 +81,12 @@ module _ (t : Tree) (u : Universe) (same : (x y : ℤ) → u.cell x y ≡ tree_c
     all_cells = λ c e n. h.all_cells c (same c.x c.y ∙ e) n;
   }
 
-  more-cells : (most : ℕ) → most < population t → HasMoreCells most u
+  more-cells : (most : ℕ) → most < population t → PatternHasMoreCells most u
   more-cells most l =
       let list = cells_are_listed t full high in
       (list.0, are-cells list.0 list.1, subst (λ n. most < n) (sym (list_is_population t list.0 full high list.1)) l)
 
-  more-squares : (most : ℕ) → HasMoreCells most u → most < population t
+  more-squares : (most : ℕ) → PatternHasMoreCells most u → most < population t
   more-squares most h = subst (λ n. most < n) (list_is_population t h.0 full high (is-list h.0 h.1)) h.2
 
   module _ (answers : List ℕ → Answer → Type 0) (at : ℤ → ℤ → Answer → Type 0)
@@ -96,7 +96,7 @@ module _ (t : Tree) (u : Universe) (same : (x y : ℤ) → u.cell x y ≡ tree_c
     no-state : (s line : ℕ) → Becomes s ≡ Ambiguous line → ⊥
     no-state s line e = cc
 
-    first : (line : ℕ) → sweep_words.IsFirstAmbiguous answers (tree_cell t) line → IsFirstAmbiguous at line
+    first : (line : ℕ) → sweep_words.IsFirstAmbiguous answers (tree_cell t) line → IsFirstAmbiguousCell at line
     first line h = record {
       x = h.x;
       y = h.y;
@@ -111,9 +111,9 @@ module _ (t : Tree) (u : Universe) (same : (x y : ℤ) → u.cell x y ≡ tree_c
     left h = record { x = h.0; y = h.1; next = h.2; answer = from h.0 h.1 (Becomes h.2) h.5; outside = λ i. h.3 (of-plane h.0 h.1 i); nonzero = h.4 }
 
     pub refusal-at : (n most : ℕ) (refusal : Option Fault) → GenerationRefusal answers n most t refusal
-        → IfElse (HasMoreCells most u) (refusal ≡ Some (fault_of kinds.TooManyCells))
+        → IfElse (PatternHasMoreCells most u) (refusal ≡ Some (fault_of kinds.TooManyCells))
         (IfElse (HasStateFrom n u.cell) (refusal ≡ Some (fault_of kinds.StateBeyondTable))
-        (IfElse (SomeAmbiguous at) ((line : ℕ) × IsFirstAmbiguous at line × (refusal ≡ Some (fault_on line)))
+        (IfElse (SomeAmbiguousCell at) ((line : ℕ) × IsFirstAmbiguousCell at line × (refusal ≡ Some (fault_on line)))
         (IfElse (LeavesPlane at MAX_LEVEL) (refusal ≡ Some (fault_of kinds.OutOfPlane)) (refusal ≡ None))))
     refusal-at n most refusal h =
         if-else (more-cells most) (more-squares most) (λ e. e)
@@ -128,12 +128,12 @@ module _ (t : Tree) (u : Universe) (same : (x y : ℤ) → u.cell x y ≡ tree_c
 
 pub life-refusal : (u : Universe) (life : OuterTotalistic) (most : ℕ) (refusal : Option Fault)
     → ((x y : ℤ) → u.cell x y ≤ 1)
-    → IfElse (HasMoreCells most u) (refusal ≡ Some (fault_of kinds.TooManyCells))
+    → IfElse (PatternHasMoreCells most u) (refusal ≡ Some (fault_of kinds.TooManyCells))
     (IfElse (HasStateFrom 2 u.cell) (refusal ≡ Some (fault_of kinds.StateBeyondTable))
-    (IfElse (SomeAmbiguous (λ x y a. a ≡ Becomes (next_life life u.cell x y)))
-    ((line : ℕ) × IsFirstAmbiguous (λ x y a. a ≡ Becomes (next_life life u.cell x y)) line × (refusal ≡ Some (fault_on line)))
+    (IfElse (SomeAmbiguousCell (λ x y a. a ≡ Becomes (next_life life u.cell x y)))
+    ((line : ℕ) × IsFirstAmbiguousCell (λ x y a. a ≡ Becomes (next_life life u.cell x y)) line × (refusal ≡ Some (fault_on line)))
     (IfElse (LeavesPlane (λ x y a. a ≡ Becomes (next_life life u.cell x y)) MAX_LEVEL) (refusal ≡ Some (fault_of kinds.OutOfPlane)) (refusal ≡ None))))
-    → IfElse (HasMoreCells most u) (refusal ≡ Some (fault_of kinds.TooManyCells))
+    → IfElse (PatternHasMoreCells most u) (refusal ≡ Some (fault_of kinds.TooManyCells))
     (IfElse (LeavesByRule MAX_LEVEL life u) (refusal ≡ Some (fault_of kinds.OutOfPlane)) (refusal ≡ None))
 life-refusal u life most refusal small h = if-else (λ c. c) (λ c. c) (λ e. e) states h
   where
@@ -147,8 +147,8 @@ life-refusal u life most refusal small h = if-else (λ c. c) (λ c. c) (λ e. e)
     high n a b = omega (arith, a, b)
 
     states : IfElse (HasStateFrom 2 u.cell) (refusal ≡ Some (fault_of kinds.StateBeyondTable))
-        (IfElse (SomeAmbiguous (λ x y a. a ≡ Becomes (next_life life u.cell x y)))
-        ((line : ℕ) × IsFirstAmbiguous (λ x y a. a ≡ Becomes (next_life life u.cell x y)) line × (refusal ≡ Some (fault_on line)))
+        (IfElse (SomeAmbiguousCell (λ x y a. a ≡ Becomes (next_life life u.cell x y)))
+        ((line : ℕ) × IsFirstAmbiguousCell (λ x y a. a ≡ Becomes (next_life life u.cell x y)) line × (refusal ≡ Some (fault_on line)))
         (IfElse (LeavesPlane (λ x y a. a ≡ Becomes (next_life life u.cell x y)) MAX_LEVEL) (refusal ≡ Some (fault_of kinds.OutOfPlane)) (refusal ≡ None)))
         → IfElse (LeavesByRule MAX_LEVEL life u) (refusal ≡ Some (fault_of kinds.OutOfPlane)) (refusal ≡ None)
     states (inl s) = absurd (high (u.cell s.0.0 s.0.1) s.0.2 (small s.0.0 s.0.1))

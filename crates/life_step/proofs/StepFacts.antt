@@ -13,7 +13,7 @@ use Rattle.life_base.specs.declared.rule.Rule.{Rule}
 use Rattle.life_base.specs.declared.rule.Rule.TheVariants.{Life, Named}
 use Rattle.life_mc.specs.Macrocell.{largest_state}
 use Rattle.life_mc.specs.Squares.{HasStatesUpTo}
-use Rattle.life_quad.specs.Moves.{trimmed}
+use Rattle.life_quad.specs.Moves.{trimmed_square}
 use Rattle.life_quad.specs.Store.{Nodes}
 use Rattle.life_quad.specs.declared.id.Id.{Id}
 use Rattle.life_quad.proofs.LawLemmas.{known_squares_are_full, trimming_keeps_cells, trimmed_is_fixed, trimming_stops}
@@ -21,17 +21,17 @@ use Rattle.life_table.specs.Laws.{OneAnswer}
 use Rattle.life_table.specs.Meaning.{Answer, Becomes, count_of}
 use Rattle.life_table.specs.declared.table.Neighborhood.TheVariants as of_tables
 use Rattle.life_table.specs.declared.table.Table.{Table}
-use Rattle.life_sweep.specs.Generation.{before, after, next_by_count, next_life, AnswersAt, LifeAnswersAt, TableAnswersAt, states_at, named, LifeAnswers, TableAnswers}
+use Rattle.life_sweep.specs.Generation.{one_before, one_after, next_by_count, next_life, AnswersAt, LifeAnswersAt, TableAnswersAt, states_at, neighbours_among, LifeAnswers, TableAnswers}
 use Rattle.life_sweep.specs.Refused.{GenerationRefusal}
 use Rattle.life_canon.specs.Files.{Reads, Refuses, as_macrocell}
 use Rattle.life_canon.specs.Laws.{FilesAreOnPlane, PatternsFit, TextsAreFiles, TextsTellUniverses}
 use Rattle.life_canon.specs.Listing.{canonical_file, canon_text}
-use Rattle.life_canon.specs.Store.{IsKnown, content, IsRead, IsTrimmed, IsWant, universe_in}
+use Rattle.life_canon.specs.Store.{IsKnown, content, IsRead, IsTrimmed, IsShortageOf, universe_in}
 use Rattle.life_canon.specs.Universe.{Universe, IsSame, IsOnPlane, least_level, square_universe, macrocell_universe}
 use Rattle.life_canon.specs.declared.pattern.Pattern.{Pattern}
 pub use Rattle.life_canon.proofs.Fits.{least-one, root-high}
 use Rattle.life_step.specs.Refusals.{TableRefusal, LifeRefusal, RuleRefusal}
-use Rattle.life_step.specs.Stepped.{IsLifeStep, IsTableStep, IsTextOf}
+use Rattle.life_step.specs.Stepped.{IsLifeStep, IsTableStep, IsTextWith}
 use Rattle.life_step.proofs.RefusalFacts.{refusal-at, life-refusal, blank-outside}
 use Rattle.life_step.proofs.StateFacts.{states-up-to}
 
@@ -40,8 +40,8 @@ use Rattle.life_step.proofs.StateFacts.{states-up-to}
 -- what refuses the step of a pattern refuses that of its file
 pub step-refused : {X : Type 0} (bytes : List ℕ) (old new : Nodes) (pattern : Pattern) (Q : Fault → Universe → Type 0) → IsRead MAX_LEVEL bytes old pattern
     → (r : Result X Fault)
-    → IfErr r (λ fault. IsWant new fault ⊎ ((b : List ℕ) → IsRead MAX_LEVEL b old pattern → (u : Universe) × Reads MAX_LEVEL b u × Q fault u))
-    → IfErr r (λ fault. Refuses MAX_LEVEL bytes fault ⊎ (IsWant new fault ⊎ ((u : Universe) × Reads MAX_LEVEL bytes u × Q fault u)))
+    → IfErr r (λ fault. IsShortageOf new fault ⊎ ((b : List ℕ) → IsRead MAX_LEVEL b old pattern → (u : Universe) × Reads MAX_LEVEL b u × Q fault u))
+    → IfErr r (λ fault. Refuses MAX_LEVEL bytes fault ⊎ (IsShortageOf new fault ⊎ ((u : Universe) × Reads MAX_LEVEL bytes u × Q fault u)))
 step-refused bytes old new pattern Q read (Ok x) h = tt
 step-refused bytes old new pattern Q read (Err fault) (inl want) = inr (inl want)
 step-refused bytes old new pattern Q read (Err fault) (inr step) = inr (inr (step bytes read))
@@ -60,7 +60,7 @@ needs-table u rule refusal is other e = subst (λ (r : Rule). RuleRefusal MAX_LE
 
 -- a trimmed square may be numbered
 pub trimmed-fits : (store : Nodes) (rule : Rule) (generation : ℕ) (root : Id) (t : Tree) → IsKnown store root
-    → content store root ≡ trimmed t (least_level rule)
+    → content store root ≡ trimmed_square t (least_level rule)
     → IsFull t → least_level rule ≤ depth t → ((x y : ℤ) → tree_cell t x y ≤ largest_state rule)
     → IsTrimmed store (record { rule = rule; generation = generation; root = root })
 trimmed-fits store rule generation root t known is full least states =
@@ -68,12 +68,12 @@ trimmed-fits store rule generation root t known is full least states =
     let one = least-one rule in
     let fixed = trimmed_is_fixed t m full one in
     let high = (trimming_stops t m full one).0 least in
-    let upto = states-up-to (largest_state rule) (trimmed t m) fixed.0
+    let upto = states-up-to (largest_state rule) (trimmed_square t m) fixed.0
     (λ x y. subst (λ n. n ≤ largest_state rule) (sym (trimming_keeps_cells t m full one x y)) (states x y)) in
     record {
       known = known;
       level = subst (λ s. m ≤ depth s) (sym is) high;
-      trimmed = ap (λ s. trimmed s m) is ∙ fixed.1 ∙ sym is;
+      trimmed = ap (λ s. trimmed_square s m) is ∙ fixed.1 ∙ sym is;
       states = subst (HasStatesUpTo (largest_state rule)) (sym is) upto;
     }
 
@@ -89,7 +89,7 @@ plane-of rule generation s t is small same level states = record {
 
 -- a canonical text says its pattern
 text-of : FilesAreOnPlane MAX_LEVEL → TextsAreFiles MAX_LEVEL → TextsTellUniverses MAX_LEVEL → (u v : Universe) → IsSame u v → IsOnPlane MAX_LEVEL v
-    → (text : List ℕ) → text ≡ canon_text MAX_LEVEL v → IsTextOf MAX_LEVEL (IsSame u) text
+    → (text : List ℕ) → text ≡ canon_text MAX_LEVEL v → IsTextWith MAX_LEVEL (IsSame u) text
 text-of on_plane files tell u v same plane text e =
     let said = macrocell_universe (canonical_file MAX_LEVEL v) in
     let f = files v plane in
@@ -103,10 +103,10 @@ text-of on_plane files tell u v same plane text e =
 
 pub text-of-square : FilesAreOnPlane MAX_LEVEL → TextsAreFiles MAX_LEVEL → TextsTellUniverses MAX_LEVEL
     → (store : Nodes) (rule : Rule) (generation : ℕ) (root : Id) (t : Tree) → IsRule rule → generation < 2 ^ 64
-    → content store root ≡ trimmed t (least_level rule)
+    → content store root ≡ trimmed_square t (least_level rule)
     → IsFull t → depth t ≤ MAX_LEVEL → ((x y : ℤ) → tree_cell t x y ≤ largest_state rule)
     → (text : List ℕ) → text ≡ canon_text MAX_LEVEL (universe_in store (record { rule = rule; generation = generation; root = root }))
-    → IsTextOf MAX_LEVEL (IsSame (square_universe rule generation t)) text
+    → IsTextWith MAX_LEVEL (IsSame (square_universe rule generation t)) text
 text-of-square on_plane files tell store rule generation root t is small e full level states text written =
     let same : (x y : ℤ) → tree_cell (content store root) x y ≡ tree_cell t x y =
     λ x y. ap (λ s. tree_cell s x y) e ∙ trimming_keeps_cells t (least_level rule) full (least-one rule) x y in
@@ -120,14 +120,14 @@ text-of-square on_plane files tell store rule generation root t is small e full 
 same-states : (f g : ℤ → ℤ → ℕ) → ((x y : ℤ) → f x y ≡ g x y) → (x y : ℤ) → states_at f x y ≡ states_at g x y
 same-states f g h x y =
     let a = h x y in
-    let b = h x (before y) in
-    let c = h (after x) (before y) in
-    let d = h (after x) y in
-    let e = h (after x) (after y) in
-    let i = h x (after y) in
-    let j = h (before x) (after y) in
-    let k = h (before x) y in
-    let l = h (before x) (before y) in
+    let b = h x (one_before y) in
+    let c = h (one_after x) (one_before y) in
+    let d = h (one_after x) y in
+    let e = h (one_after x) (one_after y) in
+    let i = h x (one_after y) in
+    let j = h (one_before x) (one_after y) in
+    let k = h (one_before x) y in
+    let l = h (one_before x) (one_before y) in
     cc
 
 pub next-small : (life : OuterTotalistic) (cells : ℤ → ℤ → ℕ) (x y : ℤ) → next_life life cells x y ≤ 1
@@ -143,7 +143,7 @@ same-next life f g h x y = by life.near
   where
     by : (near : Near) → next_life (record { sets = life.sets; near = near }) f x y ≡ next_life (record { sets = life.sets; near = near }) g x y
     by Moore = ap (λ v. next_by_count life.sets (slice_index v 0) (count_of 1 (drop 1 v))) (same-states f g h x y)
-    by VonNeumann = ap (λ v. next_by_count life.sets (slice_index v 0) (count_of 1 (named of_tables.VonNeumann v))) (same-states f g h x y)
+    by VonNeumann = ap (λ v. next_by_count life.sets (slice_index v 0) (count_of 1 (neighbours_among of_tables.VonNeumann v))) (same-states f g h x y)
 
 -- ---- under a B/S rule
 
@@ -169,7 +169,7 @@ module _ (law : LifeAnswersAt) (life : OuterTotalistic) (u : Universe) (t : Tree
 -- the text is that of the next generation
 pub life-stepped : (life : OuterTotalistic) (u : Universe) (rule : Rule) (generation : ℕ) (r : Tree) (text : List ℕ)
     → u.rule ≡ Life life → rule ≡ u.rule → generation ≡ u.generation + 1 → ((x y : ℤ) → tree_cell r x y ≡ next_life life u.cell x y)
-    → IsTextOf MAX_LEVEL (IsSame (square_universe rule generation r)) text → IsTextOf MAX_LEVEL (IsLifeStep u) text
+    → IsTextWith MAX_LEVEL (IsSame (square_universe rule generation r)) text → IsTextWith MAX_LEVEL (IsLifeStep u) text
 life-stepped life u rule generation r text is same later next h = record {
   universe = h.universe;
   is = record {
@@ -211,7 +211,7 @@ module _ (law : TableAnswersAt) (table : Table) (u : Universe) (t : Tree) (same 
   pub table-stepped : (rule : Rule) (generation : ℕ) (r : Tree) (text : List ℕ)
       → u.rule ≡ Named table.name → rule ≡ u.rule → generation ≡ u.generation + 1
       → ((x y : ℤ) → TableAnswers table (states_at (tree_cell t) x y) (Becomes (tree_cell r x y)))
-      → IsTextOf MAX_LEVEL (IsSame (square_universe rule generation r)) text → IsTextOf MAX_LEVEL (IsTableStep table u) text
+      → IsTextWith MAX_LEVEL (IsSame (square_universe rule generation r)) text → IsTextWith MAX_LEVEL (IsTableStep table u) text
   table-stepped rule generation r text is same_rule later next h = record {
     universe = h.universe;
     is = record {
@@ -248,8 +248,8 @@ module _ (fit : PatternsFit MAX_LEVEL) (store : Nodes) (pattern : Pattern) (byte
       → (generation : ℕ) (next : Tree) (text : List ℕ) → generation ≡ pattern.generation + 1
       → ((x y : ℤ) → tree_cell next x y ≡ next_life life (tree_cell (content store pattern.root)) x y)
       → GenerationRefusal (LifeAnswers life) 2 (2 ^ 20) (content store pattern.root) None
-      → IsTextOf MAX_LEVEL (IsSame (square_universe pattern.rule generation next)) text
-      → (u : Universe) × Reads MAX_LEVEL bytes u × LifeRefusal MAX_LEVEL u None × IsTextOf MAX_LEVEL (IsLifeStep u) text
+      → IsTextWith MAX_LEVEL (IsSame (square_universe pattern.rule generation next)) text
+      → (u : Universe) × Reads MAX_LEVEL bytes u × LifeRefusal MAX_LEVEL u None × IsTextWith MAX_LEVEL (IsLifeStep u) text
   life-stepped-read plane law life is some generation next text later cells accepted h =
       let u = r.universe in
       let same = (fit bytes store pattern r).1 in
@@ -274,8 +274,8 @@ module _ (fit : PatternsFit MAX_LEVEL) (store : Nodes) (pattern : Pattern) (byte
       → (generation : ℕ) (next : Tree) (text : List ℕ) → generation ≡ pattern.generation + 1
       → ((x y : ℤ) → TableAnswers table (states_at (tree_cell (content store pattern.root)) x y) (Becomes (tree_cell next x y)))
       → GenerationRefusal (TableAnswers table) table.n_states (2 ^ 20) (content store pattern.root) None
-      → IsTextOf MAX_LEVEL (IsSame (square_universe pattern.rule generation next)) text
-      → (u : Universe) × Reads MAX_LEVEL bytes u × TableRefusal MAX_LEVEL table u None × IsTextOf MAX_LEVEL (IsTableStep table u) text
+      → IsTextWith MAX_LEVEL (IsSame (square_universe pattern.rule generation next)) text
+      → (u : Universe) × Reads MAX_LEVEL bytes u × TableRefusal MAX_LEVEL table u None × IsTextWith MAX_LEVEL (IsTableStep table u) text
   table-stepped-read law one table is some generation next text later cells accepted h =
       let u = r.universe in
       let same = (fit bytes store pattern r).1 in (

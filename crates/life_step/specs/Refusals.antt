@@ -18,17 +18,17 @@ use Rattle.life_table.specs.declared.table.Table.{Table}
 use Rattle.life_sweep.specs.Generation.{next_life, AnswersAt, TableAnswers}
 use Rattle.life_sweep.specs.Refused.{IfElse, HasStateFrom, fault_on, SomeNext}
 use Rattle.life_sweep.specs.Rows.{Precedes}
-use Rattle.life_block.specs.Needed.{SomeOfNext, level_behind}
+use Rattle.life_block.specs.Needed.{SomeOfNext, level_after}
 use Rattle.life_canon.specs.Files.{Reads, Refuses}
 use Rattle.life_canon.specs.Needs.{IsNew, SomeOfFile}
-use Rattle.life_canon.specs.Store.{ForEachFile, IsWant}
+use Rattle.life_canon.specs.Store.{ForEachFile, IsShortageOf}
 use Rattle.life_canon.specs.declared.pattern.Pattern.{Pattern}
 use Rattle.life_canon.specs.Texts.{AreCellsOf}
 use Rattle.life_canon.specs.Universe.{Universe, IsWithin, least_level, whole}
 
 -- more cells than this aren't 0
-abbrev pub HasMoreCells : ℕ → Universe → Type 0
-HasMoreCells most u = (cells : List Cell) × AreCellsOf u.cell cells × (most < length cells)
+abbrev pub PatternHasMoreCells : ℕ → Universe → Type 0
+PatternHasMoreCells most u = (cells : List Cell) × AreCellsOf u.cell cells × (most < length cells)
 
 -- a pair of the plane of this level
 abbrev pub IsOfPlane : ℕ → ℤ → ℤ → Type 0
@@ -41,11 +41,11 @@ LeavesByRule top rule u = (x : ℤ) × (y : ℤ) × (¬ (IsOfPlane top x y)) × 
 -- what each cell's line of the table answers
 module _ (answers : ℤ → ℤ → Answer → Type 0) where
   -- some cell's line gives it two states
-  abbrev pub SomeAmbiguous : Type 0
-  SomeAmbiguous = (x : ℤ) × (y : ℤ) × (line : ℕ) × answers x y (Ambiguous line)
+  abbrev pub SomeAmbiguousCell : Type 0
+  SomeAmbiguousCell = (x : ℤ) × (y : ℤ) × (line : ℕ) × answers x y (Ambiguous line)
 
   -- the line of the first such cell, row by row from the north, and in a row from the west
-  pub record IsFirstAmbiguous (line : ℕ) : Type 0 where
+  pub record IsFirstAmbiguousCell (line : ℕ) : Type 0 where
     pub x : ℤ
     pub y : ℤ
     pub here : answers x y (Ambiguous line)
@@ -60,9 +60,9 @@ abbrev pub TableRefusal : ℕ → Table → Universe → Option Fault → Type 0
 TableRefusal top table u refusal =
     IfElse (¬ (u.rule ≡ Named table.name)) (refusal ≡ Some (fault_of kinds.RuleMismatch))
     (IfElse (u.generation ≡ 2 ^ 64 - 1) (refusal ≡ Some (fault_of kinds.GenerationTooLarge))
-    (IfElse (HasMoreCells (2 ^ 20) u) (refusal ≡ Some (fault_of kinds.TooManyCells))
+    (IfElse (PatternHasMoreCells (2 ^ 20) u) (refusal ≡ Some (fault_of kinds.TooManyCells))
     (IfElse (HasStateFrom table.n_states u.cell) (refusal ≡ Some (fault_of kinds.StateBeyondTable))
-    (IfElse (SomeAmbiguous (AnswersAt table u.cell)) ((line : ℕ) × IsFirstAmbiguous (AnswersAt table u.cell) line × (refusal ≡ Some (fault_on line)))
+    (IfElse (SomeAmbiguousCell (AnswersAt table u.cell)) ((line : ℕ) × IsFirstAmbiguousCell (AnswersAt table u.cell) line × (refusal ≡ Some (fault_on line)))
     (IfElse (LeavesPlane (AnswersAt table u.cell) top) (refusal ≡ Some (fault_of kinds.OutOfPlane)) (refusal ≡ None))))))
 
 -- why a pattern under this rule is not stepped without a table, if it isn't
@@ -70,7 +70,7 @@ abbrev pub RuleRefusal : ℕ → Rule → Universe → Option Fault → Type 0
 RuleRefusal top (Named name) u refusal = refusal ≡ Some (fault_of kinds.NeedsTable)
 RuleRefusal top (Life rule) u refusal =
     IfElse (u.generation ≡ 2 ^ 64 - 1) (refusal ≡ Some (fault_of kinds.GenerationTooLarge))
-    (IfElse (HasMoreCells (2 ^ 20) u) (refusal ≡ Some (fault_of kinds.TooManyCells))
+    (IfElse (PatternHasMoreCells (2 ^ 20) u) (refusal ≡ Some (fault_of kinds.TooManyCells))
     (IfElse (LeavesByRule top rule u) (refusal ≡ Some (fault_of kinds.OutOfPlane)) (refusal ≡ None)))
 
 abbrev pub LifeRefusal : ℕ → Universe → Option Fault → Type 0
@@ -79,12 +79,12 @@ LifeRefusal top u refusal = RuleRefusal top u.rule u refusal
 -- why the step of a pattern in a store is refused, in the words in which the refusal of what it says is told
 abbrev pub RefusesPattern : (Universe → Option Fault → Type 0) → Pattern → (old new : Nodes) → Fault → Type 0
 RefusesPattern Refusal pattern old new fault =
-    IsWant new fault ⊎ ForEachFile old pattern (λ bytes. (u : Universe) × Reads MAX_LEVEL bytes u × Refusal u (Some fault))
+    IsShortageOf new fault ⊎ ForEachFile old pattern (λ bytes. (u : Universe) × Reads MAX_LEVEL bytes u × Refusal u (Some fault))
 
 -- why the step of the pattern of a file is refused
 abbrev pub RefusesFile : (Universe → Option Fault → Type 0) → List ℕ → Nodes → Fault → Type 0
 RefusesFile Refusal bytes store fault =
-    Refuses MAX_LEVEL bytes fault ⊎ (IsWant store fault ⊎ ((u : Universe) × Reads MAX_LEVEL bytes u × Refusal u (Some fault)))
+    Refuses MAX_LEVEL bytes fault ⊎ (IsShortageOf store fault ⊎ ((u : Universe) × Reads MAX_LEVEL bytes u × Refusal u (Some fault)))
 
 -- the square of this level with these cells is trimmed to a smaller one, which has a property
 pub record SomeOfRoot (P : Tree → Type 0) (cell : ℤ → ℤ → ℕ) (level least : ℕ) : Type 0 where
@@ -97,7 +97,7 @@ pub record SomeOfRoot (P : Tree → Type 0) (cell : ℤ → ℤ → ℕ) (level 
 -- a square has a property which the step of this root under a B/S rule needs: of the next generation, or of its root
 pub data SomeOfLife (P : Tree → Type 0) (rule : OuterTotalistic) (root : Tree) : Type 0 where
   of_generation : SomeOfNext P rule root → SomeOfLife P rule root
-  of_root : SomeOfRoot P (next_life rule (tree_cell root)) (level_behind (depth root)) (least_level (Life rule)) → SomeOfLife P rule root
+  of_root : SomeOfRoot P (next_life rule (tree_cell root)) (level_after (depth root)) (least_level (Life rule)) → SomeOfLife P rule root
 
 -- so has one that the step by a table needs
 pub data SomeOfTable (P : Tree → Type 0) (table : Table) (root : Tree) : Type 0 where

@@ -28,7 +28,7 @@ pub record IsTableStep (table : Table) (before after : Universe) : Type 0 where
   pub cells : (x y : ℤ) → AnswersAt table before.cell x y (Becomes (after.cell x y))
 
 -- the text is a file that says a pattern with this property, and is its own canonical text
-pub record IsTextOf (top : ℕ) (Is : Universe → Type 0) (text : List ℕ) : Type 0 where
+pub record IsTextWith (top : ℕ) (Is : Universe → Type 0) (text : List ℕ) : Type 0 where
   pub universe : Universe
   pub is : Is universe
   pub reads : Reads top text universe
@@ -36,9 +36,9 @@ pub record IsTextOf (top : ℕ) (Is : Universe → Type 0) (text : List ℕ) : T
 
 -- the bytes are a file whose pattern has a next generation under its B/S rule, and the text is the canonical text of that
 abbrev pub IsStepped : List ℕ → List ℕ → Type 0
-IsStepped bytes text = (u : Universe) × Reads MAX_LEVEL bytes u × LifeRefusal MAX_LEVEL u None × IsTextOf MAX_LEVEL (IsLifeStep u) text
+IsStepped bytes text = (u : Universe) × Reads MAX_LEVEL bytes u × LifeRefusal MAX_LEVEL u None × IsTextWith MAX_LEVEL (IsLifeStep u) text
 
 -- the same by a table
 abbrev pub IsSteppedBy : Table → List ℕ → List ℕ → Type 0
 IsSteppedBy table bytes text =
-    (u : Universe) × Reads MAX_LEVEL bytes u × TableRefusal MAX_LEVEL table u None × IsTextOf MAX_LEVEL (IsTableStep table u) text
+    (u : Universe) × Reads MAX_LEVEL bytes u × TableRefusal MAX_LEVEL table u None × IsTextWith MAX_LEVEL (IsTableStep table u) text

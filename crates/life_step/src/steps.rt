@@ -1,7 +1,7 @@
 //! The steps of the pattern in a file.
 
 ghost use Rattle.std.specs.Prelude.{◌≡◌, ◌≢◌, ◌+◌, ◌^◌, ◌-◌, ◌≤◌, ◌↔◌, ℤ, Err, IfOk, IfErr, OnOk, IsTrue};
-ghost use Rattle.life_step.specs.Words.{fault_of, IsRule, depth, tree_cell, NamedRule, IsNew, ForEachFile, Keeps, IsKnown, IsOfFile, IsWant, content, IsSame, least_level, square_universe, largest_state, TrimmedTo, LacksForLife, LacksForStep, LacksForStepBy, LacksForTable, LifeRefusal, RefusesFile, RefusesPattern, SomeByRule, SomeByTable, SomeOfStep, SomeOfStepBy, AddsOnly, held, TableRefusal, IsStepped, IsSteppedBy, IsTextOf};
+ghost use Rattle.life_step.specs.Words.{fault_of, IsRule, depth, tree_cell, NamedRule, IsNew, ForEachFile, Keeps, IsKnown, IsOfFile, IsShortageOf, content, IsSame, least_level, square_universe, largest_state, TrimmedTo, LacksForLife, LacksForStep, LacksForStepBy, LacksForTable, LifeRefusal, RefusesFile, RefusesPattern, SomeByRule, SomeByTable, SomeOfStep, SomeOfStepBy, AddsOnly, stored_squares, TableRefusal, IsStepped, IsSteppedBy, IsTextWith};
 
 use life_base::{Fault, Kind, MAX_LEVEL, Rule};
 use life_block::{next_law_generation, next_life_generation};
@@ -49,12 +49,12 @@ fn text_of_square(
     requires high { least_level rule ≤ depth (content store.old square) }
     requires rule { IsRule rule }
     requires states { (x y : ℤ) → tree_cell (content store.old square) x y ≤ largest_state rule }
-    ensures text { IfOk result (λ text. IsTextOf MAX_LEVEL
+    ensures text { IfOk result (λ text. IsTextWith MAX_LEVEL
         (IsSame (square_universe rule generation (content store.old square))) text.items) }
-    ensures want { IfErr result (IsWant store.new) }
+    ensures want { IfErr result (IsShortageOf store.new) }
     ensures needed { result ≡ Err (fault_of Kind.Full)
         → TrimmedTo (IsNew store.new) (content store.old square) (least_level rule) }
-    ensures adds { AddsOnly held
+    ensures adds { AddsOnly stored_squares
         (λ P. TrimmedTo P (content store.old square) (least_level rule)) store.old store.new }
     ensures keeps { Keeps store.old store.new }
 {
@@ -84,7 +84,7 @@ pub fn next_by_rule(alloc: Global, store: &mut Shared, pattern: Pattern) -> Resu
         (RefusesPattern (LifeRefusal MAX_LEVEL) pattern store.old store.new) }
     ensures needed { result ≡ Err (fault_of Kind.Full)
         → LacksForLife pattern.rule (content store.old pattern.root) store.new }
-    ensures adds { AddsOnly held
+    ensures adds { AddsOnly stored_squares
         (λ P. SomeByRule P pattern.rule (content store.old pattern.root)) store.old store.new }
     ensures keeps { Keeps store.old store.new }
 {
@@ -111,7 +111,7 @@ pub fn step_life(alloc: Global, store: &mut Shared, bytes: &[u8]) -> Result<Vec<
     ensures stepped { IfOk result (λ text. IsStepped bytes.now text.items) }
     ensures refused { IfErr result (RefusesFile (LifeRefusal MAX_LEVEL) bytes.now store.new) }
     ensures needed { result ≡ Err (fault_of Kind.Full) → LacksForStep bytes.now store.new }
-    ensures adds { AddsOnly held (λ P. SomeOfStep P bytes.now) store.old store.new }
+    ensures adds { AddsOnly stored_squares (λ P. SomeOfStep P bytes.now) store.old store.new }
     ensures keeps { Keeps store.old store.new }
 {
     let pattern = read(alloc, store, bytes)?;
@@ -136,7 +136,7 @@ pub fn next_by_table(
         (RefusesPattern (TableRefusal MAX_LEVEL table.now) pattern store.old store.new) }
     ensures needed { result ≡ Err (fault_of Kind.Full)
         → LacksForTable table.now pattern.rule (content store.old pattern.root) store.new }
-    ensures adds { AddsOnly held
+    ensures adds { AddsOnly stored_squares
         (λ P. SomeByTable P table.now pattern.rule (content store.old pattern.root)) store.old
         store.new }
     ensures keeps { Keeps store.old store.new }
@@ -183,7 +183,8 @@ pub fn step_table(
         (RefusesFile (TableRefusal MAX_LEVEL table.now) bytes.now store.new) }
     ensures needed { result ≡ Err (fault_of Kind.Full)
         → LacksForStepBy table.now bytes.now store.new }
-    ensures adds { AddsOnly held (λ P. SomeOfStepBy P table.now bytes.now) store.old store.new }
+    ensures adds { AddsOnly stored_squares (λ P. SomeOfStepBy P table.now bytes.now) store.old
+        store.new }
     ensures keeps { Keeps store.old store.new }
 {
     let pattern = read(alloc, store, bytes)?;

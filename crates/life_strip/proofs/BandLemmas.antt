@@ -7,9 +7,9 @@ use Rattle.life_quad.specs.Store.{two, four}
 use Rattle.life_base.specs.Tree.{Tree, quad, blank}
 use Rattle.life_strip.specs.declared.spans.Span.{Span}
 use Rattle.life_strip.specs.declared.spans.Stretch.{Stretch}
-use Rattle.life_strip.specs.Strip.{id_at, square_or_blank, square_at, quad_at, IsStrip, IsFound, IsBefore, IsNearer, AreBefore, AreWithin, EndsAfter, IsExtended, Rise}
+use Rattle.life_strip.specs.Strip.{id_at, square_or_blank, square_at, quad_at, IsStrip, IsFoundStretch, IsColumnBefore, IsNearer, AreBefore, AreWithin, EndsAfter, IsExtended, Rise}
 use Rattle.life_strip.specs.declared.words.TwoWords.{TwoWords}
-use Rattle.life_strip.specs.Band.{four_at, cell_in, IsWord, west_at, east_at, cells_at}
+use Rattle.life_strip.specs.Band.{four_at, cell_in_spans, IsWordOfCells, west_at, east_at, cells_at}
 use Rattle.std.proofs.Math.ListN.{set, length-set}
 use Rattle.std.proofs.lemmas.List.{get_or_default}
 use Rattle.std.proofs.lemmas.List.Elements.{All-tail, All-set}
@@ -103,14 +103,15 @@ four-keeps {knows} {knows'} {old} {now} keeps a b c d ka kb kc kd column =
 -- two squares of two rows go on
 module _ (knows : Id → Type 0) (content : Id → Tree) (blank_id : Id) (known : knows blank_id) (is_blank : content blank_id ≡ blank 0) where
   two-same : (upper lower : List Span) → IsStrip knows content 0 upper → IsStrip knows content 0 lower
-      → (column c : ℕ) (n s : Stretch) → IsFound upper (4 * column) blank_id n → IsFound lower (4 * column) blank_id s → column < c → IsBefore (4 * c + 3) n.end
-      → IsBefore (4 * c + 3) s.end
+      → (column c : ℕ) (n s : Stretch) → IsFoundStretch upper (4 * column) blank_id n → IsFoundStretch lower (4 * column) blank_id s → column < c
+      → IsColumnBefore (4 * c + 3) n.end
+      → IsColumnBefore (4 * c + 3) s.end
       → (quad_at content 0 upper lower (2 * c) ≡ quad_at content 0 upper lower (2 * column))
       × (quad_at content 0 upper lower (2 * c + 1) ≡ quad_at content 0 upper lower (2 * column + 1))
   two-same upper lower u l column c n s hn hs lt le me =
       let twice : 4 * column ≡ 2 * (2 * column) = omega arith in
-      let fn = subst (λ k. IsFound upper k blank_id n) twice hn in
-      let fs = subst (λ k. IsFound lower k blank_id s) twice hs in
+      let fn = subst (λ k. IsFoundStretch upper k blank_id n) twice hn in
+      let fs = subst (λ k. IsFoundStretch lower k blank_id s) twice hs in
       let at = λ (k : ℕ) (after : 2 * column < k) (most : 2 * k + 1 ≤ 4 * c + 3).
       quad-same knows content 0 upper lower u l blank_id known is_blank (2 * column) k n s fn fs after (before_earlier (2 * k + 1) (4 * c + 3) n.end most le)
       (before_earlier (2 * k + 1) (4 * c + 3) s.end most me) in (
@@ -120,9 +121,11 @@ module _ (knows : Id → Type 0) (content : Id → Tree) (blank_id : Id) (known 
       )
 
   pub four-same : (a b c d : List Span) → IsStrip knows content 0 a → IsStrip knows content 0 b → IsStrip knows content 0 c → IsStrip knows content 0 d
-      → (column x : ℕ) (fa fb fc fd : Stretch) → IsFound a (4 * column) blank_id fa → IsFound b (4 * column) blank_id fb → IsFound c (4 * column) blank_id fc
-      → IsFound d (4 * column) blank_id fd
-      → column < x → IsBefore (4 * x + 3) fa.end → IsBefore (4 * x + 3) fb.end → IsBefore (4 * x + 3) fc.end → IsBefore (4 * x + 3) fd.end
+      → (column x : ℕ) (fa fb fc fd : Stretch) → IsFoundStretch a (4 * column) blank_id fa → IsFoundStretch b (4 * column) blank_id fb
+      → IsFoundStretch c (4 * column) blank_id fc
+      → IsFoundStretch d (4 * column) blank_id fd
+      → column < x → IsColumnBefore (4 * x + 3) fa.end → IsColumnBefore (4 * x + 3) fb.end → IsColumnBefore (4 * x + 3) fc.end
+      → IsColumnBefore (4 * x + 3) fd.end
       → four_at content a b c d x ≡ four_at content a b c d column
   four-same a b c d ka kb kc kd column x fa fb fc fd ha hb hc hd lt la lb lc ld =
       let north = two-same a b ka kb column x fa fb ha hb lt la lb in
@@ -136,18 +139,20 @@ nearer-none (Some x) a b h e = absurd cc
 
 -- where no span is left all is blank
 module _ (content : Id → Tree) (column : ℕ) (i : Id) where
-  none-blank : (r : List Span) (f : Stretch) → IsFound r (4 * column) i f → f.start ≡ None → (c : ℕ) → 4 * column ≤ c → square_at content 0 r c ≡ blank 0
+  none-blank : (r : List Span) (f : Stretch) → IsFoundStretch r (4 * column) i f → f.start ≡ None → (c : ℕ) → 4 * column ≤ c → square_at content 0 r c ≡ blank 0
   none-blank r f h e c le = ap (square_or_blank content 0) (none-left r (4 * column) i f h e c le)
 
-  pub four-blank : (a b c d : List Span) (fa fb fc fd : Stretch) → IsFound a (4 * column) i fa → IsFound b (4 * column) i fb → IsFound c (4 * column) i fc
-      → IsFound d (4 * column) i fd
+  pub four-blank : (a b c d : List Span) (fa fb fc fd : Stretch) → IsFoundStretch a (4 * column) i fa → IsFoundStretch b (4 * column) i fb
+      → IsFoundStretch c (4 * column) i fc
+      → IsFoundStretch d (4 * column) i fd
       → fa.start ≡ None → fb.start ≡ None → fc.start ≡ None → fd.start ≡ None → (x : ℕ) → column ≤ x → four_at content a b c d x ≡ blank 2
   four-blank a b c d fa fb fc fd ha hb hc hd ea eb ec ed x le =
       let p = two a b fa fb ha hb ea eb in
       let q = two c d fc fd hc hd ec ed in
       λ j. quad (p (2 * x) (omega arith) j) (p (2 * x + 1) (omega arith) j) (q (2 * x) (omega arith) j) (q (2 * x + 1) (omega arith) j)
     where
-      two : (u l : List Span) (fu fl : Stretch) → IsFound u (4 * column) i fu → IsFound l (4 * column) i fl → fu.start ≡ None → fl.start ≡ None → (k : ℕ)
+      two : (u l : List Span) (fu fl : Stretch) → IsFoundStretch u (4 * column) i fu → IsFoundStretch l (4 * column) i fl → fu.start ≡ None → fl.start ≡ None
+          → (k : ℕ)
           → 2 * x ≤ k → quad_at content 0 u l k ≡ blank 1
       two u l fu fl hu hl eu el k more =
           let nw = none-blank u fu hu eu (2 * k) (omega (arith, le, more)) in
@@ -161,7 +166,8 @@ pub record IsUnbegun (spans : List Span) (found : Stretch) (column first : ℕ) 
   pub none : (y : ℕ) → column ≤ y → y < first → id_at spans y ≡ None
   pub ends : (y : ℕ) → y ≤ first → EndsAfter spans found.index y
 
-unbegun : (spans : List Span) (column : ℕ) (i : Id) (f : Stretch) (first : ℕ) → IsFound spans column i f → ((x : ℕ) → x < first → IsBefore x f.start)
+unbegun : (spans : List Span) (column : ℕ) (i : Id) (f : Stretch) (first : ℕ) → IsFoundStretch spans column i f
+    → ((x : ℕ) → x < first → IsColumnBefore x f.start)
     → IsUnbegun spans f column first
 unbegun spans column i f first h before =
     record { none = blank-before spans column i f h first before; ends = λ y le. ends-after spans column i f h first y before le }
@@ -194,7 +200,8 @@ four-unbegun content a b c d fa fb fc fd column first near x le lt =
     λ i. quad (nw i) (ne i) (sw i) (se i)
 
 pub nearest-start : {a b c d : List Span} {column first : ℕ} {i : Id} {fa fb fc fd : Stretch} {n s : Option ℕ}
-    → IsFound a column i fa → IsFound b column i fb → IsFound c column i fc → IsFound d column i fd → AreWithin 0 a → AreWithin 0 b → AreWithin 0 c
+    → IsFoundStretch a column i fa → IsFoundStretch b column i fb → IsFoundStretch c column i fc → IsFoundStretch d column i fd → AreWithin 0 a → AreWithin 0 b
+    → AreWithin 0 c
     → AreWithin 0 d
     → MatchOption n ((fa.start ≡ None) × (fb.start ≡ None)) (λ e. IsNearer e fa.start fb.start)
     → MatchOption s ((fc.start ≡ None) × (fd.start ≡ None)) (λ e. IsNearer e fc.start fd.start) → IsNearer first n s
@@ -222,16 +229,17 @@ nearest-start {a} {b} {c} {d} {column} {first} {i} {fa} {fb} {fc} {fd} {n} {s} h
 
 -- the nearest of four ends is beyond the column, and one of the plane
 pub nearest-inside : {a b c d : List Span} {column end : ℕ} {i : Id} {fa fb fc fd : Stretch} {n s : Option ℕ}
-    → IsFound a column i fa → IsFound b column i fb → IsFound c column i fc → IsFound d column i fd → AreWithin 0 a → AreWithin 0 b → AreWithin 0 c
+    → IsFoundStretch a column i fa → IsFoundStretch b column i fb → IsFoundStretch c column i fc → IsFoundStretch d column i fd → AreWithin 0 a → AreWithin 0 b
+    → AreWithin 0 c
     → AreWithin 0 d
     → MatchOption n ((fa.end ≡ None) × (fb.end ≡ None)) (λ e. IsNearer e fa.end fb.end)
     → MatchOption s ((fc.end ≡ None) × (fd.end ≡ None)) (λ e. IsNearer e fc.end fd.end) → IsNearer end n s
     → (column < end) × (end ≤ 4 * 2 ^ (MAX_LEVEL - 2))
 nearest-inside {a} {b} {c} {d} {column} {end} {i} {fa} {fb} {fc} {fd} {n} {s} ha hb hc hd wa wb wc wd north south both =
     let side = 4 * 2 ^ (MAX_LEVEL - 2) in
-    let before : Option ℕ → Type 0 = IsBefore column in
+    let before : Option ℕ → Type 0 = IsColumnBefore column in
     let inside : Option ℕ → Type 0 = λ o. IfSome o (λ e. e ≤ side) in
-    let within = λ (r : List Span) (f : Stretch) (w : AreWithin 0 r) (h : IsFound r column i f). found-within side r w column i f h in (
+    let within = λ (r : List Span) (f : Stretch) (w : AreWithin 0 r) (h : IsFoundStretch r column i f). found-within side r w column i f h in (
       nearer-one before (Some end) n s both (nearer-one before n fa.end fb.end north ha.beyond hb.beyond)
           (nearer-one before s fc.end fd.end south hc.beyond hd.beyond),
       nearer-one inside (Some end) n s both (nearer-one inside n fa.end fb.end north (within a fa wa ha) (within b fb wb hb))
@@ -242,8 +250,9 @@ nearest-inside {a} {b} {c} {d} {column} {end} {i} {fa} {fb} {fc} {fd} {n} {s} ha
 words-square : {knows knows' : Id → Type 0} {old now : Id → Tree} → Keeps knows knows' old now → (a b c d : List Span) → IsStrip knows old 0 a
     → IsStrip knows old 0 b → IsStrip knows old 0 c → IsStrip knows old 0 d
     → IsStrip knows' now 0 a → IsStrip knows' now 0 b → IsStrip knows' now 0 c → IsStrip knows' now 0 d
-    → (start : ℕ) (upper lower : TwoWords) → IsWord (cell_in now a) start upper.north.cells → IsWord (cell_in now b) start upper.south.cells
-    → IsWord (cell_in now c) start lower.north.cells → IsWord (cell_in now d) start lower.south.cells
+    → (start : ℕ) (upper lower : TwoWords) → IsWordOfCells (cell_in_spans now a) start upper.north.cells
+    → IsWordOfCells (cell_in_spans now b) start upper.south.cells
+    → IsWordOfCells (cell_in_spans now c) start lower.north.cells → IsWordOfCells (cell_in_spans now d) start lower.south.cells
     → (square column : ℕ) → square < 16 → 4 * column ≡ start + 4 * square → four (cells_at upper lower square) ≡ four_at old a b c d column
 words-square {knows} {knows'} {old} {now} keeps a b c d ka kb kc kd ma mb mc md start upper lower ha hb hc hd square column lt e =
     let nw = west-square knows' now a b ma mb start square upper ha hb lt column e in
@@ -259,9 +268,10 @@ pub words-wanted : {S : Type 0} {knows : S → Id → Type 0} {content : S → I
     → KeepsSquares knows content stored most old new
     → (a b c d : List Span) → IsStrip (knows old) (content old) 0 a → IsStrip (knows old) (content old) 0 b → IsStrip (knows old) (content old) 0 c
     → IsStrip (knows old) (content old) 0 d
-    → (block : ℕ) (upper lower : TwoWords) → IsWord (cell_in (content new) a) (64 * block) upper.north.cells
-    → IsWord (cell_in (content new) b) (64 * block) upper.south.cells
-    → IsWord (cell_in (content new) c) (64 * block) lower.north.cells → IsWord (cell_in (content new) d) (64 * block) lower.south.cells
+    → (block : ℕ) (upper lower : TwoWords) → IsWordOfCells (cell_in_spans (content new) a) (64 * block) upper.north.cells
+    → IsWordOfCells (cell_in_spans (content new) b) (64 * block) upper.south.cells
+    → IsWordOfCells (cell_in_spans (content new) c) (64 * block) lower.north.cells
+    → IsWordOfCells (cell_in_spans (content new) d) (64 * block) lower.south.cells
     → (square : ℕ) → square < 16 → four (cells_at upper lower square) ≡ four_at (content old) a b c d (16 * block + square)
 words-wanted {knows = knows} {content = content} {old = old} {new = new} keeps a b c d ka kb kc kd block upper lower ha hb hc hd square lt =
     words-square {knows = knows old} {knows' = knows new} {old = content old} {now = content new} keeps.contents a b c d ka kb kc kd

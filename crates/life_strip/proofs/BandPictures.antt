@@ -12,7 +12,7 @@ use Rattle.life_strip.specs.declared.spans.Span.{Span}
 use Rattle.life_strip.specs.declared.spans.Strip.{Strip}
 use Rattle.life_strip.specs.declared.pile.Pile.{Pile}
 use Rattle.life_strip.specs.Strip.{square_at, quad_at, IsStrip, AreWithin}
-use Rattle.life_strip.specs.Picture.{state_in, picture, height, AreFalling, AreStacked, IsLowest, IsRow, IsSound}
+use Rattle.life_strip.specs.Picture.{state_in_strip, picture, height, AreFalling, AreStacked, IsLowest, IsRow, IsSoundStrip}
 use Rattle.life_strip.specs.Needed.{SomeSquare}
 use Rattle.life_strip.specs.Band.{four_at}
 use Rattle.life_strip.specs.Pile.{IsPile, strips_of}
@@ -66,16 +66,16 @@ pub picture-beyond : (content : Id → Tree) (xs : List Strip) (i j : ℕ) → h
 picture-beyond content [] i j le = refl
 picture-beyond content (x ∷ xs) i j le =
     let out : nat_lt j (2 ^ x.level) ≡ false = grind (arith, le) in
-    ap (λ b. if b then state_in content x i j else picture content xs i (j - 2 ^ x.level)) out
+    ap (λ b. if b then state_in_strip content x i j else picture content xs i (j - 2 ^ x.level)) out
     ∙ picture-beyond content xs i (j - 2 ^ x.level) (omega (arith, le))
 
 -- other strips with the same cells, below strips that are kept
-pub picture-over : {knows knows' : Id → Type 0} {old new : Id → Tree} → Keeps knows knows' old new → (xs ys zs : List Strip) → All (IsSound knows old) xs
+pub picture-over : {knows knows' : Id → Type 0} {old new : Id → Tree} → Keeps knows knows' old new → (xs ys zs : List Strip) → All (IsSoundStrip knows old) xs
     → ((i j : ℕ) → picture new ys i j ≡ picture old zs i j) → (i j : ℕ) → picture new (xs ++ ys) i j ≡ picture old (xs ++ zs) i j
 picture-over keeps [] ys zs h e i j = e i j
 picture-over {knows} {knows'} {old} {new} keeps (x ∷ xs) ys zs h e i j =
     let here = state_in-keeps {knows = knows} {knows' = knows'} {old = old} {new = new} keeps x (h 0 x (omega arith)) i j in
-    let more = picture-over {knows = knows} {knows' = knows'} {old = old} {new = new} keeps xs ys zs (All-tail (IsSound knows old) x xs h) e i
+    let more = picture-over {knows = knows} {knows' = knows'} {old = old} {new = new} keeps xs ys zs (All-tail (IsSoundStrip knows old) x xs h) e i
     (j - 2 ^ x.level) in
     λ y. if nat_lt j (2 ^ x.level) then here y else more y
 
@@ -325,18 +325,19 @@ picture-append content (x ∷ xs) ys i j = by (picture-append content xs ys i (j
         ≡ (if nat_lt j (2 ^ x.level + height xs) then picture content (x ∷ xs) i j else picture content ys i (j - (2 ^ x.level + height xs)))
     by more true e =
         let in_all : nat_lt j (2 ^ x.level + height xs) ≡ true = grind (arith, e) in
-        ap (λ b. if b then state_in content x i j else picture content (xs ++ ys) i (j - 2 ^ x.level)) e
+        ap (λ b. if b then state_in_strip content x i j else picture content (xs ++ ys) i (j - 2 ^ x.level)) e
         ∙ sym (ap (λ b. if b then picture content (x ∷ xs) i j else picture content ys i (j - (2 ^ x.level + height xs))) in_all
-        ∙ ap (λ b. if b then state_in content x i j else picture content xs i (j - 2 ^ x.level)) e)
+        ∙ ap (λ b. if b then state_in_strip content x i j else picture content xs i (j - 2 ^ x.level)) e)
     by more false e =
         let beyond : 2 ^ x.level ≤ j = grind (arith, e) in
         let in_all : nat_lt j (2 ^ x.level + height xs) ≡ nat_lt (j - 2 ^ x.level) (height xs) = grind (arith, beyond) in
         let rest : j - 2 ^ x.level - height xs ≡ j - (2 ^ x.level + height xs) = omega arith in
-        ap (λ b. if b then state_in content x i j else picture content (xs ++ ys) i (j - 2 ^ x.level)) e ∙ more
-        ∙ sym ((λ k. if in_all k then (if e k then state_in content x i j else picture content xs i (j - 2 ^ x.level)) else picture content ys i (sym rest k)))
+        ap (λ b. if b then state_in_strip content x i j else picture content (xs ++ ys) i (j - 2 ^ x.level)) e ∙ more
+        ∙ sym ((λ k. if in_all k then (if e k then state_in_strip content x i j else picture content xs i (j - 2 ^ x.level)) else picture content ys i
+        (sym rest k)))
 
 -- strips that are kept, below others with the same cells
-pub picture-under : {knows knows' : Id → Type 0} {old new : Id → Tree} → Keeps knows knows' old new → (xs zs ys : List Strip) → All (IsSound knows old) ys
+pub picture-under : {knows knows' : Id → Type 0} {old new : Id → Tree} → Keeps knows knows' old new → (xs zs ys : List Strip) → All (IsSoundStrip knows old) ys
     → height xs ≡ height zs
     → ((i j : ℕ) → picture new xs i j ≡ picture old zs i j) → (i j : ℕ) → picture new (xs ++ ys) i j ≡ picture old (zs ++ ys) i j
 picture-under {knows} {knows'} {old} {new} keeps xs zs ys h same e i j =
@@ -385,10 +386,10 @@ four-are xs a b c d e ea eb ec ed =
 -- what is known of four rows of cells
 pub record AreRows (knows : Id → Type 0) (content : Id → Tree) (xs : List Strip) (a b c d : Strip) : Type 0 where
   pub are : xs ≡ of_cells a ∷ of_cells b ∷ of_cells c ∷ of_cells d ∷ []
-  pub first : IsSound knows content (of_cells a)
-  pub second : IsSound knows content (of_cells b)
-  pub third : IsSound knows content (of_cells c)
-  pub fourth : IsSound knows content (of_cells d)
+  pub first : IsSoundStrip knows content (of_cells a)
+  pub second : IsSoundStrip knows content (of_cells b)
+  pub third : IsSoundStrip knows content (of_cells c)
+  pub fourth : IsSoundStrip knows content (of_cells d)
 
 pub are-rows : (knows : Id → Type 0) (content : Id → Tree) (xs : List Strip) (a b c d : Strip) → length xs ≡ 4 → a ≡ get_or xs 0 a → b ≡ get_or xs 1 b
     → c ≡ get_or xs 2 c → d ≡ get_or xs 3 d
@@ -402,10 +403,10 @@ are-rows knows content xs a b c d e ea eb ec ed cells =
     let ld = is_of_cells d (strips 3 a (omega arith)).level in
     record {
       are = four ∙ (λ i. la i ∷ lb i ∷ lc i ∷ ld i ∷ []);
-      first = subst (IsSound knows content) la (strips 0 a (omega arith)).sound;
-      second = subst (IsSound knows content) lb (strips 1 a (omega arith)).sound;
-      third = subst (IsSound knows content) lc (strips 2 a (omega arith)).sound;
-      fourth = subst (IsSound knows content) ld (strips 3 a (omega arith)).sound;
+      first = subst (IsSoundStrip knows content) la (strips 0 a (omega arith)).sound;
+      second = subst (IsSoundStrip knows content) lb (strips 1 a (omega arith)).sound;
+      third = subst (IsSoundStrip knows content) lc (strips 2 a (omega arith)).sound;
+      fourth = subst (IsSoundStrip knows content) ld (strips 3 a (omega arith)).sound;
     }
 
 -- four rows and their spans, read one by one

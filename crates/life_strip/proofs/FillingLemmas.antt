@@ -9,7 +9,7 @@ use Rattle.life_base.specs.declared.cell.Run.{Run}
 use Rattle.life_strip.specs.declared.plane.Plane.{Plane}
 use Rattle.life_strip.specs.Strip.{id_at}
 use Rattle.life_strip.specs.Picture.{picture, height}
-use Rattle.life_strip.specs.Given.{IsBehind, IsNext, AreInOrder, state_by, by_columns, half_plane}
+use Rattle.life_strip.specs.Given.{IsAfterRun, IsNextRunStart, AreInOrder, state_by, by_columns, half_plane}
 use Rattle.life_strip.specs.Needed.{SomeSquare}
 use Rattle.life_strip.specs.Plane.{IsFilled, IsUnfilled, IsFree, AddsRun, state_so_far, cell_so_far, on_plane}
 use Rattle.life_strip.specs.Filling.{Building, IsFilling, EmptyFills, FillingStays}
@@ -20,7 +20,7 @@ use Rattle.life_strip.proofs.GivenLemmas.{order-push, next-last, state_by-push}
 
 -- one run more
 pub filling-push : (knows : Id → Type 0) (content : Id → Tree) (new : Plane) (before : ℤ → ℤ → ℕ) (runs : List Run) (run : Run) → AreInOrder runs
-    → IsNext runs run.x run.y
+    → IsNextRunStart runs run.x run.y
     → ((x y : ℤ) → before x y ≡ state_by runs x y) → IsFilled knows content new → AddsRun before (cell_so_far content new) run
     → ((x y : ℤ) → run.y <ℤ y → IsFree new x y) → ((x : ℤ) → (run.x +ℤ pos run.len) ≤ℤ x → IsFree new x run.y)
     → IsFilling knows content (record { runs = runs ++ run ∷ []; kept = new })
@@ -32,7 +32,7 @@ filling-push knows content new before runs run order next cells filled adds belo
       next = λ x y north h. free x y (next-last runs run x y h);
     }
   where
-    free : (x y : ℤ) → IsBehind run x y → IsFree new x y
+    free : (x y : ℤ) → IsAfterRun run x y → IsFree new x y
     free x y (inl h) = below x y h
     free x y (inr (e, h)) = subst (IsFree new x) e (beside x h)
 

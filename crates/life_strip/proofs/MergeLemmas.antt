@@ -11,7 +11,7 @@ use Rattle.life_quad.specs.declared.id.Id.{Id}
 use Rattle.life_quad.specs.Keeping.{KeepsSquares}
 use Rattle.life_strip.specs.declared.spans.Strip.{Strip}
 use Rattle.life_strip.specs.Strip.{AreWithin, IsStrip, quad_at, Rise}
-use Rattle.life_strip.specs.Picture.{picture, height, AreFalling, AreStacked, IsLowest, IsSound, IsStack}
+use Rattle.life_strip.specs.Picture.{picture, height, AreFalling, AreStacked, IsLowest, IsSoundStrip, IsStack}
 use Rattle.life_strip.specs.Needed.{SomeColumn, SomeSquare}
 use Rattle.life_strip.proofs.NeededLemmas.{height-divided, picture-below, SomeSquare-pair, SomeSquare-same}
 use Rattle.life_strip.proofs.PictureLemmas.{fits_below, all_init, all_last, picture-blank, picture-merge, height-push}
@@ -28,11 +28,11 @@ module _ (xs first : List Strip) (last strip : Strip) (items : xs ≡ first ++ l
 
   -- a square that the call to make them one needs is one of theirs
   pub merged-needs : (knows : Id → Type 0) (content : Id → Tree) → ((id : Id) → knows id → IsFull (content id)) → AreStacked knows content xs
-      → IsSound knows content strip → height xs + 2 ^ strip.level ≤ 2 ^ MAX_LEVEL → (P : Tree → Type 0)
+      → IsSoundStrip knows content strip → height xs + 2 ^ strip.level ≤ 2 ^ MAX_LEVEL → (P : Tree → Type 0)
       → SomeColumn P (last.level + 1) (quad_at content last.level last.spans.items strip.spans.items)
       → SomeSquare P (height xs + 2 ^ strip.level) (picture content (xs ++ strip ∷ []))
   merged-needs knows content full stacked sound room P n =
-      let upper = all_last (IsSound knows content) first last (subst (All (IsSound knows content)) items stacked.sound) in
+      let upper = all_last (IsSoundStrip knows content) first last (subst (All (IsSoundStrip knows content)) items stacked.sound) in
       let lower : IsStrip knows content last.level strip.spans.items = subst (λ n. IsStrip knows content n strip.spans.items) (sym same) sound.squares in
       subst (λ z. SomeSquare P (height z + 2 ^ strip.level) (picture content (z ++ strip ∷ []))) (sym items)
       (SomeSquare-pair knows content last strip upper.squares (sym same) n.0 P first full lower (subst AreFalling items stacked.falling) (not-greatest room)
@@ -47,10 +47,10 @@ module _ (xs first : List Strip) (last strip : Strip) (items : xs ≡ first ++ l
         omega (arith, h, w, v)
 
     pub merged-cells : {S : Type 0} {knows : S → Id → Type 0} {content : S → Id → Tree} {stored : S → List Tree} {most : S → ℕ} {old new : S}
-        → KeepsSquares knows content stored most old new → All (IsSound (knows old) (content old)) xs → IsStack (content old) (content new) last strip both
+        → KeepsSquares knows content stored most old new → All (IsSoundStrip (knows old) (content old)) xs → IsStack (content old) (content new) last strip both
         → (i j : ℕ) → picture (content new) (first ++ both ∷ []) i j ≡ picture (content old) (xs ++ strip ∷ []) i j
     merged-cells {knows = knows} {content = content} {old = old} {new = new} keeps sound stack i j =
-        let P = IsSound (knows old) (content old) in
+        let P = IsSoundStrip (knows old) (content old) in
         picture-merge {knows = knows old} {knows' = knows new} {old = content old} {new = content new} keeps.contents first last strip both
         (all_init P first last (subst (All P) items sound)) (sym same) level stack i j
         ∙ ap (λ z. picture (content old) (z ++ strip ∷ []) i j) (sym items)
@@ -58,16 +58,16 @@ module _ (xs first : List Strip) (last strip : Strip) (items : xs ≡ first ++ l
 -- ---- a strip above blank ones
 
 -- any store knows a blank strip
-pub blank-sound : (knows : Id → Type 0) (content : Id → Tree) (s : Strip) → s.spans.items ≡ [] → IsSound knows content s
+pub blank-sound : (knows : Id → Type 0) (content : Id → Tree) (s : Strip) → s.spans.items ≡ [] → IsSoundStrip knows content s
 blank-sound knows content s e = record {
   squares = subst (IsStrip knows content s.level) (sym e) (λ c id at. absurd cc);
   within = subst (AreWithin s.level) (sym e) (λ k d lt. absurd (omega (arith, lt)));
   rises = subst Rise (sym e) (λ i j d lt within. absurd (omega (arith, within)));
 }
 
-pub one-stacked : (knows : Id → Type 0) (content : Id → Tree) (s : Strip) → IsSound knows content s → AreStacked knows content (s ∷ [])
+pub one-stacked : (knows : Id → Type 0) (content : Id → Tree) (s : Strip) → IsSoundStrip knows content s → AreStacked knows content (s ∷ [])
 one-stacked knows content s sound = record {
-  sound = all-one (IsSound knows content) s sound;
+  sound = all-one (IsSoundStrip knows content) s sound;
   falling = λ i j d lt within. absurd (omega (arith, lt, within));
 }
 
@@ -80,7 +80,7 @@ two-fit level top lt =
 
 -- a square that the two need is one of the strip alone
 pub raised-needs : (knows : Id → Type 0) (content : Id → Tree) → ((id : Id) → knows id → IsFull (content id)) → (last blank : Strip)
-    → blank.level ≡ last.level → blank.spans.items ≡ [] → IsSound knows content last → (top : ℕ) → last.level < top → top ≤ MAX_LEVEL
+    → blank.level ≡ last.level → blank.spans.items ≡ [] → IsSoundStrip knows content last → (top : ℕ) → last.level < top → top ≤ MAX_LEVEL
     → (P : Tree → Type 0) → SomeColumn P (last.level + 1) (quad_at content last.level last.spans.items blank.spans.items)
     → SomeSquare P (2 ^ top) (picture content (last ∷ []))
 raised-needs knows content full last blank same none sound top lower high P n =

@@ -10,7 +10,7 @@ use Rattle.life_base.proofs.Basics.{twice}
 use Rattle.life_strip.specs.declared.spans.Span.{Span}
 use Rattle.life_strip.specs.declared.spans.Strip.{Strip}
 use Rattle.life_strip.specs.Strip.{id_at, square_or_blank, square_at, quad_at, IsStrip}
-use Rattle.life_strip.specs.Picture.{state_in, picture, height, AreFalling, IsLowest}
+use Rattle.life_strip.specs.Picture.{state_in_strip, picture, height, AreFalling, IsLowest}
 use Rattle.life_strip.specs.Needed.{SomeSquare}
 use Rattle.life_strip.proofs.SpanLemmas.{depth-square_at}
 use Rattle.life_strip.proofs.PictureLemmas.{height-push, lowest-init}
@@ -91,7 +91,8 @@ picture-below content [] ys i j = ap (picture content ys i) (omega arith)
 picture-below content (x ∷ xs) ys i j =
     let out : nat_lt (2 ^ x.level + height xs + j) (2 ^ x.level) ≡ false = grind arith in
     let back : 2 ^ x.level + height xs + j - 2 ^ x.level ≡ height xs + j = omega arith in
-    ap (λ b. if b then state_in content x i (2 ^ x.level + height xs + j) else picture content (xs ++ ys) i (2 ^ x.level + height xs + j - 2 ^ x.level)) out
+    ap (λ b. if b then state_in_strip content x i (2 ^ x.level + height xs + j) else picture content (xs ++ ys) i (2 ^ x.level + height xs + j - 2 ^ x.level))
+    out
     ∙ ap (picture content (xs ++ ys) i) back ∙ picture-below content xs ys i j
 
 -- strips of a level or more have a number of rows that its squares divide
@@ -153,7 +154,8 @@ module _ (knows : Id → Type 0) (content : Id → Tree) (a b : Strip) (sound : 
         col = c * (2 * m) + i
 
         upper_row : nat_lt j m ≡ true → picture content (a ∷ b ∷ []) col j ≡ state_at (u (col / m)) (col % m) j
-        upper_row e = ap (λ t. if t then state_in content a col j else (if nat_lt (j - m) (2 ^ b.level) then state_in content b col (j - m) else 0)) e
+        upper_row e = ap (λ t. if t then state_in_strip content a col j else (if nat_lt (j - m) (2 ^ b.level) then state_in_strip content b col (j - m) else 0))
+            e
 
         lower_row : nat_lt j m ≡ false → picture content (a ∷ b ∷ []) col j ≡ state_at (l (col / m)) (col % m) (j - m)
         lower_row e =
@@ -161,8 +163,8 @@ module _ (knows : Id → Type 0) (content : Id → Tree) (a b : Strip) (sound : 
             let beyond : m ≤ j = grind (arith, e) in
             let small : j - m < 2 ^ b.level = omega (arith, lj, beyond, v) in
             let t : nat_lt (j - m) (2 ^ b.level) ≡ true = grind (arith, small) in
-            ap (λ t. if t then state_in content a col j else (if nat_lt (j - m) (2 ^ b.level) then state_in content b col (j - m) else 0)) e
-            ∙ ap (λ t. if t then state_in content b col (j - m) else 0) t
+            ap (λ t. if t then state_in_strip content a col j else (if nat_lt (j - m) (2 ^ b.level) then state_in_strip content b col (j - m) else 0)) e
+            ∙ ap (λ t. if t then state_in_strip content b col (j - m) else 0) t
             ∙ (λ x. state_at (square_at content (same x) b.spans.items (col / 2 ^ same x)) (col % 2 ^ same x) (j - m))
 
         by : (p : Bool) → nat_lt j m ≡ p → (q : Bool) → nat_lt i m ≡ q

@@ -9,9 +9,9 @@ use Rattle.life_quad.specs.declared.id.Id.{Id}
 use Rattle.life_quad.specs.declared.moves.Quarters.{Quarters}
 use Rattle.life_quad.specs.Refused.{SomeOf}
 use Rattle.life_strip.specs.declared.spans.Span.{Span}
-use Rattle.life_strip.specs.declared.spans.Place.{Place}
+use Rattle.life_strip.specs.declared.spans.StripPlace.{StripPlace}
 use Rattle.life_strip.specs.declared.spans.TheConstants.{NEVER}
-use Rattle.life_strip.specs.Strip.{FilledTo, IsAt, IsPiece, ArePieces, with_squares, AreWithin, HaveColumns, EndsAfter, IsPast, Rise, goes_to, quad_at}
+use Rattle.life_strip.specs.Strip.{FilledTo, IsAt, IsStripPiece, ArePieces, with_squares, AreWithin, HaveColumns, EndsAfter, IsPast, Rise, goes_to, quad_at}
 use Rattle.life_strip.specs.Needed.{SomeColumn}
 use Rattle.life_strip.proofs.SpanLemmas.{Keeps, before_columns, filled-skip, filled-more, extended-push, strip-keeps, square-keeps}
 use Rattle.life_strip.proofs.PlaceLemmas.{goes-end}
@@ -27,14 +27,15 @@ at-first level spans within = record {
 }
 
 -- where the next square begins, and up to where this one goes on in a strip
-pub record IsNextSquare (place : Place) (first end next side : ℕ) : Type 0 where
+pub record IsNextSquare (place : StripPlace) (first end next side : ℕ) : Type 0 where
   pub goes : end ≤ goes_to place (2 * (first / 2))
   pub later : 2 * next ≤ 2 * (first / 2) + 2 ⊎ 2 * next ≤ end
   pub from : 2 * (first / 2) + 1 ≤ 2 * next
   pub inside : next ≤ side
 
 -- a strip goes on from a place, in a later column no farther than the end of the place before
-pub goes_on : (level : ℕ) (spans : List Span) {column first end next : ℕ} {place joined : Place} → AreWithin level spans → Rise spans → IsAt spans column place
+pub goes_on : (level : ℕ) (spans : List Span) {column first end next : ℕ} {place joined : StripPlace} → AreWithin level spans → Rise spans
+    → IsAt spans column place
     → IsAt spans (2 * (first / 2) + 1) joined → place.end ≤ joined.end → IsNextSquare place first end next (2 ^ (MAX_LEVEL - suc level))
     → record {
       columns : HaveColumns spans;
@@ -83,9 +84,9 @@ one-column level old now upper lower start same within P p =
 module _ (Can : Quarters → Type 0) (square : Quarters → Tree) (want : ℕ → Tree) (none : Tree) (side : ℕ) where
   -- one more of them
   pub pieces-push : (column : ℕ) (spans : List Span) (quarters : List Quarters) (mid : ℕ) (s : Span) (q : Quarters)
-      → ArePieces Can square want none side column spans quarters mid → IsPiece Can square want none side mid s q
+      → ArePieces Can square want none side column spans quarters mid → IsStripPiece Can square want none side mid s q
       → ArePieces Can square want none side column (spans ++ s ∷ []) (quarters ++ q ∷ []) s.end
-  pieces-push column [] [] mid s q e p = (subst (λ c. IsPiece Can square want none side c s q) e p, refl)
+  pieces-push column [] [] mid s q e p = (subst (λ c. IsStripPiece Can square want none side c s q) e p, refl)
   pieces-push column [] (r ∷ quarters) mid s q e p = absurd e
   pieces-push column (t ∷ spans) [] mid s q e p = absurd e
   pieces-push column (t ∷ spans) (r ∷ quarters) mid s q e p = (e.0, pieces-push t.end spans quarters mid s q e.1 p)

@@ -13,8 +13,8 @@ use Rattle.life_quad.specs.Keeping.{KeepsSquares}
 use Rattle.life_base.specs.Tree.{Tree, quad, depth, blank, state_at}
 use Rattle.life_strip.specs.declared.spans.Strip.{Strip}
 use Rattle.life_strip.specs.declared.spans.Stretch.{Stretch}
-use Rattle.life_strip.specs.Strip.{square_at, IsStrip, IsPaired, IsFound}
-use Rattle.life_strip.specs.Picture.{state_in, picture, height, AreFalling, AreStacked, IsLowest, IsNotLast, IsRow, IsSound, IsStack}
+use Rattle.life_strip.specs.Strip.{square_at, IsStrip, IsPaired, IsFoundStretch}
+use Rattle.life_strip.specs.Picture.{state_in_strip, picture, height, AreFalling, AreStacked, IsLowest, IsNotLast, IsRow, IsSoundStrip, IsStack}
 use Rattle.life_strip.proofs.SpanLemmas.{Keeps, depth-square_at, square-keeps, strip-keeps, found-known, found-depth, found-content}
 use Rattle.life_base.proofs.Basics.{twice}
 use Rattle.life_base.proofs.Squares.{state_at-blank}
@@ -75,7 +75,7 @@ stack knows old new upper lower both sound same level paired column row =
     c : ℕ
     c = column / (2 * 2 ^ upper.level)
 
-    first : state_in new both column row ≡ state_at (square_at new (suc upper.level) both.spans.items (column / (2 * m))) (column % (2 * m)) row
+    first : state_in_strip new both column row ≡ state_at (square_at new (suc upper.level) both.spans.items (column / (2 * m))) (column % (2 * m)) row
     first =
         (λ x. state_at (square_at new (level x) both.spans.items (column / 2 ^ level x)) (column % 2 ^ level x) row)
         ∙ ap (λ w. state_at (square_at new (suc upper.level) both.spans.items (column / w)) (column % w) row) (twice upper.level)
@@ -83,7 +83,7 @@ stack knows old new upper lower both sound same level paired column row =
     deep : m ≡ 2 ^ depth (u (2 * c))
     deep = ap (λ z. 2 ^ z) (sym (depth-square_at knows old upper.level upper.spans.items sound (2 * c)))
 
-    below : state_in old lower column (row - m) ≡ state_at (l (column / m)) (column % m) (row - m)
+    below : state_in_strip old lower column (row - m) ≡ state_at (l (column / m)) (column % m) (row - m)
     below = λ x. state_at (square_at old (same x) lower.spans.items (column / 2 ^ same x)) (column % 2 ^ same x) (row - m)
 
     by : (b : Bool) → nat_lt (column % (2 * m)) m ≡ b
@@ -91,19 +91,19 @@ stack knows old new upper lower both sound same level paired column row =
         (column % (2 * m) - m) row)
         else (if nat_lt (column % (2 * m)) m then state_at (l (2 * c)) (column % (2 * m)) (row - m) else state_at (l (2 * c + 1)) (column % (2 * m) - m)
         (row - m)))
-        ≡ (if nat_lt row m then state_in old upper column row else state_in old lower column (row - m))
+        ≡ (if nat_lt row m then state_in_strip old upper column row else state_in_strip old lower column (row - m))
     by true e =
         let w = west column m (grind arith) in
         ap (λ t. if nat_lt row m then (if t then state_at (u (2 * c)) (column % (2 * m)) row else state_at (u (2 * c + 1)) (column % (2 * m) - m) row)
         else (if t then state_at (l (2 * c)) (column % (2 * m)) (row - m) else state_at (l (2 * c + 1)) (column % (2 * m) - m) (row - m))) e
         ∙ (λ x. if nat_lt row m then state_at (u (sym w.0 x)) (sym w.1 x) row else state_at (l (sym w.0 x)) (sym w.1 x) (row - m))
-        ∙ ap (λ z. if nat_lt row m then state_in old upper column row else z) (sym below)
+        ∙ ap (λ z. if nat_lt row m then state_in_strip old upper column row else z) (sym below)
     by false e =
         let w = east column m (positive_power upper.level) (grind arith) in
         ap (λ t. if nat_lt row m then (if t then state_at (u (2 * c)) (column % (2 * m)) row else state_at (u (2 * c + 1)) (column % (2 * m) - m) row)
         else (if t then state_at (l (2 * c)) (column % (2 * m)) (row - m) else state_at (l (2 * c + 1)) (column % (2 * m) - m) (row - m))) e
         ∙ (λ x. if nat_lt row m then state_at (u (sym w.0 x)) (sym w.1 x) row else state_at (l (sym w.0 x)) (sym w.1 x) (row - m))
-        ∙ ap (λ z. if nat_lt row m then state_in old upper column row else z) (sym below)
+        ∙ ap (λ z. if nat_lt row m then state_in_strip old upper column row else z) (sym below)
 
 -- the height of one strip more
 pub height-push : (xs : List Strip) (s : Strip) → height (xs ++ s ∷ []) ≡ height xs + 2 ^ s.level
@@ -119,17 +119,17 @@ height-last xs ys zs s e = ap height (append-last xs ys zs s e) ∙ height-push 
 
 module _ {knows knows' : Id → Type 0} {old new : Id → Tree} (keeps : Keeps knows knows' old new) where
   -- a strip keeps its cells
-  pub state_in-keeps : (s : Strip) → IsSound knows old s → (i j : ℕ) → state_in new s i j ≡ state_in old s i j
+  pub state_in-keeps : (s : Strip) → IsSoundStrip knows old s → (i j : ℕ) → state_in_strip new s i j ≡ state_in_strip old s i j
   state_in-keeps s h i j = ap (λ t. state_at t (i % 2 ^ s.level) j) (square-keeps keeps s.level s.spans.items h.squares (i / 2 ^ s.level))
 
-  pub sound-keeps : (s : Strip) → IsSound knows old s → IsSound knows' new s
+  pub sound-keeps : (s : Strip) → IsSoundStrip knows old s → IsSoundStrip knows' new s
   sound-keeps s h = record { squares = strip-keeps keeps s.level s.spans.items h.squares; within = h.within; rises = h.rises }
 
-  pub all-keeps : (xs : List Strip) → All (IsSound knows old) xs → All (IsSound knows' new) xs
+  pub all-keeps : (xs : List Strip) → All (IsSoundStrip knows old) xs → All (IsSoundStrip knows' new) xs
   all-keeps xs h k d lt = sound-keeps (get_or xs k d) (h k d lt)
 
   -- two strips made one
-  pub picture-merge : (xs : List Strip) (a b ab : Strip) → All (IsSound knows old) xs → b.level ≡ a.level → ab.level ≡ suc a.level → IsStack old new a b ab
+  pub picture-merge : (xs : List Strip) (a b ab : Strip) → All (IsSoundStrip knows old) xs → b.level ≡ a.level → ab.level ≡ suc a.level → IsStack old new a b ab
       → (i j : ℕ) → picture new (xs ++ ab ∷ []) i j ≡ picture old ((xs ++ a ∷ []) ++ b ∷ []) i j
   picture-merge [] a b ab h same level st i j = by (nat_lt j (2 ^ a.level)) refl (nat_lt j (2 ^ ab.level)) refl
     where
@@ -140,26 +140,27 @@ module _ {knows knows' : Id → Type 0} {old new : Id → Tree} (keeps : Keeps k
       v = ap (λ n. 2 ^ n) same
 
       by : (p : Bool) → nat_lt j (2 ^ a.level) ≡ p → (q : Bool) → nat_lt j (2 ^ ab.level) ≡ q → picture new (ab ∷ []) i j ≡ picture old (a ∷ b ∷ []) i j
-      by true e true f = ap (λ t. if t then state_in new ab i j else 0) f ∙ st i j
-          ∙ ap (λ t. if t then state_in old a i j else state_in old b i (j - 2 ^ a.level)) e
-          ∙ sym (ap (λ t. if t then state_in old a i j else picture old (b ∷ []) i (j - 2 ^ a.level)) e)
+      by true e true f = ap (λ t. if t then state_in_strip new ab i j else 0) f ∙ st i j
+          ∙ ap (λ t. if t then state_in_strip old a i j else state_in_strip old b i (j - 2 ^ a.level)) e
+          ∙ sym (ap (λ t. if t then state_in_strip old a i j else picture old (b ∷ []) i (j - 2 ^ a.level)) e)
       by true e false f = absurd (let x : j < 2 ^ a.level = grind arith in let y : 2 ^ ab.level ≤ j = grind arith in omega (arith, w, x, y))
       by false e true f =
           let x : 2 ^ a.level ≤ j = grind arith in
           let y : j < 2 ^ ab.level = grind arith in
           let z : j - 2 ^ a.level < 2 ^ b.level = omega (arith, v, w, x, y) in
           let t : nat_lt (j - 2 ^ a.level) (2 ^ b.level) ≡ true = grind arith in
-          ap (λ t. if t then state_in new ab i j else 0) f ∙ st i j ∙ ap (λ t. if t then state_in old a i j else state_in old b i (j - 2 ^ a.level)) e
-          ∙ sym (ap (λ t. if t then state_in old a i j else picture old (b ∷ []) i (j - 2 ^ a.level)) e
-          ∙ ap (λ t. if t then state_in old b i (j - 2 ^ a.level) else 0) t)
+          ap (λ t. if t then state_in_strip new ab i j else 0) f ∙ st i j
+          ∙ ap (λ t. if t then state_in_strip old a i j else state_in_strip old b i (j - 2 ^ a.level)) e
+          ∙ sym (ap (λ t. if t then state_in_strip old a i j else picture old (b ∷ []) i (j - 2 ^ a.level)) e
+          ∙ ap (λ t. if t then state_in_strip old b i (j - 2 ^ a.level) else 0) t)
       by false e false f =
           let x : 2 ^ a.level ≤ j = grind arith in
           let y : 2 ^ ab.level ≤ j = grind arith in
           let z : 2 ^ b.level ≤ j - 2 ^ a.level = omega (arith, v, w, x, y) in
           let t : nat_lt (j - 2 ^ a.level) (2 ^ b.level) ≡ false = grind arith in
-          ap (λ t. if t then state_in new ab i j else 0) f
-          ∙ sym (ap (λ t. if t then state_in old a i j else picture old (b ∷ []) i (j - 2 ^ a.level)) e
-          ∙ ap (λ t. if t then state_in old b i (j - 2 ^ a.level) else 0) t)
+          ap (λ t. if t then state_in_strip new ab i j else 0) f
+          ∙ sym (ap (λ t. if t then state_in_strip old a i j else picture old (b ∷ []) i (j - 2 ^ a.level)) e
+          ∙ ap (λ t. if t then state_in_strip old b i (j - 2 ^ a.level) else 0) t)
   picture-merge (x ∷ xs) a b ab h same level st i j =
       let here = state_in-keeps x (h 0 x (omega arith)) i j in
       let more = picture-merge xs a b ab (λ k d lt. h (suc k) d (omega (arith, lt))) same level st i (j - 2 ^ x.level) in
@@ -168,7 +169,7 @@ module _ {knows knows' : Id → Type 0} {old new : Id → Tree} (keeps : Keeps k
 -- strips that a call keeps
 pub strips-kept : {S : Type 0} {knows : S → Id → Type 0} {content : S → Id → Tree} {stored : S → List Tree} {most : S → ℕ} {old new : S}
     → KeepsSquares knows content stored most old new
-    → (xs : List Strip) → All (IsSound (knows old) (content old)) xs → All (IsSound (knows new) (content new)) xs
+    → (xs : List Strip) → All (IsSoundStrip (knows old) (content old)) xs → All (IsSoundStrip (knows new) (content new)) xs
 strips-kept {knows = knows} {content = content} {old = old} {new = new} keeps =
     all-keeps {knows = knows old} {knows' = knows new} {old = content old} {new = content new} keeps.contents
 
@@ -207,15 +208,15 @@ pub picture-blank : (content : Id → Tree) (xs : List Strip) (s : Strip) → s.
     ≡ picture content xs i j
 picture-blank content [] s e i j = by (nat_lt j (2 ^ s.level))
   where
-    none : state_in content s i j ≡ 0
+    none : state_in_strip content s i j ≡ 0
     none = ap (λ z. state_at (square_at content s.level z (i / 2 ^ s.level)) (i % 2 ^ s.level) j) e ∙ state_at-blank s.level (i % 2 ^ s.level) j
 
-    by : (b : Bool) → (if b then state_in content s i j else 0) ≡ 0
+    by : (b : Bool) → (if b then state_in_strip content s i j else 0) ≡ 0
     by true = none
     by false = refl
 picture-blank content (x ∷ xs) s e i j =
     let more = picture-blank content xs s e i (j - 2 ^ x.level) in
-    λ y. if nat_lt j (2 ^ x.level) then state_in content x i j else more y
+    λ y. if nat_lt j (2 ^ x.level) then state_in_strip content x i j else more y
 
 -- powers below the next power are at most this one
 pub power-at_most : (k n r : ℕ) → 2 ^ k ≤ n → n < 2 * 2 ^ r → k ≤ r
@@ -321,9 +322,9 @@ pub record IsWhole (knows : Id → Type 0) (content : Id → Tree) (strips : Lis
   pub level : depth (content id) ≡ MAX_LEVEL
   pub cells : (i j : ℕ) → i < 2 ^ MAX_LEVEL → j < 2 ^ MAX_LEVEL → state_at (content id) i j ≡ picture content strips i j
 
-pub whole-strip : (knows : Id → Type 0) (content : Id → Tree) (s : Strip) (b : Id) (f : Stretch) → IsSound knows content s → s.level ≡ MAX_LEVEL → knows b
+pub whole-strip : (knows : Id → Type 0) (content : Id → Tree) (s : Strip) (b : Id) (f : Stretch) → IsSoundStrip knows content s → s.level ≡ MAX_LEVEL → knows b
     → content b ≡ blank MAX_LEVEL
-    → IsFound s.spans.items 0 b f → IsWhole knows content (s ∷ []) f.square
+    → IsFoundStretch s.spans.items 0 b f → IsWhole knows content (s ∷ []) f.square
 whole-strip knows content s b f sound e known is_blank h =
     record {
       known = found-known knows content s.level s.spans.items sound.squares b known at_level 0 f h;
@@ -346,4 +347,4 @@ whole-strip knows content s b f sound e known is_blank h =
         let r : i % 2 ^ s.level ≡ i = ap (λ z. z % 2 ^ s.level) p ∙ mod-mul-add 0 (2 ^ s.level) i below in
         ap (λ t. state_at t i j) (found-content knows content s.level s.spans.items sound.squares b known at_level 0 f h)
         ∙ (λ x. state_at (square_at content s.level s.spans.items (sym q x)) (sym r x) j)
-        ∙ sym (ap (λ t. if t then state_in content s i j else 0) row)
+        ∙ sym (ap (λ t. if t then state_in_strip content s i j else 0) row)

@@ -4,12 +4,12 @@ use Rattle.std.proofs.Common.{◌≡◌, ℕ, suc, ◌+◌, ◌-◌, ◌*◌, �
 use Rattle.life_quad.specs.declared.id.Id.{Id}
 use Rattle.life_base.specs.Tree.{Tree, quad, depth, blank}
 use Rattle.life_strip.specs.declared.spans.Span.{Span}
-use Rattle.life_strip.specs.declared.spans.Place.{Place}
+use Rattle.life_strip.specs.declared.spans.StripPlace.{StripPlace}
 use Rattle.life_strip.specs.declared.spans.TheConstants.{NEVER}
 use Rattle.life_strip.specs.Strip.{id_at, id_or, square_or_blank, square_at, quad_at, IsStrip, IsAt, AreBefore, AreWithin, square_in, goes_to}
 use Rattle.life_strip.proofs.SpanLemmas.{none_beyond, past_later, half-side, known_or, content_or, depth-square_at}
 
-module _ (spans : List Span) (a : ℕ) (p : Place) (h : IsAt spans a p) where
+module _ (spans : List Span) (a : ℕ) (p : StripPlace) (h : IsAt spans a p) where
   -- the same place, seen from a later column that is not beyond its start
   pub at-later : (c : ℕ) → a ≤ c → c ≤ p.start → c < p.end → IsAt spans c p
   at-later c le start end = record {
@@ -100,7 +100,7 @@ module _ (spans : List Span) (a : ℕ) (p : Place) (h : IsAt spans a p) where
 
 -- the squares that two strips have in a column before the ends of their places
 module _ (knows : Id → Type 0) (content : Id → Tree) (level : ℕ) (spans : List Span) (s : IsStrip knows content level spans) (b : Id) (known : knows b)
-    (is_blank : content b ≡ blank level) (a : ℕ) (p : Place) (h : IsAt spans a p) (c : ℕ) (le : a ≤ c) (end : c < p.end) where
+    (is_blank : content b ≡ blank level) (a : ℕ) (p : StripPlace) (h : IsAt spans a p) (c : ℕ) (le : a ≤ c) (end : c < p.end) where
   pub at-known : knows (square_in p b c)
   at-known = subst knows (at-square spans a p h b c le end) (known_or knows content level spans s b known is_blank c)
 
@@ -111,7 +111,7 @@ module _ (knows : Id → Type 0) (content : Id → Tree) (level : ℕ) (spans : 
   at-depth = ap depth at-content ∙ depth-square_at knows content level spans s c
 
 -- the squares of two columns go on
-pub quad-goes : (content : Id → Tree) (level : ℕ) (upper lower : List Span) (column x : ℕ) (n s : Place) → IsAt upper (2 * column) n
+pub quad-goes : (content : Id → Tree) (level : ℕ) (upper lower : List Span) (column x : ℕ) (n s : StripPlace) → IsAt upper (2 * column) n
     → IsAt lower (2 * column) s
     → column < x → 2 * x + 1 < goes_to n (2 * column) → 2 * x + 1 < goes_to s (2 * column) → quad_at content level upper lower x
     ≡ quad_at content level upper lower column
@@ -136,7 +136,7 @@ quad-goes content level upper lower column x n s hn hs lt north south =
     (at (below (2 * x) (2 * column) a b (omega arith) c i)) (at (below (2 * x + 1) (2 * column + 1) c (omega arith) d e i))
 
 -- the first column where one of two strips has a span
-pub record IsFront (n s : Place) (column first side : ℕ) : Type 0 where
+pub record IsFront (n s : StripPlace) (column first side : ℕ) : Type 0 where
   pub from : 2 * column ≤ first
   pub begin : column ≤ first / 2
   pub within : first / 2 < side
@@ -146,7 +146,7 @@ pub record IsFront (n s : Place) (column first side : ℕ) : Type 0 where
   pub south_end : 2 * (first / 2) < s.end
   pub reach : (e : ℕ) → e ≤ goes_to n (2 * (first / 2)) → e ≤ goes_to s (2 * (first / 2)) → e ≤ 2 * side
 
-module _ (level : ℕ) (upper lower : List Span) (low : level < MAX_LEVEL) (u : AreWithin level upper) (l : AreWithin level lower) (column : ℕ) (n s : Place)
+module _ (level : ℕ) (upper lower : List Span) (low : level < MAX_LEVEL) (u : AreWithin level upper) (l : AreWithin level lower) (column : ℕ) (n s : StripPlace)
     (hn : IsAt upper (2 * column) n) (hs : IsAt lower (2 * column) s) where
   pub front : (first : ℕ) → first ≤ n.start → first ≤ s.start → (n.start ≤ s.start → first ≡ n.start) → (s.start < n.start → first ≡ s.start)
       → first < NEVER → IsFront n s column first (2 ^ (MAX_LEVEL - suc level))
@@ -180,7 +180,7 @@ module _ (level : ℕ) (upper lower : List Span) (low : level < MAX_LEVEL) (u : 
           by true e = let same = one (grind arith) in let b = begun in omega (arith, same, b)
           by false e = let same = other (grind arith) in let b = begins in omega (arith, same, b)
 
-      end : (spans : List Span) (most : ℕ) → AreBefore most spans → (p : Place) → IsAt spans (2 * column) p → first ≤ p.start → 2 * (first / 2) < p.end
+      end : (spans : List Span) (most : ℕ) → AreBefore most spans → (p : StripPlace) → IsAt spans (2 * column) p → first ≤ p.start → 2 * (first / 2) < p.end
       end spans most before p h le = by (nat_lt p.start NEVER) refl
         where
           by : (b : Bool) → nat_lt p.start NEVER ≡ b → 2 * (first / 2) < p.end
@@ -188,7 +188,7 @@ module _ (level : ℕ) (upper lower : List Span) (low : level < MAX_LEVEL) (u : 
           by false e = let long : NEVER ≤ p.start = grind arith in let o = h.order in omega (arith, long, small, o)
 
       -- the span of a strip that has the first column ends in the plane
-      ended : (spans : List Span) → AreWithin level spans → (p : Place) → IsAt spans (2 * column) p → first ≡ p.start
+      ended : (spans : List Span) → AreWithin level spans → (p : StripPlace) → IsAt spans (2 * column) p → first ≡ p.start
           → (first / 2 < side) × ((e : ℕ) → e ≤ goes_to p (2 * (first / 2)) → e ≤ 2 * side)
       ended spans within p h same =
           let w = h.within (2 ^ (MAX_LEVEL - level)) within (omega (arith, same, small)) in

@@ -16,19 +16,19 @@ use Rattle.life_strip.specs.declared.spans.Strip.{Strip}
 use Rattle.life_strip.specs.declared.pile.Pile.{Pile}
 use Rattle.life_strip.specs.declared.plane.Plane.{Plane}
 use Rattle.life_strip.specs.Strip.{id_at, square_or_blank, square_at, IsStrip}
-use Rattle.life_strip.specs.Picture.{state_in, picture, height, IsRow, IsSound}
+use Rattle.life_strip.specs.Picture.{state_in_strip, picture, height, IsRow, IsSoundStrip}
 use Rattle.life_strip.specs.Pile.{IsPile, strips_of}
-use Rattle.life_strip.specs.Given.{half_plane, IsOnPlane}
+use Rattle.life_strip.specs.Given.{half_plane, IsRunOnPlane}
 use Rattle.life_strip.specs.Plane.{on_plane, cell_so_far, IsFilled, IsFree, AddsRun}
 use Rattle.life_strip.proofs.SpanLemmas.{Keeps}
 use Rattle.life_strip.proofs.PictureLemmas.{state_in-keeps, sound-keeps, all-keeps, positive_power}
 
 -- the column and the row of a run, which fit their types, by the numbers that the code adds
-pub column_of_run : (run : Run) (column : ℕ) → IsOnPlane run.x run.y run.len → 1 ≤ run.len → pos column ≡ to_z w64 (of_z w64 run.x) +ℤ pos half_plane
+pub column_of_run : (run : Run) (column : ℕ) → IsRunOnPlane run.x run.y run.len → 1 ≤ run.len → pos column ≡ to_z w64 (of_z w64 run.x) +ℤ pos half_plane
     → pos column ≡ run.x +ℤ pos half_plane
 column_of_run run column inside some e = omega (arith, ints, e, inside.west, inside.east, some)
 
-pub row_of_run : (run : Run) (row : ℕ) → IsOnPlane run.x run.y run.len → pos row ≡ to_z w64 (of_z w64 run.y) +ℤ pos half_plane
+pub row_of_run : (run : Run) (row : ℕ) → IsRunOnPlane run.x run.y run.len → pos row ≡ to_z w64 (of_z w64 run.y) +ℤ pos half_plane
     → pos row ≡ run.y +ℤ pos half_plane
 row_of_run run row inside e = omega (arith, ints, e, inside.north, inside.south)
 
@@ -52,7 +52,7 @@ beside_run b x y i column row len e f same ends beside =
 -- a row with one span more has its state in the span's columns
 pub row_pushed : (content : Id → Tree) (old new : Strip) (column len state : ℕ) (id : Id) → old.level ≡ 0 → new.level ≡ 0 → content id ≡ point state
     → ((c : ℕ) → id_at new.spans.items c ≡ (if nat_le column c && nat_lt c (column + len) then Some id else id_at old.spans.items c))
-    → (i j : ℕ) → state_in content new i j ≡ (if nat_le column i && nat_lt i (column + len) then state else state_in content old i j)
+    → (i j : ℕ) → state_in_strip content new i j ≡ (if nat_le column i && nat_lt i (column + len) then state else state_in_strip content old i j)
 row_pushed content old new column len state id e f is_state columns i j =
     at new f ∙ ap (λ t. state_at t 0 j) square ∙ by (nat_le column i && nat_lt i (column + len))
     ∙ ap (λ z. if nat_le column i && nat_lt i (column + len) then state else z) (sym (at old e))
@@ -60,7 +60,7 @@ row_pushed content old new column len state id e f is_state columns i j =
     one : (s : Strip) → s.level ≡ 0 → 2 ^ s.level ≡ 1
     one s g = ap (λ n. 2 ^ n) g
 
-    at : (s : Strip) → s.level ≡ 0 → state_in content s i j ≡ state_at (square_at content 0 s.spans.items i) 0 j
+    at : (s : Strip) → s.level ≡ 0 → state_in_strip content s i j ≡ state_at (square_at content 0 s.spans.items i) 0 j
     at s g = (λ x. state_at (square_at content (g x) s.spans.items (i / 2 ^ g x)) (i % 2 ^ g x) j)
         ∙ (λ x. state_at (square_at content 0 s.spans.items (whole x)) (rest x) j)
       where
@@ -99,20 +99,20 @@ row_strip knows content old new column len id strip known deep columns c q at = 
 
 -- the picture with a span more in the last row
 pub picture_pushed : (content : Id → Tree) (xs : List Strip) (old new : Strip) (column len state : ℕ) → old.level ≡ 0 → new.level ≡ 0
-    → ((i j : ℕ) → state_in content new i j ≡ (if nat_le column i && nat_lt i (column + len) then state else state_in content old i j))
+    → ((i j : ℕ) → state_in_strip content new i j ≡ (if nat_le column i && nat_lt i (column + len) then state else state_in_strip content old i j))
     → (i j : ℕ) → picture content (xs ++ new ∷ []) i j ≡ (if is_in_span column (height xs) len i j then state else picture content (xs ++ old ∷ []) i j)
 picture_pushed content [] old new column len state e f row i j =
-    ap (λ n. if nat_lt j (2 ^ n) then state_in content new i j else 0) f ∙ by j
-    ∙ ap (λ n. if is_in_span column 0 len i j then state else (if nat_lt j (2 ^ n) then state_in content old i j else 0)) (sym e)
+    ap (λ n. if nat_lt j (2 ^ n) then state_in_strip content new i j else 0) f ∙ by j
+    ∙ ap (λ n. if is_in_span column 0 len i j then state else (if nat_lt j (2 ^ n) then state_in_strip content old i j else 0)) (sym e)
   where
-    by : (j : ℕ) → (if nat_lt j 1 then state_in content new i j else 0)
-        ≡ (if is_in_span column 0 len i j then state else (if nat_lt j 1 then state_in content old i j else 0))
+    by : (j : ℕ) → (if nat_lt j 1 then state_in_strip content new i j else 0)
+        ≡ (if is_in_span column 0 len i j then state else (if nat_lt j 1 then state_in_strip content old i j else 0))
     by zero = row i 0
     by (suc j) =
         let e : nat_lt (suc j) 1 ≡ false = grind arith in
         let out : is_in_span column 0 len i (suc j) ≡ false = grind arith in
-        ap (λ b. if b then state_in content new i (suc j) else 0) e
-        ∙ sym (λ k. if out k then state else (if e k then state_in content old i (suc j) else 0))
+        ap (λ b. if b then state_in_strip content new i (suc j) else 0) e
+        ∙ sym (λ k. if out k then state else (if e k then state_in_strip content old i (suc j) else 0))
 picture_pushed content (x ∷ xs) old new column len state e f row i j = by (picture_pushed content xs old new column len state e f row i (j - 2 ^ x.level))
     (nat_lt j (2 ^ x.level)) refl
   where
@@ -127,15 +127,15 @@ picture_pushed content (x ∷ xs) old new column len state e f row i j = by (pic
     by more true g =
         let lt : j < 2 ^ x.level = grind arith in
         let out : is_in_span column (2 ^ x.level + height xs) len i j ≡ false = grind arith in
-        ap (λ b. if b then state_in content x i j else picture content (xs ++ new ∷ []) i (j - 2 ^ x.level)) g
+        ap (λ b. if b then state_in_strip content x i j else picture content (xs ++ new ∷ []) i (j - 2 ^ x.level)) g
         ∙ sym (ap (λ b. if b then state else picture content (x ∷ xs ++ old ∷ []) i j) out
-        ∙ ap (λ b. if b then state_in content x i j else picture content (xs ++ old ∷ []) i (j - 2 ^ x.level)) g)
+        ∙ ap (λ b. if b then state_in_strip content x i j else picture content (xs ++ old ∷ []) i (j - 2 ^ x.level)) g)
     by more false g =
         let le : 2 ^ x.level ≤ j = grind arith in
         let same : is_in_span column (2 ^ x.level + height xs) len i j ≡ is_in_span column (height xs) len i (j - 2 ^ x.level) = grind arith in
-        ap (λ b. if b then state_in content x i j else picture content (xs ++ new ∷ []) i (j - 2 ^ x.level)) g
+        ap (λ b. if b then state_in_strip content x i j else picture content (xs ++ new ∷ []) i (j - 2 ^ x.level)) g
         ∙ more
-        ∙ sym ((λ k. if same k then state else (if g k then state_in content x i j else picture content (xs ++ old ∷ []) i (j - 2 ^ x.level))))
+        ∙ sym ((λ k. if same k then state else (if g k then state_in_strip content x i j else picture content (xs ++ old ∷ []) i (j - 2 ^ x.level))))
 
 -- the state of a pair on the plane
 pub plane_inside : (P : ℕ → ℕ → ℕ) (x y : ℤ) (n m : ℕ) → is_inside half_plane x y ≡ true → x +ℤ pos half_plane ≡ pos n → y +ℤ pos half_plane ≡ pos m
@@ -148,7 +148,7 @@ pub plane_outside : (P : ℕ → ℕ → ℕ) (x y : ℤ) → is_inside half_pla
 plane_outside P x y i = ap (λ b. if b then P (unsigned_abs (x +ℤ pos half_plane)) (unsigned_abs (y +ℤ pos half_plane)) else 0) i
 
 -- a span of columns of the plane is a run of cells
-pub AddsRun-span : (P Q : ℕ → ℕ → ℕ) (run : Run) (column row : ℕ) → IsOnPlane run.x run.y run.len
+pub AddsRun-span : (P Q : ℕ → ℕ → ℕ) (run : Run) (column row : ℕ) → IsRunOnPlane run.x run.y run.len
     → pos column ≡ run.x +ℤ pos half_plane → pos row ≡ run.y +ℤ pos half_plane
     → ((n m : ℕ) → Q n m ≡ (if is_in_span column row run.len n m then run.state else P n m)) → AddsRun (on_plane P) (on_plane Q) run
 AddsRun-span P Q run column row inside e f cells = record { inside = in_run; others = out_of_run }
@@ -189,12 +189,13 @@ AddsRun-span P Q run column row inside e f cells = record { inside = in_run; oth
                 let k = run_from_span h run.x run.y i j column row run.len n m e f p q g in absurd (r (record { same_row = k.0; from = k.1; to = k.2 }))
 
 -- strips keep their cells
-pub picture-keeps : {knows knows' : Id → Type 0} {old new : Id → Tree} (keeps : Keeps knows knows' old new) (xs : List Strip) → All (IsSound knows old) xs
+pub picture-keeps : {knows knows' : Id → Type 0} {old new : Id → Tree} (keeps : Keeps knows knows' old new) (xs : List Strip) → All (IsSoundStrip knows old) xs
     → (i j : ℕ) → picture new xs i j ≡ picture old xs i j
 picture-keeps keeps [] h i j = refl
 picture-keeps {knows} {knows'} {old} {new} keeps (x ∷ xs) h i j =
     let here = state_in-keeps keeps x (h 0 x (omega arith)) i j in
-    let more = picture-keeps {knows = knows} {knows' = knows'} {old = old} {new = new} keeps xs (All-tail (IsSound knows old) x xs h) i (j - 2 ^ x.level) in
+    let more = picture-keeps {knows = knows} {knows' = knows'} {old = old} {new = new} keeps xs (All-tail (IsSoundStrip knows old) x xs h) i
+    (j - 2 ^ x.level) in
     λ y. if nat_lt j (2 ^ x.level) then here y else more y
 
 module _ {knows knows' : Id → Type 0} {old new : Id → Tree} (keeps : Keeps knows knows' old new) where
@@ -226,7 +227,7 @@ module _ {knows knows' : Id → Type 0} {old new : Id → Tree} (keeps : Keeps k
   -- with the same cells
   pub cells-keep : (b : Plane) → IsFilled knows old b → (x y : ℤ) → cell_so_far new b x y ≡ cell_so_far old b x y
   cells-keep b h x y =
-      let P = IsSound knows old in
+      let P = IsSoundStrip knows old in
       let over = All-append P b.pile.strips.items b.pile.band.items h.pile.strips.sound (λ k d lt. (h.pile.rows k d lt).sound) in
       let same = picture-keeps {knows = knows} {knows' = knows'} {old = old} {new = new} keeps (strips_of b.pile ++ b.row ∷ [])
       (All-push P (strips_of b.pile) b.row over h.row.sound) in

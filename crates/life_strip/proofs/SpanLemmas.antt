@@ -11,7 +11,7 @@ use Rattle.life_base.proofs.Squares.{depth-blank}
 use Rattle.life_base.proofs.Basics.{twice}
 use Rattle.life_strip.specs.declared.spans.Span.{Span}
 use Rattle.life_strip.specs.declared.spans.Stretch.{Stretch}
-use Rattle.life_strip.specs.Strip.{id_at, square_or_blank, square_at, id_or, quad_at, IsStrip, IsPast, EndsAfter, IsStart, IsFound, IsBefore, IsNearer, AreBefore, HaveColumns, IsExtended, FilledTo}
+use Rattle.life_strip.specs.Strip.{id_at, square_or_blank, square_at, id_or, quad_at, IsStrip, IsPast, EndsAfter, IsStart, IsFoundStretch, IsColumnBefore, IsNearer, AreBefore, HaveColumns, IsExtended, FilledTo}
 
 -- a store knows what it knew, with the same square
 abbrev pub Keeps : (Id → Type 0) → (Id → Type 0) → (Id → Tree) → (Id → Tree) → Type 0
@@ -139,17 +139,17 @@ module _ (knows : Id → Type 0) (content : Id → Tree) (level : ℕ) (spans : 
         by None = is_blank
         by (Some id) = refl
 
-    pub found-known : (c : ℕ) (f : Stretch) → IsFound spans c b f → knows f.square
+    pub found-known : (c : ℕ) (f : Stretch) → IsFoundStretch spans c b f → knows f.square
     found-known c f h = subst knows (h.square c (omega arith) h.beyond) (known_or c)
 
-    pub found-content : (c : ℕ) (f : Stretch) → IsFound spans c b f → content f.square ≡ square_at content level spans c
+    pub found-content : (c : ℕ) (f : Stretch) → IsFoundStretch spans c b f → content f.square ≡ square_at content level spans c
     found-content c f h = ap content (sym (h.square c (omega arith) h.beyond)) ∙ content_or c
 
-    pub found-depth : (c : ℕ) (f : Stretch) → IsFound spans c b f → depth (content f.square) ≡ level
+    pub found-depth : (c : ℕ) (f : Stretch) → IsFoundStretch spans c b f → depth (content f.square) ≡ level
     found-depth c f h = ap depth (found-content c f h) ∙ depth-square_at c
 
     -- one square goes on
-    pub found-same : (c x y : ℕ) (f : Stretch) → IsFound spans c b f → c ≤ x → IsBefore x f.end → c ≤ y → IsBefore y f.end
+    pub found-same : (c x y : ℕ) (f : Stretch) → IsFoundStretch spans c b f → c ≤ x → IsColumnBefore x f.end → c ≤ y → IsColumnBefore y f.end
         → square_at content level spans x ≡ square_at content level spans y
     found-same c x y f h xl xu yl yu = sym (content_or x) ∙ ap content (h.square x xl xu ∙ sym (h.square y yl yu)) ∙ content_or y
 
@@ -250,15 +250,17 @@ filled-all knows now level want spans column p over c =
     let all = filled-skip knows now level want spans column (column + suc c) p (omega arith) (λ d le lt. over d le) in all.done c (omega arith)
 
 -- an earlier column comes before the end too
-pub before_earlier : (a b : ℕ) (end : Option ℕ) → a ≤ b → IsBefore b end → IsBefore a end
+pub before_earlier : (a b : ℕ) (end : Option ℕ) → a ≤ b → IsColumnBefore b end → IsColumnBefore a end
 before_earlier a b None le h = tt
 before_earlier a b (Some end) le h = omega (arith, le, h)
 
 -- the four squares go on
 pub quad-same : (knows : Id → Type 0) (content : Id → Tree) (level : ℕ) (upper lower : List Span) → IsStrip knows content level upper
     → IsStrip knows content level lower
-    → (b : Id) → knows b → content b ≡ blank level → (column c : ℕ) (n s : Stretch) → IsFound upper (2 * column) b n → IsFound lower (2 * column) b s
-    → column < c → IsBefore (2 * c + 1) n.end → IsBefore (2 * c + 1) s.end → quad_at content level upper lower c ≡ quad_at content level upper lower column
+    → (b : Id) → knows b → content b ≡ blank level → (column c : ℕ) (n s : Stretch) → IsFoundStretch upper (2 * column) b n
+    → IsFoundStretch lower (2 * column) b s
+    → column < c → IsColumnBefore (2 * c + 1) n.end → IsColumnBefore (2 * c + 1) s.end → quad_at content level upper lower c
+    ≡ quad_at content level upper lower column
 quad-same knows content level upper lower u l b known is_blank column c n s hn hs lt le me =
     let k = 2 * column in
     let first : 2 * c ≤ 2 * c + 1 = omega arith in
@@ -282,14 +284,15 @@ half-side level low =
     ap (λ n. 2 ^ n) more ∙ twice (MAX_LEVEL - suc level)
 
 -- no span is left
-pub none-left : (spans : List Span) (column : ℕ) (b : Id) (f : Stretch) → IsFound spans column b f → f.start ≡ None → (c : ℕ) → column ≤ c
+pub none-left : (spans : List Span) (column : ℕ) (b : Id) (f : Stretch) → IsFoundStretch spans column b f → f.start ≡ None → (c : ℕ) → column ≤ c
     → id_at spans c ≡ None
 none-left spans column b f h e = subst (λ o. MatchOption o ((c : ℕ) → column ≤ c → id_at spans c ≡ None) (IsStart spans column)) e h.start
 
 -- what comes before the nearer end comes before both
-pub nearer-both : (o north south : Option ℕ) (column : ℕ) → MatchOption o ((north ≡ None) × (south ≡ None)) (λ e. IsNearer e north south) → IsBefore column o
-    → IsBefore column north × IsBefore column south
-nearer-both None north south column h e = (subst (IsBefore column) (sym h.0) tt, subst (IsBefore column) (sym h.1) tt)
+pub nearer-both : (o north south : Option ℕ) (column : ℕ) → MatchOption o ((north ≡ None) × (south ≡ None)) (λ e. IsNearer e north south)
+    → IsColumnBefore column o
+    → IsColumnBefore column north × IsColumnBefore column south
+nearer-both None north south column h e = (subst (IsColumnBefore column) (sym h.0) tt, subst (IsColumnBefore column) (sym h.1) tt)
 nearer-both (Some x) north south column h e = (h.upper column e, h.lower column e)
 
 -- what holds of two ends holds of the nearer one
@@ -303,7 +306,7 @@ nearer-one P (Some x) north south h n s = by h.one
     by (inr e) = subst P e s
 
 -- what is found ends within the plane
-pub found-within : (side : ℕ) (spans : List Span) → AreBefore side spans → (column : ℕ) (b : Id) (f : Stretch) → IsFound spans column b f
+pub found-within : (side : ℕ) (spans : List Span) → AreBefore side spans → (column : ℕ) (b : Id) (f : Stretch) → IsFoundStretch spans column b f
     → IfSome f.end (λ e. e ≤ side)
 found-within side spans within column b f h = by f.end h.last
   where
@@ -312,11 +315,11 @@ found-within side spans within column b f h = by f.end h.last
     by (Some e) l = l side within
 
 -- up to a column before which what was found does not start all is blank
-pub blank-before : (spans : List Span) (column : ℕ) (b : Id) (f : Stretch) → IsFound spans column b f → (first : ℕ)
-    → ((x : ℕ) → x < first → IsBefore x f.start) → (c : ℕ) → column ≤ c → c < first → id_at spans c ≡ None
+pub blank-before : (spans : List Span) (column : ℕ) (b : Id) (f : Stretch) → IsFoundStretch spans column b f → (first : ℕ)
+    → ((x : ℕ) → x < first → IsColumnBefore x f.start) → (c : ℕ) → column ≤ c → c < first → id_at spans c ≡ None
 blank-before spans column b f h first before c le lt = by f.start h.start (before c lt)
   where
-    by : (o : Option ℕ) → MatchOption o ((x : ℕ) → column ≤ x → id_at spans x ≡ None) (IsStart spans column) → IsBefore c o → id_at spans c ≡ None
+    by : (o : Option ℕ) → MatchOption o ((x : ℕ) → column ≤ x → id_at spans x ≡ None) (IsStart spans column) → IsColumnBefore c o → id_at spans c ≡ None
     by None h e = h c le
     by (Some x) h e = h.none c le e
 
@@ -328,7 +331,7 @@ pub record IsFirst (upper lower : List Span) (column first side : ℕ) : Type 0 
   pub south : (c : ℕ) → column ≤ c → c < first → id_at lower c ≡ None
 
 module _ (side : ℕ) (upper lower : List Span) (u : AreBefore side upper) (l : AreBefore side lower) (column : ℕ) (b : Id) (n s : Stretch)
-    (hn : IsFound upper column b n) (hs : IsFound lower column b s) where
+    (hn : IsFoundStretch upper column b n) (hs : IsFoundStretch lower column b s) where
   pub first-column : (first : ℕ) → IsNearer first n.start s.start → IsFirst upper lower column first side
   first-column first near = record {
     from = (by near.one).0;
@@ -337,7 +340,7 @@ module _ (side : ℕ) (upper lower : List Span) (u : AreBefore side upper) (l : 
     south = blank-before lower column b s hs first near.lower;
   }
     where
-      at : (spans : List Span) (f : Stretch) → AreBefore side spans → IsFound spans column b f → f.start ≡ Some first → (column ≤ first) × (first < side)
+      at : (spans : List Span) (f : Stretch) → AreBefore side spans → IsFoundStretch spans column b f → f.start ≡ Some first → (column ≤ first) × (first < side)
       at spans f within h e =
           let p = subst (λ o. MatchOption o ((x : ℕ) → column ≤ x → id_at spans x ≡ None) (IsStart spans column)) e h.start in
           (p.from, p.within side within)
@@ -352,11 +355,11 @@ not-beyond zero x h = omega arith
 not-beyond (suc n) x h = h n (omega arith)
 
 -- the span that stands at what was found ends after each column up to the nearer start
-pub ends-after : (spans : List Span) (column : ℕ) (b : Id) (f : Stretch) → IsFound spans column b f → (first c : ℕ)
-    → ((x : ℕ) → x < first → IsBefore x f.start) → c ≤ first → EndsAfter spans f.index c
+pub ends-after : (spans : List Span) (column : ℕ) (b : Id) (f : Stretch) → IsFoundStretch spans column b f → (first c : ℕ)
+    → ((x : ℕ) → x < first → IsColumnBefore x f.start) → c ≤ first → EndsAfter spans f.index c
 ends-after spans column b f h first c before le = by f.start h.ends before
   where
-    by : (o : Option ℕ) → MatchOption o ((x : ℕ) → EndsAfter spans f.index x) (EndsAfter spans f.index) → ((x : ℕ) → x < first → IsBefore x o)
+    by : (o : Option ℕ) → MatchOption o ((x : ℕ) → EndsAfter spans f.index x) (EndsAfter spans f.index) → ((x : ℕ) → x < first → IsColumnBefore x o)
         → EndsAfter spans f.index c
     by None e lt d within = e c d within
     by (Some x) e lt d within = omega (arith, not-beyond first x lt, le, e d within)

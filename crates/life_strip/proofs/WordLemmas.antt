@@ -10,7 +10,7 @@ use Rattle.life_base.specs.Tree.{Tree, point, quad, depth, state_at}
 use Rattle.life_strip.specs.declared.spans.Span.{Span}
 use Rattle.life_strip.specs.declared.words.TwoWords.{TwoWords}
 use Rattle.life_strip.specs.Strip.{id_at, square_or_blank, square_at, quad_at, IsStrip, HaveColumns, IsPast}
-use Rattle.life_strip.specs.Band.{cell_in, binary, IsWord, nibble_of, west_at, east_at}
+use Rattle.life_strip.specs.Band.{cell_in_spans, binary, IsWordOfCells, nibble_of, west_at, east_at}
 use Rattle.life_strip.proofs.SpanLemmas.{depth-square_at, id_at-in, id_at-none, id_at-after}
 use Rattle.life_base.proofs.Basics.{twice}
 
@@ -131,7 +131,7 @@ module _ (f : ℕ → ℕ) (start column cells : ℕ) (p : IsBegun f start colum
 
   -- all columns that are left have one state
   pub begun-end : (bits b : ℕ) → bits + 1 ≡ 2 ^ (64 - (column - start)) → b ≤ 1 → ((c : ℕ) → column ≤ c → c < start + 64 → f c ≡ b)
-      → IsWord f start (cells + b * bits)
+      → IsWordOfCells f start (cells + b * bits)
   begun-end bits b all small same =
       let within = p.within in
       let later : column ≤ start + 64 = omega (arith, within) in
@@ -143,12 +143,12 @@ module _ (f : ℕ → ℕ) (start column cells : ℕ) (p : IsBegun f start colum
       record { digits = digits ∙ word; states = λ i lt. begun-states (start + 64) b later (omega arith) small same i (omega (arith, lt)) }
 
   -- no cell is left
-  pub begun-over : ((c : ℕ) → column ≤ c → c < start + 64 → f c ≡ 0) → IsWord f start cells
+  pub begun-over : ((c : ℕ) → column ≤ c → c < start + 64 → f c ≡ 0) → IsWordOfCells f start cells
   begun-over none =
       let bits = 2 ^ (64 - (column - start)) - 1 in
       let some = pow_pos (64 - (column - start)) in
       let same : cells + 0 * bits ≡ cells = omega arith in
-      subst (IsWord f start) same (begun-end bits 0 (omega (arith, some)) (omega arith) none)
+      subst (IsWordOfCells f start) same (begun-end bits 0 (omega (arith, some)) (omega arith) none)
 
 -- a word of ones, moved
 pub ones-shifted : (k : ℕ) → k < 64 → 18446744073709551615 / 2 ^ k + 1 ≡ 2 ^ (64 - k)
@@ -192,23 +192,23 @@ pub past-none : (row : List Span) (index column : ℕ) → IsPast row index colu
 past-none row index column past over c le = past c le ∙ ap (λ z. id_at z c) (drop_of_length-le row over)
 
 module _ (content : Id → Tree) (row : List Span) (c : ℕ) where
-  pub cell-some : (id : Id) (b : ℕ) → id_at row c ≡ Some id → content id ≡ point b → cell_in content row c ≡ b
+  pub cell-some : (id : Id) (b : ℕ) → id_at row c ≡ Some id → content id ≡ point b → cell_in_spans content row c ≡ b
   cell-some id b at is = ap (λ o. state_at (square_or_blank content 0 o) 0 0) at ∙ ap (λ t. state_at t 0 0) is
 
-  pub cell-none : id_at row c ≡ None → cell_in content row c ≡ 0
+  pub cell-none : id_at row c ≡ None → cell_in_spans content row c ≡ 0
   cell-none at = ap (λ o. state_at (square_or_blank content 0 o) 0 0) at
 
 -- a word goes on to the span that comes next
 pub begun-span : (content : Id → Tree) (row : List Span) (index column : ℕ) (d : Span) → IsPast row index column → index < length row → HaveColumns row
-    → (start cells first : ℕ) → IsBegun (cell_in content row) start column cells → column ≤ first → first < start + 64
-    → ((c : ℕ) → column ≤ c → c < first → c < (get_or row index d).start) → IsBegun (cell_in content row) start first cells
+    → (start cells first : ℕ) → IsBegun (cell_in_spans content row) start column cells → column ≤ first → first < start + 64
+    → ((c : ℕ) → column ≤ c → c < first → c < (get_or row index d).start) → IsBegun (cell_in_spans content row) start first cells
 begun-span content row index column d past within columns start cells first p later inside gap =
-    begun-skip (cell_in content row) start column cells p first later inside
+    begun-skip (cell_in_spans content row) start column cells p first later inside
     (λ c le lt. let before = gap c le lt in let some = columns index d within in
     cell-none content row c (gap-at row index column d past within c le before (omega (arith, before, some))))
 
 -- the cells of four columns, from the word with them
-pub nibble-cells : (f : ℕ → ℕ) (start word square : ℕ) → IsWord f start word → square < 16
+pub nibble-cells : (f : ℕ → ℕ) (start word square : ℕ) → IsWordOfCells f start word → square < 16
     → nibble_of word square ≡ 8 * f (start + 4 * square) + 4 * f (start + 4 * square + 1) + 2 * f (start + 4 * square + 2) + f (start + 4 * square + 3)
 nibble-cells f start word square p lt =
     let k = 60 - 4 * square in
@@ -246,14 +246,16 @@ point-depth (point s) e = refl
 point-depth (quad nw ne sw se) e = absurd (omega (arith, e))
 
 module _ (knows : Id → Type 0) (content : Id → Tree) where
-  cell-point : (row : List Span) → IsStrip knows content 0 row → (c : ℕ) → point (cell_in content row c) ≡ square_at content 0 row c
+  cell-point : (row : List Span) → IsStrip knows content 0 row → (c : ℕ) → point (cell_in_spans content row c) ≡ square_at content 0 row c
   cell-point row strip c = sym (point-depth (square_at content 0 row c) (depth-square_at knows content 0 row strip c))
 
   -- the squares of level 1 of two rows, by their words
   module _ (upper lower : List Span) (u : IsStrip knows content 0 upper) (l : IsStrip knows content 0 lower) (start square : ℕ) (rows : TwoWords)
-      (north : IsWord (cell_in content upper) start rows.north.cells) (south : IsWord (cell_in content lower) start rows.south.cells) (lt : square < 16) where
-    quad-cells : (c n : ℕ) → (i : ℕ) → i + 1 < 64 → 2 * c ≡ start + i → n ≡ 8 * cell_in content upper (start + i) + 4 * cell_in content upper (start + (i + 1))
-        + 2 * cell_in content lower (start + i) + cell_in content lower (start + (i + 1))
+      (north : IsWordOfCells (cell_in_spans content upper) start rows.north.cells) (south : IsWordOfCells (cell_in_spans content lower) start rows.south.cells)
+      (lt : square < 16) where
+    quad-cells : (c n : ℕ) → (i : ℕ) → i + 1 < 64 → 2 * c ≡ start + i → n ≡ 8 * cell_in_spans content upper (start + i)
+        + 4 * cell_in_spans content upper (start + (i + 1))
+        + 2 * cell_in_spans content lower (start + i) + cell_in_spans content lower (start + (i + 1))
         → two n ≡ quad_at content 0 upper lower c
     quad-cells c n i within west e =
         let east : 2 * c + 1 ≡ start + (i + 1) = omega (arith, west) in
@@ -261,17 +263,17 @@ module _ (knows : Id → Type 0) (content : Id → Tree) where
         let ne = cell-point upper u (start + (i + 1)) ∙ ap (square_at content 0 upper) (sym east) in
         let sw = cell-point lower l (start + i) ∙ ap (square_at content 0 lower) (sym west) in
         let se = cell-point lower l (start + (i + 1)) ∙ ap (square_at content 0 lower) (sym east) in
-        two-cells (cell_in content upper (start + i)) (cell_in content upper (start + (i + 1))) (cell_in content lower (start + i))
-        (cell_in content lower (start + (i + 1))) n
+        two-cells (cell_in_spans content upper (start + i)) (cell_in_spans content upper (start + (i + 1))) (cell_in_spans content lower (start + i))
+        (cell_in_spans content lower (start + (i + 1))) n
         (north.states i (omega (arith, within))) (north.states (i + 1) within) (south.states i (omega (arith, within))) (south.states (i + 1) within) e
         ∙ (λ j. quad (nw j) (ne j) (sw j) (se j))
 
-    cells-of : (row : List Span) (word : ℕ) → IsWord (cell_in content row) start word
-        → let f = cell_in content row in let i = 4 * square in
+    cells-of : (row : List Span) (word : ℕ) → IsWordOfCells (cell_in_spans content row) start word
+        → let f = cell_in_spans content row in let i = 4 * square in
         (nibble_of word square / 4 ≡ 2 * f (start + i) + f (start + (i + 1)))
         × (nibble_of word square % 4 ≡ 2 * f (start + (i + 2)) + f (start + (i + 2 + 1)))
     cells-of row word p =
-        let f = cell_in content row in
+        let f = cell_in_spans content row in
         let i = 4 * square in
         let e = nibble-cells f start word square p lt in
         let e1 : start + i + 1 ≡ start + (i + 1) = omega arith in

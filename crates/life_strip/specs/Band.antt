@@ -13,8 +13,8 @@ four_at content first second third fourth column =
     (quad_at content 0 third fourth (2 * column)) (quad_at content 0 third fourth (2 * column + 1))
 
 -- the state in a column of a row of cells
-abbrev pub cell_in : (Id → Tree) → List Span → ℕ → ℕ
-cell_in content row column = state_at (square_at content 0 row column) 0 0
+abbrev pub cell_in_spans : (Id → Tree) → List Span → ℕ → ℕ
+cell_in_spans content row column = state_at (square_at content 0 row column) 0 0
 
 -- the number whose n binary digits are the cells from a column on, the first one the highest
 abbrev pub binary : (ℕ → ℕ) → ℕ → ℕ → ℕ
@@ -22,7 +22,7 @@ binary cell start zero = 0
 binary cell start (suc n) = 2 * binary cell start n + cell (start + n)
 
 -- the word of the 64 cells from a column on, which have the states 0 and 1
-pub record IsWord (cell : ℕ → ℕ) (start word : ℕ) : Type 0 where
+pub record IsWordOfCells (cell : ℕ → ℕ) (start word : ℕ) : Type 0 where
   pub digits : word ≡ binary cell start 64
   pub states : (i : ℕ) → i < 64 → cell (start + i) ≤ 1
 

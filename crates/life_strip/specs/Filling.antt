@@ -4,7 +4,7 @@ use Rattle.life_base.specs.Tree.{Tree}
 use Rattle.life_base.specs.declared.cell.Run.{Run}
 use Rattle.life_quad.specs.declared.id.Id.{Id}
 use Rattle.life_strip.specs.declared.plane.Plane.{Plane}
-use Rattle.life_strip.specs.Given.{IsNext, AreInOrder, state_by, half_plane}
+use Rattle.life_strip.specs.Given.{IsNextRunStart, AreInOrder, state_by, half_plane}
 use Rattle.life_strip.specs.Plane.{IsFilled, IsUnfilled, IsFree, cell_so_far}
 
 -- what contracts see of a builder: the runs that it was given, and what it keeps of them, of which no contract says more
@@ -18,7 +18,7 @@ pub record IsFilling (knows : Id → Type 0) (content : Id → Tree) (b : Buildi
   pub filled : IsFilled knows content b.kept
   pub cells : (x y : ℤ) → cell_so_far content b.kept x y ≡ state_by b.runs x y
   pub order : AreInOrder b.runs
-  pub next : (x y : ℤ) → neg_ℤ (pos half_plane) ≤ℤ y → IsNext b.runs x y → IsFree b.kept x y
+  pub next : (x y : ℤ) → neg_ℤ (pos half_plane) ≤ℤ y → IsNextRunStart b.runs x y → IsFree b.kept x y
 
 -- no run was given, and no Id is kept
 pub record IsEmpty (b : Building) : Type 0 where

@@ -6,32 +6,32 @@ use Rattle.life_base.specs.declared.cell.Run.{Run}
 use Rattle.life_quad.specs.Cells.{IsInRun}
 
 -- whether a run has the pair among its cells
-abbrev pub covers : Run → ℤ → ℤ → Bool
-covers run x y = int_eq y run.y && (int_le run.x x && int_lt x (run.x +ℤ pos run.len))
+abbrev pub run_covers : Run → ℤ → ℤ → Bool
+run_covers run x y = int_eq y run.y && (int_le run.x x && int_lt x (run.x +ℤ pos run.len))
 
 -- the state that runs give a pair: that of the run that covers it, else 0
 abbrev pub state_by : List Run → ℤ → ℤ → ℕ
 state_by [] x y = 0
-state_by (run ∷ runs) x y = if covers run x y then run.state else state_by runs x y
+state_by (run ∷ runs) x y = if run_covers run x y then run.state else state_by runs x y
 
 -- (x, y) is in a later row than the run, or in its row at or east of its end
-abbrev pub IsBehind : Run → ℤ → ℤ → Type 0
-IsBehind run x y = (run.y <ℤ y) ⊎ ((run.y ≡ y) × ((run.x +ℤ pos run.len) ≤ℤ x))
+abbrev pub IsAfterRun : Run → ℤ → ℤ → Type 0
+IsAfterRun run x y = (run.y <ℤ y) ⊎ ((run.y ≡ y) × ((run.x +ℤ pos run.len) ≤ℤ x))
 
 -- The next run may begin at (x, y): behind the last one given, and anywhere if none was. This is the project's own rule.
-abbrev pub IsNext : List Run → ℤ → ℤ → Type 0
-IsNext runs x y = (last : Run) → slice_get runs (length runs - 1) ≡ Some last → IsBehind last x y
+abbrev pub IsNextRunStart : List Run → ℤ → ℤ → Type 0
+IsNextRunStart runs x y = (last : Run) → slice_get runs (length runs - 1) ≡ Some last → IsAfterRun last x y
 
 -- each run begins behind all before it
 abbrev pub AreInOrder : List Run → Type 0
-AreInOrder runs = AllPairs (λ a b. IsBehind a b.x b.y) runs
+AreInOrder runs = AllPairs (λ a b. IsAfterRun a b.x b.y) runs
 
 -- the plane goes from the negative of this to one less than this
 abbrev pub half_plane : ℕ
 half_plane = 2 ^ (MAX_LEVEL - 1)
 
 -- the cells (left, top) to (left + len - 1, top) are on the plane
-pub record IsOnPlane (left top : ℤ) (len : ℕ) : Type 0 where
+pub record IsRunOnPlane (left top : ℤ) (len : ℕ) : Type 0 where
   pub west : neg_ℤ (pos half_plane) ≤ℤ left
   pub east : (left +ℤ pos len) ≤ℤ pos half_plane
   pub north : neg_ℤ (pos half_plane) ≤ℤ top
@@ -51,6 +51,6 @@ RunsAreApart =
 abbrev pub RunsGrow : Type 0
 RunsGrow =
     (runs : List Run) (run : Run) (x y : ℤ)
-    → (IsNext (runs ++ run ∷ []) x y ↔ IsBehind run x y)
-    × (AreInOrder runs → IsNext runs run.x run.y → (state : ℕ) → (IsInRun run.x run.y run.len x y → state ≡ run.state)
+    → (IsNextRunStart (runs ++ run ∷ []) x y ↔ IsAfterRun run x y)
+    × (AreInOrder runs → IsNextRunStart runs run.x run.y → (state : ℕ) → (IsInRun run.x run.y run.len x y → state ≡ run.state)
     → (¬ IsInRun run.x run.y run.len x y → state ≡ state_by runs x y) → state ≡ state_by (runs ++ run ∷ []) x y)

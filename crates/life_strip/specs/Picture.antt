@@ -6,15 +6,16 @@ use Rattle.life_strip.specs.declared.spans.Strip.{Strip}
 use Rattle.life_strip.specs.Strip.{square_at, IsStrip, AreWithin, Rise}
 
 -- the state in a column of the plane and a row of a strip
-abbrev pub state_in : (Id → Tree) → Strip → ℕ → ℕ → ℕ
-state_in content s column row =
+abbrev pub state_in_strip : (Id → Tree) → Strip → ℕ → ℕ → ℕ
+state_in_strip content s column row =
     let side = 2 ^ s.level in
     state_at (square_at content s.level s.spans.items (column / side)) (column % side) row
 
 -- the state in a column and a row of strips one below the other, 0 below the last
 abbrev pub picture : (Id → Tree) → List Strip → ℕ → ℕ → ℕ
 picture content [] column row = 0
-picture content (s ∷ rest) column row = if nat_lt row (2 ^ s.level) then state_in content s column row else picture content rest column (row - 2 ^ s.level)
+picture content (s ∷ rest) column row = if nat_lt row (2 ^ s.level) then state_in_strip content s column row else picture content rest column
+    (row - 2 ^ s.level)
 
 -- how many rows strips have together
 abbrev pub height : List Strip → ℕ
@@ -22,7 +23,7 @@ height [] = 0
 height (s ∷ rest) = 2 ^ s.level + height rest
 
 -- the store knows the squares of a strip
-pub record IsSound (knows : Id → Type 0) (content : Id → Tree) (s : Strip) : Type 0 where
+pub record IsSoundStrip (knows : Id → Type 0) (content : Id → Tree) (s : Strip) : Type 0 where
   pub squares : IsStrip knows content s.level s.spans.items
   pub within : AreWithin s.level s.spans.items
   pub rises : Rise s.spans.items
@@ -30,7 +31,8 @@ pub record IsSound (knows : Id → Type 0) (content : Id → Tree) (s : Strip) :
 -- the upper strip's rows come first, and then the lower one's
 abbrev pub IsStack : (Id → Tree) → (Id → Tree) → Strip → Strip → Strip → Type 0
 IsStack old new upper lower both = (column row : ℕ)
-    → state_in new both column row ≡ (if nat_lt row (2 ^ upper.level) then state_in old upper column row else state_in old lower column (row - 2 ^ upper.level))
+    → state_in_strip new both column row ≡ (if nat_lt row (2 ^ upper.level) then state_in_strip old upper column row else state_in_strip old lower column
+    (row - 2 ^ upper.level))
 
 -- each strip has a lower level than the one above it
 abbrev pub AreFalling : List Strip → Type 0
@@ -46,10 +48,10 @@ IsNotLast level strips = (last : Strip) → slice_get strips (length strips - 1)
 
 -- the store knows the squares of the strips, and each has a lower level than the one above it
 pub record AreStacked (knows : Id → Type 0) (content : Id → Tree) (strips : List Strip) : Type 0 where
-  pub sound : All (IsSound knows content) strips
+  pub sound : All (IsSoundStrip knows content) strips
   pub falling : AreFalling strips
 
 -- a row of cells that the store knows
 pub record IsRow (knows : Id → Type 0) (content : Id → Tree) (s : Strip) : Type 0 where
-  pub sound : IsSound knows content s
+  pub sound : IsSoundStrip knows content s
   pub level : s.level ≡ 0

@@ -23,7 +23,7 @@ pub record IsPile (knows : Id → Type 0) (content : Id → Tree) (pile : Pile) 
   pub few : length pile.band.items ≤ 3
 
 -- the rows of the band have gone into the strips, in their order: of a pile that was `old` and is `new`
-pub record IsClosed (knows : Id → Type 0) (was is : Id → Tree) (old new : Pile) : Type 0 where
+pub record HasClosedRows (knows : Id → Type 0) (was is : Id → Tree) (old new : Pile) : Type 0 where
   pub empty : new.band.items ≡ []
   pub strips : AreStacked knows is new.strips.items
   pub height : height new.strips.items ≡ height (strips_of old)

@@ -6,7 +6,7 @@ use Rattle.life_quad.specs.declared.moves.Quarters.{Quarters}
 use Rattle.life_base.specs.Tree.{Tree, quad, depth, blank}
 use Rattle.life_strip.specs.declared.spans.Span.{Span}
 use Rattle.life_strip.specs.declared.spans.Stretch.{Stretch}
-use Rattle.life_strip.specs.declared.spans.Place.{Place}
+use Rattle.life_strip.specs.declared.spans.StripPlace.{StripPlace}
 use Rattle.life_strip.specs.declared.spans.TheConstants.{NEVER}
 
 -- the Id in a column: that of the first span that ends after it, if this has begun there
@@ -92,9 +92,9 @@ id_or blank None = blank
 id_or blank (Some id) = id
 
 -- the column comes before the end, if there is one
-abbrev pub IsBefore : ℕ → Option ℕ → Type 0
-IsBefore column None = Unit {0}
-IsBefore column (Some end) = column < end
+abbrev pub IsColumnBefore : ℕ → Option ℕ → Type 0
+IsColumnBefore column None = Unit {0}
+IsColumnBefore column (Some end) = column < end
 
 -- from the column to before the start no span has a column, and the start lies before the end of the spans
 pub record IsStart (spans : List Span) (column start : ℕ) : Type 0 where
@@ -103,10 +103,10 @@ pub record IsStart (spans : List Span) (column start : ℕ) : Type 0 where
   pub within : (side : ℕ) → AreBefore side spans → start < side
 
 -- one square goes on from the column to the end, or for ever where no span is left
-pub record IsFound (spans : List Span) (column : ℕ) (blank : Id) (found : Stretch) : Type 0 where
+pub record IsFoundStretch (spans : List Span) (column : ℕ) (blank : Id) (found : Stretch) : Type 0 where
   pub past : IsPast spans found.index column
-  pub square : (c : ℕ) → column ≤ c → IsBefore c found.end → id_or blank (id_at spans c) ≡ found.square
-  pub beyond : IsBefore column found.end
+  pub square : (c : ℕ) → column ≤ c → IsColumnBefore c found.end → id_or blank (id_at spans c) ≡ found.square
+  pub beyond : IsColumnBefore column found.end
   pub ends : MatchOption found.start ((c : ℕ) → EndsAfter spans found.index c) (EndsAfter spans found.index)
   pub start : MatchOption found.start ((c : ℕ) → column ≤ c → id_at spans c ≡ None) (IsStart spans column)
   pub last : MatchOption found.end (found.start ≡ None) (λ end. (side : ℕ) → AreBefore side spans → end ≤ side)
@@ -114,12 +114,12 @@ pub record IsFound (spans : List Span) (column : ℕ) (blank : Id) (found : Stre
 -- the end is one of the two, and neither comes before it
 pub record IsNearer (end : ℕ) (north south : Option ℕ) : Type 0 where
   pub one : (north ≡ Some end) ⊎ (south ≡ Some end)
-  pub upper : (column : ℕ) → column < end → IsBefore column north
-  pub lower : (column : ℕ) → column < end → IsBefore column south
+  pub upper : (column : ℕ) → column < end → IsColumnBefore column north
+  pub lower : (column : ℕ) → column < end → IsColumnBefore column south
 
 -- Seen from the column, where a strip stands: no span has a column from there to before the start, and one square has those from the start to
 -- before the end, where the span at the index ends. Where no span is left, both are beyond every column.
-pub record IsAt (spans : List Span) (column : ℕ) (place : Place) : Type 0 where
+pub record IsAt (spans : List Span) (column : ℕ) (place : StripPlace) : Type 0 where
   pub past : IsPast spans place.index column
   pub from : column ≤ place.start
   pub beyond : column < place.end
@@ -131,16 +131,17 @@ pub record IsAt (spans : List Span) (column : ℕ) (place : Place) : Type 0 wher
   pub within : (side : ℕ) → AreBefore side spans → place.start < NEVER → (place.start < place.end) × (place.end ≤ side)
 
 -- the square in a column before the end of a place
-abbrev pub square_in : Place → Id → ℕ → Id
+abbrev pub square_in : StripPlace → Id → ℕ → Id
 square_in place blank column = if nat_le place.start column then place.square else blank
 
 -- the column up to which it goes on
-abbrev pub goes_to : Place → ℕ → ℕ
+abbrev pub goes_to : StripPlace → ℕ → ℕ
 goes_to place column = if nat_le place.start column then place.end else place.start
 
 -- A span of equal squares that are not joined yet. Their quarters can be joined (`Can`), and in each column of the span the square that they make
 -- (`square`) is the wanted one. From the given column to the span's start nothing is wanted (`none`), and the span ends within the plane.
-pub record IsPiece (Can : Quarters → Type 0) (square : Quarters → Tree) (want : ℕ → Tree) (none : Tree) (side column : ℕ) (span : Span) (quarters : Quarters) :
+pub record IsStripPiece (Can : Quarters → Type 0) (square : Quarters → Tree) (want : ℕ → Tree) (none : Tree) (side column : ℕ) (span : Span)
+    (quarters : Quarters) :
     Type 0 where
   pub can : Can quarters
   pub from : column ≤ span.start
@@ -155,7 +156,7 @@ ArePieces Can square want none side column [] [] next = next ≡ column
 ArePieces Can square want none side column [] (q ∷ quarters) next = ⊥
 ArePieces Can square want none side column (s ∷ spans) [] next = ⊥
 ArePieces Can square want none side column (s ∷ spans) (q ∷ quarters) next =
-    IsPiece Can square want none side column s q × ArePieces Can square want none side s.end spans quarters next
+    IsStripPiece Can square want none side column s q × ArePieces Can square want none side s.end spans quarters next
 
 -- the spans with other squares
 abbrev pub with_squares : List Span → List Id → List Span
@@ -164,7 +165,7 @@ with_squares (s ∷ spans) [] = []
 with_squares (s ∷ spans) (id ∷ squares) = record { start = s.start; end = s.end; square = id } ∷ with_squares spans squares
 
 -- Where a walk along two strips is: before the column all is done, and no column of the level is beyond the plane.
-pub record IsWalk (level : ℕ) (upper lower : List Span) (column : ℕ) (north south : Place) : Type 0 where
+pub record IsWalk (level : ℕ) (upper lower : List Span) (column : ℕ) (north south : StripPlace) : Type 0 where
   pub upper_place : IsAt upper (2 * column) north
   pub lower_place : IsAt lower (2 * column) south
   pub within : column ≤ 2 ^ (MAX_LEVEL - suc level)

@@ -6,14 +6,14 @@ pub use Rattle.life_quad.specs.Grows.{Grows, GrowsOnly}
 pub use Rattle.life_quad.specs.Moves.{CanJoin, quad_of}
 pub use Rattle.life_quad.specs.Refused.{SomePart}
 pub use Rattle.life_quad.specs.Store.{four}
-pub use Rattle.life_strip.specs.Band.{cell_in, cells_at, east_at, four_at, IsWord, nibble_of, west_at}
+pub use Rattle.life_strip.specs.Band.{cell_in_spans, cells_at, east_at, four_at, IsWordOfCells, nibble_of, west_at}
 pub use Rattle.life_strip.specs.Filling.{EmptyFills, FillingStays, IsEmpty, IsFilling}
-pub use Rattle.life_strip.specs.Given.{AreInOrder, by_columns, half_plane, IsBehind, IsNext, IsOnPlane, RunsAreApart, RunsGrow, state_by}
+pub use Rattle.life_strip.specs.Given.{AreInOrder, by_columns, half_plane, IsAfterRun, IsNextRunStart, IsRunOnPlane, RunsAreApart, RunsGrow, state_by}
 pub use Rattle.life_strip.specs.Needed.{SomeColumn, SomeSquare}
-pub use Rattle.life_strip.specs.Picture.{AreFalling, AreStacked, height, IsLowest, IsNotLast, IsRow, IsSound, IsStack, picture}
-pub use Rattle.life_strip.specs.Pile.{IsClosed, IsPile, SomeOfPile, strips_of}
+pub use Rattle.life_strip.specs.Picture.{AreFalling, AreStacked, height, IsLowest, IsNotLast, IsRow, IsSoundStrip, IsStack, picture}
+pub use Rattle.life_strip.specs.Pile.{HasClosedRows, IsPile, SomeOfPile, strips_of}
 pub use Rattle.life_strip.specs.Plane.{AddsRun, BeginsRow, cell_so_far, IsFilled, IsFree, IsUnfilled, state_so_far}
-pub use Rattle.life_strip.specs.Strip.{AreBefore, AreWithin, EndsAfter, FilledTo, goes_to, HaveColumns, id_at, id_or, IsAt, IsExtended, IsFound, IsNearer}
+pub use Rattle.life_strip.specs.Strip.{AreBefore, AreWithin, EndsAfter, FilledTo, goes_to, HaveColumns, id_at, id_or, IsAt, IsExtended, IsFoundStretch, IsNearer}
 pub use Rattle.life_strip.specs.Strip.{ArePieces, IsOnly, IsOnlyColumn, IsPaired, IsPast, IsStrip, IsWalk, quad_at, Rise, square_at, square_in, with_squares}
 pub use Rattle.life_strip.specs.declared.spans.Span.{Span as SpanValue}
 pub use Rattle.std.specs.Borrow.{ftrue}

@@ -1,6 +1,6 @@
 //! A builder that fills a store row by row.
 ghost use Rattle.std.specs.Prelude.{◌≡◌, ℤ, pos, nat_abs, ◌+ℤ◌, ◌^◌, ◌≤◌, ◌++◌, ◌∷◌, [], IfOk, OnOk};
-ghost use Rattle.life_strip.specs.Words.{depth, tree_cell, Grows, IsBehind, IsNext, IsOnPlane, AreInOrder, state_by, by_columns, half_plane, SomeSquare, IsEmpty, IsFilling};
+ghost use Rattle.life_strip.specs.Words.{depth, tree_cell, Grows, IsAfterRun, IsNextRunStart, IsRunOnPlane, AreInOrder, state_by, by_columns, half_plane, SomeSquare, IsEmpty, IsFilling};
 
 use crate::plane::Plane;
 use crate::run_log::RunLog;
@@ -48,12 +48,13 @@ impl Builder {
     pub fn add_run<S: Squares>(&mut self, squares: &mut S, run: Run) -> Result<(), Kind>
         requires filling { IsFilling (S.knows squares.old) (S.content squares.old) self.old }
         requires positive { 1 ≤ run.len }
-        requires inside { IsOnPlane run.x run.y run.len }
-        requires next { IsNext self.old.runs run.x run.y }
+        requires inside { IsRunOnPlane run.x run.y run.len }
+        requires next { IsNextRunStart self.old.runs run.x run.y }
         ensures filling { OnOk result
             (IsFilling (S.knows squares.new) (S.content squares.new) self.new) }
         ensures runs { OnOk result (self.new.runs ≡ self.old.runs ++ run ∷ []) }
-        ensures next { OnOk result ((i j : ℤ) → IsBehind run i j → IsNext self.new.runs i j) }
+        ensures next { OnOk result ((i j : ℤ) → IsAfterRun run i j
+            → IsNextRunStart self.new.runs i j) }
         ensures grows { Grows S.Squares squares.old squares.new result
             (λ P. SomeSquare P (nat_abs (run.y +ℤ pos half_plane))
             (by_columns (state_by self.old.runs))) }

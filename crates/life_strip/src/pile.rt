@@ -1,6 +1,6 @@
 //! The rows of the plane that are over.
 ghost use Rattle.std.specs.Prelude.{◌≡◌, ℕ, ◌+◌, ◌^◌, ◌<◌, ◌≤◌, ◌++◌, ◌∷◌, [], All, length, IfOk, OnOk};
-ghost use Rattle.life_strip.specs.Words.{depth, state_at, Grows, picture, height, AreStacked, IsLowest, IsRow, SomeSquare, IsPile, IsClosed, SomeOfPile, strips_of};
+ghost use Rattle.life_strip.specs.Words.{depth, state_at, Grows, picture, height, AreStacked, IsLowest, IsRow, SomeSquare, IsPile, HasClosedRows, SomeOfPile, strips_of};
 
 use crate::rows::{band_strip, blank_level, push_and_raise, push_strip, take_last, whole};
 use crate::spans::Strip;
@@ -39,7 +39,7 @@ impl Pile {
         requires rows { All (IsRow (S.knows squares.old) (S.content squares.old))
             self.old.band.items }
         requires room { height (strips_of self.old) ≤ 2 ^ MAX_LEVEL }
-        ensures closed { OnOk result (IsClosed (S.knows squares.new) (S.content squares.old)
+        ensures closed { OnOk result (HasClosedRows (S.knows squares.new) (S.content squares.old)
             (S.content squares.new) self.old self.new) }
         ensures grows { Grows S.Squares squares.old squares.new result
             (λ P. SomeOfPile P (S.content squares.old) self.old) }
@@ -61,7 +61,7 @@ impl Pile {
             self.old.band.items }
         requires whole { length self.old.band.items ≡ 4 }
         requires room { height (strips_of self.old) ≤ 2 ^ MAX_LEVEL }
-        ensures closed { OnOk result (IsClosed (S.knows squares.new) (S.content squares.old)
+        ensures closed { OnOk result (HasClosedRows (S.knows squares.new) (S.content squares.old)
             (S.content squares.new) self.old self.new) }
         ensures grows { Grows S.Squares squares.old squares.new result
             (λ P. SomeOfPile P (S.content squares.old) self.old) }

@@ -1,6 +1,6 @@
 //! The plane as far as it is filled, row by row.
 ghost use Rattle.std.specs.Prelude.{◌≡◌, ℤ, pos, neg_ℤ, nat_abs, ◌+ℤ◌, ◌<ℤ◌, ◌≤ℤ◌, ◌+◌, ◌^◌, ◌<◌, ◌≤◌, IfOk, OnOk};
-ghost use Rattle.life_strip.specs.Words.{depth, tree_cell, Grows, IsOnPlane, half_plane, SomeSquare, IsFilled, IsUnfilled, IsFree, AddsRun, BeginsRow, state_so_far, cell_so_far};
+ghost use Rattle.life_strip.specs.Words.{depth, tree_cell, Grows, IsRunOnPlane, half_plane, SomeSquare, IsFilled, IsUnfilled, IsFree, AddsRun, BeginsRow, state_so_far, cell_so_far};
 
 use crate::pile::Pile;
 use crate::spans::{Strip, extend};
@@ -92,7 +92,7 @@ impl Plane {
     pub(crate) fn add_run<S: Squares>(&mut self, squares: &mut S, run: Run) -> Result<(), Kind>
         requires filled { IsFilled (S.knows squares.old) (S.content squares.old) self.old }
         requires positive { 1 ≤ run.len }
-        requires inside { IsOnPlane run.x run.y run.len }
+        requires inside { IsRunOnPlane run.x run.y run.len }
         requires free { IsFree self.old run.x run.y }
         ensures filled { OnOk result
             (IsFilled (S.knows squares.new) (S.content squares.new) self.new) }

@@ -1,6 +1,6 @@
 //! Strips one below the other.
 ghost use Rattle.std.specs.Prelude.{◌≡◌, ℕ, suc, ◌+◌, ◌-◌, ◌^◌, ◌<◌, ◌≤◌, ◌++◌, ◌∷◌, [], All, length, MatchOption, IfSome, IfOk, OnOk};
-ghost use Rattle.life_strip.specs.Words.{depth, state_at, Grows, quad_at, picture, height, AreFalling, AreStacked, IsLowest, IsNotLast, IsRow, IsSound, IsStack, SomeColumn, SomeSquare};
+ghost use Rattle.life_strip.specs.Words.{depth, state_at, Grows, quad_at, picture, height, AreFalling, AreStacked, IsLowest, IsNotLast, IsRow, IsSoundStrip, IsStack, SomeColumn, SomeSquare};
 
 use crate::bands::band_spans;
 use crate::single::{only_column, pair_only};
@@ -20,9 +20,10 @@ fn merge_long<S: Squares>(
 ) -> Result<Strip, Kind>
     requires low { upper.level < MAX_LEVEL }
     requires one_level { lower.level ≡ upper.level }
-    requires upper { IsSound (S.knows squares.old) (S.content squares.old) upper }
-    requires lower { IsSound (S.knows squares.old) (S.content squares.old) lower }
-    ensures sound { IfOk result (λ r. IsSound (S.knows squares.new) (S.content squares.new) r) }
+    requires upper { IsSoundStrip (S.knows squares.old) (S.content squares.old) upper }
+    requires lower { IsSoundStrip (S.knows squares.old) (S.content squares.old) lower }
+    ensures sound { IfOk result (λ r. IsSoundStrip (S.knows squares.new) (S.content squares.new)
+        r) }
     ensures level { IfOk result (λ r. r.level ≡ suc upper.level) }
     ensures stack { IfOk result
         (λ r. IsStack (S.content squares.old) (S.content squares.new) upper lower r) }
@@ -53,9 +54,10 @@ fn merge<S: Squares>(
 ) -> Result<Strip, Kind>
     requires low { upper.level < MAX_LEVEL }
     requires one_level { lower.level ≡ upper.level }
-    requires upper { IsSound (S.knows squares.old) (S.content squares.old) upper }
-    requires lower { IsSound (S.knows squares.old) (S.content squares.old) lower }
-    ensures sound { IfOk result (λ r. IsSound (S.knows squares.new) (S.content squares.new) r) }
+    requires upper { IsSoundStrip (S.knows squares.old) (S.content squares.old) upper }
+    requires lower { IsSoundStrip (S.knows squares.old) (S.content squares.old) lower }
+    ensures sound { IfOk result (λ r. IsSoundStrip (S.knows squares.new) (S.content squares.new)
+        r) }
     ensures level { IfOk result (λ r. r.level ≡ suc upper.level) }
     ensures stack { IfOk result
         (λ r. IsStack (S.content squares.old) (S.content squares.new) upper lower r) }
@@ -98,7 +100,7 @@ pub(crate) fn push_strip<S: Squares>(
     strip: Strip,
 ) -> Result<(), Kind>
     requires strips { AreStacked (S.knows squares.old) (S.content squares.old) strips.old.items }
-    requires strip { IsSound (S.knows squares.old) (S.content squares.old) strip }
+    requires strip { IsSoundStrip (S.knows squares.old) (S.content squares.old) strip }
     requires room { height strips.old.items + 2 ^ strip.level ≤ 2 ^ MAX_LEVEL }
     requires lowest { IsLowest strip.level strips.old.items }
     ensures strips { OnOk result
@@ -130,8 +132,9 @@ fn raise<S: Squares>(
 ) -> Result<Strip, Kind>
     requires low { strip.level ≤ top }
     requires high { top ≤ MAX_LEVEL }
-    requires strip { IsSound (S.knows squares.old) (S.content squares.old) strip }
-    ensures sound { IfOk result (λ r. IsSound (S.knows squares.new) (S.content squares.new) r) }
+    requires strip { IsSoundStrip (S.knows squares.old) (S.content squares.old) strip }
+    ensures sound { IfOk result (λ r. IsSoundStrip (S.knows squares.new) (S.content squares.new)
+        r) }
     ensures level { IfOk result (λ r. r.level ≡ top) }
     ensures picture { IfOk result (λ r. (column row : ℕ)
         → picture (S.content squares.new) (r ∷ []) column row
@@ -160,7 +163,7 @@ pub(crate) fn push_and_raise<S: Squares>(
     rows: u64,
 ) -> Result<u64, Kind>
     requires strips { AreStacked (S.knows squares.old) (S.content squares.old) strips.old.items }
-    requires strip { IsSound (S.knows squares.old) (S.content squares.old) strip }
+    requires strip { IsSoundStrip (S.knows squares.old) (S.content squares.old) strip }
     requires lowest { IsLowest (suc strip.level) strips.old.items }
     requires high { strip.level ≤ MAX_LEVEL }
     requires fits { 2 ^ strip.level ≤ rows }
@@ -212,7 +215,7 @@ pub(crate) fn band_strip<S: Squares>(
     requires count { length rows.now ≡ 4 }
     requires rows { All (IsRow (S.knows squares.old) (S.content squares.old)) rows.now }
     ensures sound { IfOk result
-        (λ r. IfSome r (λ s. IsSound (S.knows squares.new) (S.content squares.new) s)) }
+        (λ r. IfSome r (λ s. IsSoundStrip (S.knows squares.new) (S.content squares.new) s)) }
     ensures level { IfOk result (λ r. IfSome r (λ s. s.level ≡ 2)) }
     ensures picture { IfOk result (λ r. IfSome r (λ s. (column row : ℕ)
         → picture (S.content squares.new) (s ∷ []) column row

@@ -1,6 +1,6 @@
 //! Strips of squares, and how two of them make one of the next level.
 ghost use Rattle.std.specs.Prelude.{◌≡◌, ℕ, suc, ◌+◌, ◌-◌, ◌*◌, ◌^◌, ◌<◌, ◌≤◌, ◌++◌, Some, None, MatchOption, length, take, slice_get, IfOk, IfErr, OnOk};
-ghost use Rattle.life_strip.specs.Words.{SpanValue, ArePieces, CanJoin, IsWalk, quad_of, with_squares, blank, Grows, GrowsOnly, IsStrip, AreBefore, AreWithin, HaveColumns, IsPaired, EndsAfter, IsPast, IsFound, IsNearer, IsExtended, IsAt, Rise, quad_at, square_in, goes_to, SomeColumn, IsMemory};
+ghost use Rattle.life_strip.specs.Words.{SpanValue, ArePieces, CanJoin, IsWalk, quad_of, with_squares, blank, Grows, GrowsOnly, IsStrip, AreBefore, AreWithin, HaveColumns, IsPaired, EndsAfter, IsPast, IsFoundStretch, IsNearer, IsExtended, IsAt, Rise, quad_at, square_in, goes_to, SomeColumn, IsMemory};
 
 use crate::spare::Spare;
 use life_base::{Kind, MAX_LEVEL};
@@ -37,7 +37,7 @@ pub(crate) const NEVER: u64 = u64::MAX;
 
 // The place of a strip in a column: the span that is there or comes next, without its columns before that one.
 #[derive(Clone, Copy)]
-pub(crate) struct Place {
+pub(crate) struct StripPlace {
     pub(crate) index: usize,
     // `NEVER` if no span is left.
     pub(crate) start: u64,
@@ -50,24 +50,24 @@ pub(crate) struct Place {
 #[derive(Clone, Copy)]
 struct Joined {
     square: Id,
-    north: Place,
-    south: Place,
+    north: StripPlace,
+    south: StripPlace,
 }
 
 // The quarters of a square of two columns of two strips, and the place of each strip in the eastern of them.
 #[derive(Clone, Copy)]
 struct Four {
     quarters: Quarters,
-    north: Place,
-    south: Place,
+    north: StripPlace,
+    south: StripPlace,
 }
 
 // A walk along two strips: the places of both in a column of the next level, and how many squares the last step gathered.
 #[derive(Clone, Copy)]
 struct Walk {
     column: u64,
-    north: Place,
-    south: Place,
+    north: StripPlace,
+    south: StripPlace,
     count: usize,
 }
 
@@ -78,7 +78,7 @@ const BATCH: usize = 32;
 pub(crate) fn find(spans: &[Span], from: usize, column: u64, blank: Id) -> Stretch
     requires columns { HaveColumns spans.now }
     requires past { IsPast spans.now from column }
-    ensures { IsFound spans.now column blank result }
+    ensures { IsFoundStretch spans.now column blank result }
 {
     // Whether the first span ends before the column is mostly chance, so that step takes no branch.
     let mut index = from;
@@ -96,7 +96,7 @@ pub(crate) fn stretch_at(spans: &[Span], index: usize, column: u64, blank: Id) -
     requires columns { HaveColumns spans.now }
     requires past { IsPast spans.now index column }
     requires ends { EndsAfter spans.now index column }
-    ensures { IsFound spans.now column blank result }
+    ensures { IsFoundStretch spans.now column blank result }
 {
     if index >= spans.len() {
         return Stretch {
@@ -125,7 +125,7 @@ pub(crate) fn stretch_at(spans: &[Span], index: usize, column: u64, blank: Id) -
 
 // The place of a strip in a column, where the spans before the index end before it and the span there, if there is one, ends after it.
 #[inline(always)]
-fn place_at(spans: &[Span], index: usize, column: u64, blank: Id) -> Place
+fn place_at(spans: &[Span], index: usize, column: u64, blank: Id) -> StripPlace
     requires columns { HaveColumns spans.now }
     requires past { IsPast spans.now index column }
     requires ends { EndsAfter spans.now index column }
@@ -134,14 +134,14 @@ fn place_at(spans: &[Span], index: usize, column: u64, blank: Id) -> Place
 {
     if index < spans.len() {
         let span = spans[index];
-        return Place {
+        return StripPlace {
             index,
             start: span.start.max(column),
             end: span.end,
             square: span.square,
         };
     }
-    Place {
+    StripPlace {
         index,
         start: NEVER,
         end: NEVER,
@@ -151,7 +151,7 @@ fn place_at(spans: &[Span], index: usize, column: u64, blank: Id) -> Place
 
 // The place in a later column, no later than where the one before ends.
 #[inline(always)]
-fn pass(spans: &[Span], place: Place, column: u64, blank: Id) -> Place
+fn pass(spans: &[Span], place: StripPlace, column: u64, blank: Id) -> StripPlace
     requires columns { HaveColumns spans.now }
     requires rises { Rise spans.now }
     requires place { (before : ℕ) × (before ≤ column) × IsAt spans.now before place }
@@ -161,7 +161,7 @@ fn pass(spans: &[Span], place: Place, column: u64, blank: Id) -> Place
     ensures later { place.end ≤ result.end }
 {
     if column < place.end {
-        return Place {
+        return StripPlace {
             start: place.start.max(column),
             ..place
         };
@@ -171,7 +171,7 @@ fn pass(spans: &[Span], place: Place, column: u64, blank: Id) -> Place
 
 // The square in a column before the end of a place.
 #[inline(always)]
-fn square_of(place: Place, column: u64, blank: Id) -> Id
+fn square_of(place: StripPlace, column: u64, blank: Id) -> Id
     ensures { result ≡ square_in place blank column }
 {
     if place.start <= column {
@@ -183,7 +183,7 @@ fn square_of(place: Place, column: u64, blank: Id) -> Id
 
 // The column up to which it goes on.
 #[inline(always)]
-fn end_of(place: Place, column: u64) -> u64
+fn end_of(place: StripPlace, column: u64) -> u64
     ensures { result ≡ goes_to place column }
 {
     if place.start <= column {
@@ -203,8 +203,8 @@ fn quarters_at<S: Squares>(
     level: u8,
     empty: Id,
     column: u64,
-    north: Place,
-    south: Place,
+    north: StripPlace,
+    south: StripPlace,
 ) -> Four
     requires low { level < MAX_LEVEL }
     requires column { column ≤ 2 ^ MAX_LEVEL }
@@ -250,8 +250,8 @@ fn join_at<S: Squares>(
     level: u8,
     empty: Id,
     column: u64,
-    north: Place,
-    south: Place,
+    north: StripPlace,
+    south: StripPlace,
 ) -> Result<Joined, Kind>
     requires low { level < MAX_LEVEL }
     requires column { column ≤ 2 ^ MAX_LEVEL }

@@ -1,6 +1,6 @@
 //! Rows of cells of the states 0 and 1, 64 columns at a time: a word has a bit for each column, and that of the westernmost is the highest.
 ghost use Rattle.std.specs.Prelude.{◌≡◌, ℕ, ◌+◌, ◌-◌, ◌*◌, ◌/◌, ◌%◌, ◌^◌, ◌<◌, ◌≤◌, IfSome, bit_or};
-ghost use Rattle.life_strip.specs.Words.{point, IsStrip, HaveColumns, IsPast, cell_in, IsWord, nibble_of, west_at, east_at, cells_at};
+ghost use Rattle.life_strip.specs.Words.{point, IsStrip, HaveColumns, IsPast, cell_in_spans, IsWordOfCells, nibble_of, west_at, east_at, cells_at};
 
 use crate::spans::Span;
 use life_base::MAX_LEVEL;
@@ -58,7 +58,7 @@ pub(crate) fn read_word<S: Squares>(
     requires columns { HaveColumns row.now }
     requires past { IsPast row.now from start }
     ensures cells { IfSome result
-        (λ w. IsWord (cell_in (S.content squares.now) row.now) start w.cells) }
+        (λ w. IsWordOfCells (cell_in_spans (S.content squares.now) row.now) start w.cells) }
     ensures past { IfSome result (λ w. IsPast row.now w.index (start + 64)) }
 {
     let one = squares.cell(1);
@@ -100,9 +100,9 @@ pub(crate) fn two_words<S: Squares>(
     requires north { IsPast upper.now north start }
     requires south { IsPast lower.now south start }
     ensures north { IfSome result
-        (λ r. IsWord (cell_in (S.content squares.now) upper.now) start r.north.cells) }
+        (λ r. IsWordOfCells (cell_in_spans (S.content squares.now) upper.now) start r.north.cells) }
     ensures south { IfSome result
-        (λ r. IsWord (cell_in (S.content squares.now) lower.now) start r.south.cells) }
+        (λ r. IsWordOfCells (cell_in_spans (S.content squares.now) lower.now) start r.south.cells) }
     ensures north_past { IfSome result (λ r. IsPast upper.now r.north.index (start + 64)) }
     ensures south_past { IfSome result (λ r. IsPast lower.now r.south.index (start + 64)) }
 {

@@ -10,7 +10,7 @@ use Rattle.life_base.specs.declared.cell.TheConstants.{MAX_LEVEL}
 use Rattle.life_base.specs.Tree.{Tree, depth, half_side, tree_cell}
 use Rattle.life_quad.specs.Cells.{IsBefore, IsCellList}
 use Rattle.life_quad.proofs.LawLemmas.{cells_lie_inside}
-use Rattle.life_sweep.specs.Generation.{after}
+use Rattle.life_sweep.specs.Generation.{one_after}
 use Rattle.life_sweep.specs.Rows.{IsRestOf, IsFrom, Precedes, IsInside, IsBlankBefore, first_coordinate}
 use Rattle.life_base.proofs.Members.{in_cases, in_tail}
 
@@ -29,14 +29,14 @@ sorted-from f x y (cell ∷ rest) pairs here all = (
   first.1,
   gap,
   first.0,
-  sorted-from f (after cell.x) cell.y rest (later-pairs cell rest pairs)
+  sorted-from f (one_after cell.x) cell.y rest (later-pairs cell rest pairs)
       (λ d h. ((here d (in_tail cell rest d h)).0, behind d (first-before cell d rest pairs h))) more,
 )
   where
     first : (f cell.x cell.y ≡ cell.state) × IsFrom x y cell.x cell.y
     first = here cell (0, omega arith, refl)
 
-    behind : (d : Cell) → IsBefore cell d → IsFrom (after cell.x) cell.y d.x d.y
+    behind : (d : Cell) → IsBefore cell d → IsFrom (one_after cell.x) cell.y d.x d.y
     behind d (inl l) = inl l
     behind d (inr p) = inr (p.0, omega (arith, ints, p.1))
 
@@ -60,15 +60,15 @@ sorted-from f x y (cell ∷ rest) pairs here all = (
       ]
     ]
 
-    from-first : (c r : ℤ) → IsFrom (after cell.x) cell.y c r → IsFrom x y c r
+    from-first : (c r : ℤ) → IsFrom (one_after cell.x) cell.y c r → IsFrom x y c r
     from-first c r (inl l) = elim first.1 [ inl m ↦ inl (omega (arith, ints, l, m)) | inr m ↦ inl (omega (arith, ints, l, m.0)) ]
     from-first c r (inr l) = elim first.1 [ inl m ↦ inl (omega (arith, ints, l.0, m)) | inr m ↦ inr (m.0 ∙ l.0, omega (arith, ints, l.1, m.1)) ]
 
-    not-first : (c r : ℤ) → IsFrom (after cell.x) cell.y c r → cell.x ≡ c → cell.y ≡ r → ⊥
+    not-first : (c r : ℤ) → IsFrom (one_after cell.x) cell.y c r → cell.x ≡ c → cell.y ≡ r → ⊥
     not-first c r (inl l) ex ey = omega (arith, ints, l, ey)
     not-first c r (inr l) ex ey = omega (arith, ints, l.1, ex)
 
-    more : (c r : ℤ) → IsFrom (after cell.x) cell.y c r → f c r ≢ 0 → Contains rest (record { x = c; y = r; state = f c r })
+    more : (c r : ℤ) → IsFrom (one_after cell.x) cell.y c r → f c r ≢ 0 → Contains rest (record { x = c; y = r; state = f c r })
     more c r p n = elim (in_cases cell rest (record { x = c; y = r; state = f c r }) (all c r (from-first c r p) n)) [
       | inl e ↦ absurd (not-first c r p (ap (λ (z : Cell). z.x) e) (ap (λ (z : Cell). z.y) e))
       | inr h ↦ h

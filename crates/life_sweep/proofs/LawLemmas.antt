@@ -6,7 +6,7 @@ use Rattle.life_base.specs.declared.kind.Kind.TheVariants as kinds
 use Rattle.life_table.specs.Meaning.{Becomes, Ambiguous, Decides, count_of}
 use Rattle.life_table.specs.declared.table.Table.{Table}
 use Rattle.life_table.specs.declared.table.Neighborhood.{Neighborhood}
-use Rattle.life_sweep.specs.Generation.{TableAnswers, named}
+use Rattle.life_sweep.specs.Generation.{TableAnswers, neighbours_among}
 
 -- a state of 0 or 1 counts as itself
 pub counts_itself : (a : ℕ) → a < 2 → cond (nat_eq 1 a) 1 0 ≡ a
@@ -37,12 +37,13 @@ count-eight (s ∷ a ∷ b ∷ c ∷ d ∷ e ∷ f ∷ g ∷ h ∷ []) len all =
 count-eight v len all = absurd (omega (arith, len))
 
 -- the answer at the neighbours that the table looks at is its answer
-pub decided : (table : Table) (v cells : List ℕ) (n : Neighborhood) (result : Result ℕ Fault) → table.neighborhood ≡ n → cells ≡ slice_index v 0 ∷ named n v
+pub decided : (table : Table) (v cells : List ℕ) (n : Neighborhood) (result : Result ℕ Fault) → table.neighborhood ≡ n → cells ≡ slice_index v 0
+    ∷ neighbours_among n v
     → MatchResult result (λ s. Decides table.symmetry table.vars (slice_index cells 0) (drop 1 cells) table.lines (Becomes s))
     (λ fault. (fault.kind ≡ kinds.Ambiguous) × Decides table.symmetry table.vars (slice_index cells 0) (drop 1 cells) table.lines (Ambiguous fault.place.line))
     → IfOk result (λ s. TableAnswers table v (Becomes s))
 decided table v cells n (Ok s) en ec h =
-    subst (λ m. Decides table.symmetry table.vars (slice_index v 0) (named m v) table.lines (Becomes s)) (sym en)
+    subst (λ m. Decides table.symmetry table.vars (slice_index v 0) (neighbours_among m v) table.lines (Becomes s)) (sym en)
     (subst (λ z. Decides table.symmetry table.vars (slice_index z 0) (drop 1 z) table.lines (Becomes s)) ec h)
 decided table v cells n (Err f) en ec h = tt
 

@@ -3,16 +3,17 @@ use Rattle.std.proofs.Common.{◌≡◌, ℕ, ℤ, List, subst, sym, refl}
 use Rattle.life_table.specs.Meaning.{Decides, Becomes, count_of}
 use Rattle.life_table.specs.declared.table.Neighborhood.{Neighborhood}
 use Rattle.life_table.specs.declared.table.Neighborhood.TheVariants.{VonNeumann, Moore}
-use Rattle.life_sweep.specs.Generation.{neighbours_at, neighborhood_of, next_by_count, LifeAnswersAt, TableAnswersAt, states_at, named}
+use Rattle.life_sweep.specs.Generation.{neighbours_at, neighborhood_of_rule, next_by_count, LifeAnswersAt, TableAnswersAt, states_at, neighbours_among}
 
 -- the neighbours that a neighbourhood names stand where it says
-named-at : (neighborhood : Neighborhood) (cells : ℤ → ℤ → ℕ) (x y : ℤ) → named neighborhood (states_at cells x y) ≡ neighbours_at neighborhood cells x y
+named-at : (neighborhood : Neighborhood) (cells : ℤ → ℤ → ℕ) (x y : ℤ) → neighbours_among neighborhood (states_at cells x y)
+    ≡ neighbours_at neighborhood cells x y
 named-at VonNeumann cells x y = refl
 named-at Moore cells x y = refl
 
 pub life-answers-at : LifeAnswersAt
 life-answers-at rule cells x y answer =
-    let e = named-at (neighborhood_of rule.near) cells x y in
+    let e = named-at (neighborhood_of_rule rule.near) cells x y in
     let P = λ (others : List ℕ). answer ≡ Becomes (next_by_count rule.sets (cells x y) (count_of 1 others)) in
     ((λ h. subst P e h), (λ h. subst P (sym e) h))
 

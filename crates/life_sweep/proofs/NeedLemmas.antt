@@ -12,7 +12,7 @@ use Rattle.life_quad.specs.Keeping.{AddsOnly}
 use Rattle.life_quad.specs.declared.id.Id.{Id}
 use Rattle.life_quad.proofs.KeepingLemmas.{adds-then}
 use Rattle.life_strip.specs.Filling.{Building, IsFilling}
-use Rattle.life_strip.specs.Given.{AreInOrder, IsOnPlane, state_by, by_columns, half_plane}
+use Rattle.life_strip.specs.Given.{AreInOrder, IsRunOnPlane, state_by, by_columns, half_plane}
 use Rattle.life_strip.specs.Needed.{SomeSquare}
 use Rattle.life_strip.specs.Plane.{state_so_far}
 use Rattle.life_strip.proofs.NeededLemmas.{SomeSquare-within}
@@ -20,7 +20,7 @@ use Rattle.life_strip.proofs.PlaneLemmas.{plane_outside}
 use Rattle.life_table.specs.Meaning.{Answer, Becomes}
 use Rattle.life_base.specs.declared.cell.Run.{Run}
 use Rattle.life_sweep.specs.Refused.{SomeAbove, SomeOfAll, SomeNext, above_cell, of_plane}
-use Rattle.life_sweep.specs.RunBuilder.{IsOpen}
+use Rattle.life_sweep.specs.RunBuilder.{IsOpenRun}
 use Rattle.life_sweep.specs.Rows.{Precedes}
 use Rattle.life_sweep.specs.Generation.{states_at}
 use Rattle.life_sweep.specs.Sweep.{IsDrawnAt, IsSwept}
@@ -37,7 +37,7 @@ same-above P f g y on same =
     SomeSquare-within (omega arith) (λ i j li lj. same (pos i -ℤ pos half_plane) (pos j -ℤ pos half_plane) (north j y on lj))
 
 -- a run that can't be given is above none of the cells before it
-pub open-needs : (P : Tree → Type 0) (runs : List Run) (run : Run) → AreInOrder runs → IsOpen runs run
+pub open-needs : (P : Tree → Type 0) (runs : List Run) (run : Run) → AreInOrder runs → IsOpenRun runs run
     → SomeSquare P (nat_abs (run.y +ℤ pos half_plane)) (by_columns (state_by runs)) → SomeAbove P (runs ++ run ∷ [])
 open-needs P runs run order opened s =
     let on = opened.inside in
@@ -54,7 +54,7 @@ open-needs P runs run order opened s =
     }
 
 -- no cell outside the plane was given
-pub none-outside : {knows : Id → Type 0} {content : Id → Tree} {b : Building} → IsFilling knows content b → (x y : ℤ) → ¬ (IsOnPlane x y 1)
+pub none-outside : {knows : Id → Type 0} {content : Id → Tree} {b : Building} → IsFilling knows content b → (x y : ℤ) → ¬ (IsRunOnPlane x y 1)
     → state_by b.runs x y ≡ 0
 none-outside {content = content} {b = b} filling x y outside = by (is_inside half_plane x y) refl
   where

@@ -12,7 +12,7 @@ use Rattle.life_table.specs.declared.table.Neighborhood.{Neighborhood}
 use Rattle.life_table.specs.declared.table.Neighborhood.TheVariants.{Moore}
 use Rattle.life_table.specs.declared.table.Var.{Var}
 use Rattle.life_table.specs.declared.table.Transition.{Transition}
-use Rattle.life_sweep.specs.Generation.{TableAnswers, named}
+use Rattle.life_sweep.specs.Generation.{TableAnswers, neighbours_among}
 use Rattle.life_sweep.specs.LawFacts.{SameImages}
 
 pub images_back : (symmetry : Symmetry) (v w : List ℕ) → SameImages symmetry v w → SameImages symmetry w v
@@ -61,24 +61,29 @@ moved_images v w moved image = (
 
 -- a table that answers by the same centre and images answers the same
 pub same_answers : (table : Table) (v w : List ℕ) → slice_index w 0 ≡ slice_index v 0
-    → SameImages table.symmetry (named table.neighborhood v) (named table.neighborhood w) → (answer : Answer) → TableAnswers table w answer
+    → SameImages table.symmetry (neighbours_among table.neighborhood v) (neighbours_among table.neighborhood w) → (answer : Answer)
+    → TableAnswers table w answer
     ↔ TableAnswers table v answer
 same_answers table v w centre same answer = (
-  λ h. subst (λ c. Decides table.symmetry table.vars c (named table.neighborhood v) table.lines answer) centre
-      (decides table.symmetry table.vars (slice_index w 0) (named table.neighborhood w) (named table.neighborhood v)
-      (images_back table.symmetry (named table.neighborhood v) (named table.neighborhood w) same) table.lines answer h),
-  λ h. subst (λ c. Decides table.symmetry table.vars c (named table.neighborhood w) table.lines answer) (sym centre)
-      (decides table.symmetry table.vars (slice_index v 0) (named table.neighborhood v) (named table.neighborhood w) same table.lines answer h),
+  λ h. subst (λ c. Decides table.symmetry table.vars c (neighbours_among table.neighborhood v) table.lines answer) centre
+      (decides table.symmetry table.vars (slice_index w 0) (neighbours_among table.neighborhood w) (neighbours_among table.neighborhood v)
+      (images_back table.symmetry (neighbours_among table.neighborhood v) (neighbours_among table.neighborhood w) same) table.lines answer h),
+  λ h. subst (λ c. Decides table.symmetry table.vars c (neighbours_among table.neighborhood w) table.lines answer) (sym centre)
+      (decides table.symmetry table.vars (slice_index v 0) (neighbours_among table.neighborhood v) (neighbours_among table.neighborhood w) same table.lines
+      answer h),
 )
 
-same_fixed : (table : Table) (v w : List ℕ) (n : Neighborhood) → table.neighborhood ≡ n → SameImages table.symmetry (named n v) (named n w)
-    → SameImages table.symmetry (named table.neighborhood v) (named table.neighborhood w)
-same_fixed table v w n is h = subst (λ m. SameImages table.symmetry (named m v) (named m w)) (sym is) h
+same_fixed : (table : Table) (v w : List ℕ) (n : Neighborhood) → table.neighborhood ≡ n
+    → SameImages table.symmetry (neighbours_among n v) (neighbours_among n w)
+    → SameImages table.symmetry (neighbours_among table.neighborhood v) (neighbours_among table.neighborhood w)
+same_fixed table v w n is h = subst (λ m. SameImages table.symmetry (neighbours_among m v) (neighbours_among m w)) (sym is) h
 
-pub same_named : (table : Table) (v w : List ℕ) (n : Neighborhood) → table.neighborhood ≡ n → slice_index w 0 ≡ slice_index v 0 → named n w ≡ named n v
+pub same_named : (table : Table) (v w : List ℕ) (n : Neighborhood) → table.neighborhood ≡ n → slice_index w 0 ≡ slice_index v 0 → neighbours_among n w
+    ≡ neighbours_among n v
     → (answer : Answer) → TableAnswers table w answer ↔ TableAnswers table v answer
 same_named table v w n is centre same answer =
-    same_answers table v w centre (same_fixed table v w n is (subst (λ ns. SameImages table.symmetry (named n v) ns) (sym same) (λ image. (λ h. h, λ h. h))))
+    same_answers table v w centre (same_fixed table v w n is
+    (subst (λ ns. SameImages table.symmetry (neighbours_among n v) ns) (sym same) (λ image. (λ h. h, λ h. h))))
     answer
 
 pub same_moved : (table : Table) (v w : List ℕ) → table.neighborhood ≡ Moore → table.symmetry ≡ Permute → slice_index w 0 ≡ slice_index v 0

@@ -12,21 +12,21 @@ use Rattle.life_table.specs.declared.table.Neighborhood.{Neighborhood}
 use Rattle.life_table.specs.declared.table.Neighborhood.TheVariants.{VonNeumann, Moore}
 
 -- one less, and one more
-abbrev pub before : ℤ → ℤ
-before x = x +ℤ negsuc 0
+abbrev pub one_before : ℤ → ℤ
+one_before x = x +ℤ negsuc 0
 
-abbrev pub after : ℤ → ℤ
-after x = x +ℤ pos 1
+abbrev pub one_after : ℤ → ℤ
+one_after x = x +ℤ pos 1
 
 -- the states of the eight neighbours of a cell, from north clockwise
 abbrev pub eight_around : (ℤ → ℤ → ℕ) → ℤ → ℤ → List ℕ
 eight_around cells x y =
-    cells x (before y) ∷ cells (after x) (before y) ∷ cells (after x) y ∷ cells (after x) (after y)
-    ∷ cells x (after y) ∷ cells (before x) (after y) ∷ cells (before x) y ∷ cells (before x) (before y) ∷ []
+    cells x (one_before y) ∷ cells (one_after x) (one_before y) ∷ cells (one_after x) y ∷ cells (one_after x) (one_after y)
+    ∷ cells x (one_after y) ∷ cells (one_before x) (one_after y) ∷ cells (one_before x) y ∷ cells (one_before x) (one_before y) ∷ []
 
 -- of the four that share a side with it, from north clockwise
 abbrev pub four_around : (ℤ → ℤ → ℕ) → ℤ → ℤ → List ℕ
-four_around cells x y = cells x (before y) ∷ cells (after x) y ∷ cells x (after y) ∷ cells (before x) y ∷ []
+four_around cells x y = cells x (one_before y) ∷ cells (one_after x) y ∷ cells x (one_after y) ∷ cells (one_before x) y ∷ []
 
 -- the states of the neighbours that a neighbourhood names
 abbrev pub neighbours_at : Neighborhood → (ℤ → ℤ → ℕ) → ℤ → ℤ → List ℕ
@@ -34,9 +34,9 @@ neighbours_at VonNeumann = four_around
 neighbours_at Moore = eight_around
 
 -- the neighbourhood in which a B/S rule counts
-abbrev pub neighborhood_of : Near → Neighborhood
-neighborhood_of near.VonNeumann = VonNeumann
-neighborhood_of near.Moore = Moore
+abbrev pub neighborhood_of_rule : Near → Neighborhood
+neighborhood_of_rule near.VonNeumann = VonNeumann
+neighborhood_of_rule near.Moore = Moore
 
 -- a cell of state 0 is born, and one of state 1 survives, by the number of its neighbours in state 1
 abbrev pub next_by_count : DigitSets → ℕ → ℕ → ℕ
@@ -45,7 +45,7 @@ next_by_count sets state count =
 
 -- the next state of the cell (x, y) under a B/S rule, by the neighbours that it counts
 abbrev pub next_life : OuterTotalistic → (ℤ → ℤ → ℕ) → ℤ → ℤ → ℕ
-next_life rule cells x y = next_by_count rule.sets (cells x y) (count_of 1 (neighbours_at (neighborhood_of rule.near) cells x y))
+next_life rule cells x y = next_by_count rule.sets (cells x y) (count_of 1 (neighbours_at (neighborhood_of_rule rule.near) cells x y))
 
 -- the second square has the cells of the first one's next generation under a B/S rule
 abbrev pub IsNextLife : OuterTotalistic → Tree → Tree → Type 0
@@ -65,17 +65,18 @@ abbrev pub zeros : List ℕ
 zeros = 0 ∷ 0 ∷ 0 ∷ 0 ∷ 0 ∷ 0 ∷ 0 ∷ 0 ∷ 0 ∷ []
 
 -- those of eight neighbours, behind the centre, that a neighbourhood names
-abbrev pub named : Neighborhood → List ℕ → List ℕ
-named VonNeumann v = slice_index v 1 ∷ slice_index v 3 ∷ slice_index v 5 ∷ slice_index v 7 ∷ []
-named Moore v = drop 1 v
+abbrev pub neighbours_among : Neighborhood → List ℕ → List ℕ
+neighbours_among VonNeumann v = slice_index v 1 ∷ slice_index v 3 ∷ slice_index v 5 ∷ slice_index v 7 ∷ []
+neighbours_among Moore v = drop 1 v
 
 -- the answer of a B/S rule, by a cell's state and the states of those neighbours that count
 abbrev pub LifeAnswers : OuterTotalistic → List ℕ → Answer → Type 0
-LifeAnswers rule states answer = answer ≡ Becomes (next_by_count rule.sets (slice_index states 0) (count_of 1 (named (neighborhood_of rule.near) states)))
+LifeAnswers rule states answer = answer ≡ Becomes
+    (next_by_count rule.sets (slice_index states 0) (count_of 1 (neighbours_among (neighborhood_of_rule rule.near) states)))
 
 -- the answer of a table
 abbrev pub TableAnswers : Table → List ℕ → Answer → Type 0
-TableAnswers table states answer = Decides table.symmetry table.vars (slice_index states 0) (named table.neighborhood states) table.lines answer
+TableAnswers table states answer = Decides table.symmetry table.vars (slice_index states 0) (neighbours_among table.neighborhood states) table.lines answer
 
 -- the law of a B/S rule answers with the next state under the rule
 abbrev pub LifeAnswersAt : Type 0

@@ -13,7 +13,7 @@ use Rattle.life_table.specs.declared.table.Table.{Table}
 use Rattle.life_table.specs.declared.table.Neighborhood.{Neighborhood}
 use Rattle.life_table.specs.declared.table.Neighborhood.TheVariants.{VonNeumann, Moore}
 use Rattle.life_table.proofs.Quiet.{zero_law}
-use Rattle.life_sweep.specs.Generation.{LifeAnswers, TableAnswers, named, zeros}
+use Rattle.life_sweep.specs.Generation.{LifeAnswers, TableAnswers, neighbours_among, zeros}
 use Rattle.life_sweep.specs.declared.law.Known.{Known}
 
 -- each order in which a symmetry lets the one list be read is one of the other's
@@ -21,7 +21,7 @@ abbrev pub SameImages : Symmetry → List ℕ → List ℕ → Type 0
 SameImages symmetry v w = (image : List ℕ) → Contains (images symmetry v) image ↔ Contains (images symmetry w) image
 
 -- 2^16 places, in each of which a neighbourhood is remembered, with what the table answers
-pub record Remembers (table : Table) (known : List Known) : Type 0 where
+pub record RemembersAnswers (table : Table) (known : List Known) : Type 0 where
   pub places : length known ≡ 2 ^ 16
   pub each : All (λ k. TableAnswers table k.around (Becomes k.next)) known
 
@@ -35,7 +35,7 @@ life_quiet sets near.Moore e = ap (λ (b : Bool). Becomes (if b || false then 1 
 pub table_positive : (table : Table) → 0 < table.n_states
 table_positive table = let least = table.sound.least in omega (arith, least)
 
-zeros-named : (neighborhood : Neighborhood) → replicate (neighbour_count neighborhood) 0 ≡ named neighborhood zeros
+zeros-named : (neighborhood : Neighborhood) → replicate (neighbour_count neighborhood) 0 ≡ neighbours_among neighborhood zeros
 zeros-named VonNeumann = refl
 zeros-named Moore = refl
 

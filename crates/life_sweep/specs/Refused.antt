@@ -8,7 +8,7 @@ use Rattle.life_base.specs.declared.cell.TheConstants.{MAX_LEVEL}
 use Rattle.life_base.specs.declared.fault.Fault.{Fault}
 use Rattle.life_base.specs.declared.kind.Kind.TheVariants as kinds
 use Rattle.life_quad.specs.Cells.{population}
-use Rattle.life_strip.specs.Given.{IsOnPlane, half_plane, state_by, by_columns}
+use Rattle.life_strip.specs.Given.{IsRunOnPlane, half_plane, state_by, by_columns}
 use Rattle.life_strip.specs.Needed.{SomeSquare}
 use Rattle.life_table.specs.Meaning.{Answer, Becomes, Ambiguous}
 use Rattle.life_sweep.specs.Generation.{states_at}
@@ -44,20 +44,20 @@ GenerationRefusal answers n_states most square refusal =
 pub record SomeAbove (P : Tree → Type 0) (runs : List Run) : Type 0 where
   pub x : ℤ
   pub y : ℤ
-  pub inside : IsOnPlane x y 1
+  pub inside : IsRunOnPlane x y 1
   pub nonzero : state_by runs x y ≢ 0
   pub square : SomeSquare P (nat_abs (y +ℤ pos half_plane)) (by_columns (state_by runs))
 
 -- so has one of the whole plane, with the cells of the runs, and none is outside it
 pub record SomeOfAll (P : Tree → Type 0) (runs : List Run) : Type 0 where
-  pub outside : (x y : ℤ) → ¬ (IsOnPlane x y 1) → state_by runs x y ≡ 0
+  pub outside : (x y : ℤ) → ¬ (IsRunOnPlane x y 1) → state_by runs x y ≡ 0
   pub square : SomeSquare P (2 ^ MAX_LEVEL) (by_columns (state_by runs))
 
 -- A square of the next generation has a property: one that is above the row of a cell which becomes another state than 0; or, where no cell is
 -- ambiguous and none leaves the plane, one of the whole plane.
 pub data SomeNext (P : Tree → Type 0) (answers : List ℕ → Answer → Type 0) (cells : ℤ → ℤ → ℕ) : Type 0 where
-  above_cell : (x y : ℤ) (state : ℕ) (next : ℤ → ℤ → ℕ) → IsOnPlane x y 1 → answers (states_at cells x y) (Becomes state) → state ≢ 0
-      → ((c r : ℤ) → IsOnPlane c r 1 → r <ℤ y → answers (states_at cells c r) (Becomes (next c r)))
+  above_cell : (x y : ℤ) (state : ℕ) (next : ℤ → ℤ → ℕ) → IsRunOnPlane x y 1 → answers (states_at cells x y) (Becomes state) → state ≢ 0
+      → ((c r : ℤ) → IsRunOnPlane c r 1 → r <ℤ y → answers (states_at cells c r) (Becomes (next c r)))
       → SomeSquare P (nat_abs (y +ℤ pos half_plane)) (by_columns next) → SomeNext P answers cells
-  of_plane : (next : ℤ → ℤ → ℕ) → ((x y : ℤ) → answers (states_at cells x y) (Becomes (next x y))) → ((x y : ℤ) → ¬ (IsOnPlane x y 1) → next x y ≡ 0)
+  of_plane : (next : ℤ → ℤ → ℕ) → ((x y : ℤ) → answers (states_at cells x y) (Becomes (next x y))) → ((x y : ℤ) → ¬ (IsRunOnPlane x y 1) → next x y ≡ 0)
       → SomeSquare P (2 ^ MAX_LEVEL) (by_columns next) → SomeNext P answers cells

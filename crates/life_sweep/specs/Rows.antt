@@ -2,7 +2,7 @@
 use Rattle.std.specs.Prelude.{◌≡◌, ◌⊎◌, ℕ, ◌+◌, ◌*◌, ◌<◌, ◌==◌, ◌^◌, Bool, true, false, ◌&&◌, if◌then◌else◌, ℤ, pos, neg_ℤ, ◌+ℤ◌, ◌<ℤ◌, ◌≤ℤ◌, List, [], ◌∷◌, length, All}
 use Rattle.std.specs.Borrow.{Bor}
 use Rattle.life_base.specs.declared.cell.Cell.{Cell}
-use Rattle.life_sweep.specs.Generation.{before, after}
+use Rattle.life_sweep.specs.Generation.{one_before, one_after}
 use Rattle.life_sweep.specs.declared.column.Column.{Column}
 use Rattle.life_sweep.specs.declared.window.Window.{Window}
 use Rattle.life_sweep.specs.declared.band.Band.{Band}
@@ -33,7 +33,7 @@ pub record IsInside (cell : Cell) : Type 0 where
 abbrev pub IsRest : (ℤ → ℕ) → ℤ → List Cell → Type 0
 IsRest states x [] = (c : ℤ) → x ≤ℤ c → states c ≡ 0
 IsRest states x (cell ∷ rest) =
-    (x ≤ℤ cell.x) × ((c : ℤ) → x ≤ℤ c → c <ℤ cell.x → states c ≡ 0) × (states cell.x ≡ cell.state) × IsRest states (after cell.x) rest
+    (x ≤ℤ cell.x) × ((c : ℤ) → x ≤ℤ c → c <ℤ cell.x → states c ≡ 0) × (states cell.x ≡ cell.state) × IsRest states (one_after cell.x) rest
 
 -- no cell of the row is west of the column
 abbrev pub StartsFrom : ℤ → List Cell → Type 0
@@ -53,7 +53,7 @@ pub record InColumn {T : Type 0} (P : T → Type 0) (c : Column T) : Type 0 wher
 
 -- the states of three rows in a column
 abbrev pub column_at : (ℤ → ℤ → ℕ) → ℤ → ℤ → Column ℕ
-column_at cells y x = record { north = cells x (before y); here = cells x y; south = cells x (after y) }
+column_at cells y x = record { north = cells x (one_before y); here = cells x y; south = cells x (one_after y) }
 
 abbrev pub no_column : Column ℕ
 no_column = record { north = 0; here = 0; south = 0 }
@@ -81,9 +81,9 @@ AreBelow bound rows = InRows (All (λ cell. cell.state < bound)) rows
 
 -- the three rows around y, from the column x on
 pub record AreRows (cells : ℤ → ℤ → ℕ) (y x : ℤ) (rows : Rows) : Type 0 where
-  pub north : IsRest (λ c. cells c (before y)) x rows.north.now
+  pub north : IsRest (λ c. cells c (one_before y)) x rows.north.now
   pub here : IsRest (λ c. cells c y) x rows.here.now
-  pub south : IsRest (λ c. cells c (after y)) x rows.south.now
+  pub south : IsRest (λ c. cells c (one_after y)) x rows.south.now
 
 -- the rows are sorted: they are those of some plane
 abbrev pub AreSortedFrom : ℤ → Rows → Type 0
@@ -102,9 +102,9 @@ left_in rows = length rows.north.now + length rows.here.now + length rows.south.
 
 -- the window stands in the row y of the cells
 pub record IsWindow (cells : ℤ → ℤ → ℕ) (y : ℤ) (w : Window) : Type 0 where
-  pub west : w.west ≡ column_at cells y (before w.x)
+  pub west : w.west ≡ column_at cells y (one_before w.x)
   pub middle : w.middle ≡ column_at cells y w.x
-  pub east : w.east ≡ column_at cells y (after w.x)
+  pub east : w.east ≡ column_at cells y (one_after w.x)
   pub rows : AreRows cells y (w.x +ℤ pos 2) w.rows
 
 -- the window's columns fit their type
@@ -112,7 +112,7 @@ pub record IsSoundWindow (w : Window) : Type 0 where
   pub place : IsOfSweep w.x
   pub rows : AreInside w.rows
   pub middle : (is_blank_column w.middle ≡ true) ⊎ (w.x <ℤ far)
-  pub east : (is_blank_column w.east ≡ true) ⊎ (after w.x <ℤ far)
+  pub east : (is_blank_column w.east ≡ true) ⊎ (one_after w.x <ℤ far)
   pub placed : AreSortedFrom (w.x +ℤ pos 2) w.rows
 
 -- the window's states are below the bound
@@ -125,8 +125,8 @@ pub record IsWindowBelow (bound : ℕ) (w : Window) : Type 0 where
 -- the next place is the one east of the middle, or, where no cell stands beside that, the one west of the first cell that is left
 abbrev pub IsNextPlace : Window → ℤ → Type 0
 IsNextPlace w x =
-    ((x ≡ after w.x) × ((is_blank_column w.middle ≡ false) ⊎ (is_blank_column w.east ≡ false)))
-    ⊎ ((is_blank_column w.middle ≡ true) × (is_blank_column w.east ≡ true) × InRows (StartsFrom (after x)) w.rows × SomeStartsAt (after x) w.rows)
+    ((x ≡ one_after w.x) × ((is_blank_column w.middle ≡ false) ⊎ (is_blank_column w.east ≡ false)))
+    ⊎ ((is_blank_column w.middle ≡ true) × (is_blank_column w.east ≡ true) × InRows (StartsFrom (one_after x)) w.rows × SomeStartsAt (one_after x) w.rows)
 
 -- how many places a window has before it, at most
 abbrev pub steps_left : Window → ℕ
@@ -134,7 +134,7 @@ steps_left w = 3 * left_in w.rows + (if is_blank_column w.east then 0 else 2) + 
 
 -- no cell stands beside the place
 abbrev pub IsFar : (ℤ → ℤ → ℕ) → ℤ → ℤ → Type 0
-IsFar cells y x = (column_at cells y (before x) ≡ no_column) × (column_at cells y x ≡ no_column) × (column_at cells y (after x) ≡ no_column)
+IsFar cells y x = (column_at cells y (one_before x) ≡ no_column) × (column_at cells y x ≡ no_column) × (column_at cells y (one_after x) ≡ no_column)
 
 -- the window went on to the next place beside which a cell stands
 pub record GoesOn (cells : ℤ → ℤ → ℕ) (y : ℤ) (old new : Window) : Type 0 where
@@ -143,8 +143,8 @@ pub record GoesOn (cells : ℤ → ℤ → ℕ) (y : ℤ) (old new : Window) : T
   pub passed : (c : ℤ) → old.x <ℤ c → c <ℤ new.x → IsFar cells y c
 
 -- the state of the middle cell and of its neighbours, from north clockwise
-abbrev pub states_of : Window → List ℕ
-states_of w =
+abbrev pub states_of_window : Window → List ℕ
+states_of_window w =
     w.middle.here ∷ w.middle.north ∷ w.east.north ∷ w.east.here ∷ w.east.south
     ∷ w.middle.south ∷ w.west.south ∷ w.west.here ∷ w.west.north ∷ []
 
@@ -159,7 +159,7 @@ abbrev pub IsRestOf : (ℤ → ℤ → ℕ) → ℤ → ℤ → List Cell → Ty
 IsRestOf cells x y [] = (c r : ℤ) → IsFrom x y c r → cells c r ≡ 0
 IsRestOf cells x y (cell ∷ rest) =
     IsFrom x y cell.x cell.y × ((c r : ℤ) → IsFrom x y c r → Precedes c r cell.x cell.y → cells c r ≡ 0)
-    × (cells cell.x cell.y ≡ cell.state) × IsRestOf cells (after cell.x) cell.y rest
+    × (cells cell.x cell.y ≡ cell.state) × IsRestOf cells (one_after cell.x) cell.y rest
 
 -- the first cell is in the row
 abbrev pub BeginsAt : ℤ → List Cell → Type 0
@@ -172,7 +172,7 @@ pub record IsBlankBefore (cells : ℤ → ℤ → ℕ) : Type 0 where
   pub north : (x y : ℤ) → y <ℤ first_coordinate → cells x y ≡ 0
 
 -- the three rows around y, and the cells south of them
-pub record IsBand (cells : ℤ → ℤ → ℕ) (b : Band) : Type 0 where
+pub record IsBandOfRows (cells : ℤ → ℤ → ℕ) (b : Band) : Type 0 where
   pub rows : AreRows cells b.y first_coordinate b.rows
   pub rest : IsRestOf cells first_coordinate (b.y +ℤ pos 2) b.rest.now
 
@@ -182,8 +182,8 @@ pub record IsSoundBand (b : Band) : Type 0 where
   pub rows : AreInside b.rows
   pub rest : All IsInside b.rest.now
   pub here : (length b.rows.here.now ≡ 0) ⊎ (b.y <ℤ far)
-  pub south : (length b.rows.south.now ≡ 0) ⊎ (after b.y <ℤ far)
-  pub placed : (cells : ℤ → ℤ → ℕ) × IsBlankBefore cells × IsBand cells b
+  pub south : (length b.rows.south.now ≡ 0) ⊎ (one_after b.y <ℤ far)
+  pub placed : (cells : ℤ → ℤ → ℕ) × IsBlankBefore cells × IsBandOfRows cells b
 
 -- the band's states are below the bound
 pub record IsBandBelow (bound : ℕ) (b : Band) : Type 0 where
@@ -201,14 +201,14 @@ IsFarRow cells y = (x : ℤ) → column_at cells y x ≡ no_column
 -- the band went on to the next row beside which a cell stands
 pub record GoesSouth (cells : ℤ → ℤ → ℕ) (old new : Band) : Type 0 where
   pub south : old.y <ℤ new.y
-  pub here : IsBand cells new
+  pub here : IsBandOfRows cells new
   pub passed : (r : ℤ) → old.y <ℤ r → r <ℤ new.y → IsFarRow cells r
 
 -- the next row is the one south of the middle row, or, where no cell stands beside that, the one north of the first cell that is left
 abbrev pub IsNextRow : Band → ℤ → Type 0
 IsNextRow b y =
-    ((y ≡ after b.y) × ((0 < length b.rows.here.now) ⊎ (0 < length b.rows.south.now)))
-    ⊎ ((length b.rows.here.now ≡ 0) × (length b.rows.south.now ≡ 0) × BeginsAt (after y) b.rest.now)
+    ((y ≡ one_after b.y) × ((0 < length b.rows.here.now) ⊎ (0 < length b.rows.south.now)))
+    ⊎ ((length b.rows.here.now ≡ 0) × (length b.rows.south.now ≡ 0) × BeginsAt (one_after y) b.rest.now)
 
 -- the cells are sorted: they are those of some plane
 abbrev pub IsSortedList : List Cell → Type 0

@@ -1,7 +1,7 @@
 -- What a sweep has done: the next states of the places before one are drawn.
 use Rattle.std.specs.Prelude.{◌≡◌, ◌≢◌, ◌⊎◌, ℕ, Bool, true, false, List, ℤ, ◌<ℤ◌, ◌≤ℤ◌}
 use Rattle.life_base.specs.declared.cell.Run.{Run}
-use Rattle.life_strip.specs.Given.{IsNext, IsOnPlane}
+use Rattle.life_strip.specs.Given.{IsNextRunStart, IsRunOnPlane}
 use Rattle.life_table.specs.Meaning.{Answer, Becomes, Ambiguous}
 use Rattle.life_sweep.specs.Generation.{states_at}
 use Rattle.life_base.specs.declared.cell.Cell.{Cell}
@@ -16,7 +16,7 @@ module _ (answers : List ℕ → Answer → Type 0) (cells : ℤ → ℤ → ℕ
   pub record IsDrawnAt (drawn : ℤ → ℤ → ℕ) (leaves : Bool) (x y : ℤ) : Type 0 where
     pub next : ℕ
     pub answer : answers (states_at cells x y) (Becomes next)
-    pub kept : (leaves ≡ false) ⊎ IsOnPlane x y 1 → drawn x y ≡ next
+    pub kept : (leaves ≡ false) ⊎ IsRunOnPlane x y 1 → drawn x y ≡ next
 
   -- a cell outside the plane would not become 0
   pub record IsLeft : Type 0 where
@@ -24,7 +24,7 @@ module _ (answers : List ℕ → Answer → Type 0) (cells : ℤ → ℤ → ℕ
     pub y : ℤ
     pub next : ℕ
     pub answer : answers (states_at cells x y) (Becomes next)
-    pub outside : ¬ (IsOnPlane x y 1)
+    pub outside : ¬ (IsRunOnPlane x y 1)
     pub nonzero : next ≢ 0
 
   -- the first place, row by row, for which the line of this number gives two states
@@ -67,13 +67,13 @@ RefusesStep answers plane fault =
 pub record IsPut (answers : List ℕ → Answer → Type 0) (states : List ℕ) (drawn : ℤ → ℤ → ℕ) (old new : Bool) (x y : ℤ) : Type 0 where
   pub next : ℕ
   pub answer : answers states (Becomes next)
-  pub kept : (new ≡ false) ⊎ IsOnPlane x y 1 → drawn x y ≡ next
+  pub kept : (new ≡ false) ⊎ IsRunOnPlane x y 1 → drawn x y ≡ next
   pub stays : new ≡ false → old ≡ false
-  pub told : new ≡ true → (old ≡ true) ⊎ ((¬ (IsOnPlane x y 1)) × (next ≢ 0))
+  pub told : new ≡ true → (old ≡ true) ⊎ ((¬ (IsRunOnPlane x y 1)) × (next ≢ 0))
 
 -- behind these runs others may be given from the place (x, y) on
-abbrev pub IsReady : List Run → ℤ → ℤ → Type 0
-IsReady runs x y = (c r : ℤ) → IsFrom x y c r → IsNext runs c r
+abbrev pub IsReadyFrom : List Run → ℤ → ℤ → Type 0
+IsReadyFrom runs x y = (c r : ℤ) → IsFrom x y c r → IsNextRunStart runs c r
 
 abbrev pub IsReadyRow : List Run → ℤ → Type 0
-IsReadyRow runs y = (c r : ℤ) → y ≤ℤ r → IsNext runs c r
+IsReadyRow runs y = (c r : ℤ) → y ≤ℤ r → IsNextRunStart runs c r

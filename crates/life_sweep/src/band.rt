@@ -1,6 +1,6 @@
 //! The rows of the plane that have cells in them or beside them, from north to south.
 ghost use Rattle.std.specs.Prelude.{◌≡◌, ℕ, ℤ, ◌+◌, ◌<◌, ◌≤◌, ◌<ℤ◌, true, false, All, IfSome, None, IsTrue, ◌↔◌, length, take, drop};
-ghost use Rattle.life_sweep.specs.Words.{IsBand, IsSoundBand, IsBandBelow, GoesSouth, IsFarRow, IsRestOf, IsBlankBefore, IsInside, IsSortedList, BeginsAt, IsOfSweep, IsNextRow, rows_left, start_of_sweep, first_coordinate};
+ghost use Rattle.life_sweep.specs.Words.{IsBandOfRows, IsSoundBand, IsBandBelow, GoesSouth, IsFarRow, IsRestOf, IsBlankBefore, IsInside, IsSortedList, BeginsAt, IsOfSweep, IsNextRow, rows_left, start_of_sweep, first_coordinate};
 
 use crate::column::Rows;
 use crate::plane::START;
@@ -45,7 +45,8 @@ impl<'a> Band<'a> {
             → IsBandBelow bound result }
         ensures start { result.y ≡ start_of_sweep }
         ensures band { (plane : ℤ → ℤ → ℕ) → IsBlankBefore plane
-            → IsRestOf plane first_coordinate first_coordinate cells.now → IsBand plane result }
+            → IsRestOf plane first_coordinate first_coordinate cells.now
+            → IsBandOfRows plane result }
     {
         Band {
             y: START,
@@ -82,9 +83,9 @@ impl<'a> Band<'a> {
         ensures south { result ≡ true → self.old.y <ℤ self.new.y }
         ensures below { (bound : ℕ) → IsBandBelow bound self.old → IsBandBelow bound self.new }
         ensures band { result ≡ true → (cells : ℤ → ℤ → ℕ) → IsBlankBefore cells
-            → IsBand cells self.old → GoesSouth cells self.old self.new }
+            → IsBandOfRows cells self.old → GoesSouth cells self.old self.new }
         ensures over { result ≡ false → (cells : ℤ → ℤ → ℕ) → IsBlankBefore cells
-            → IsBand cells self.old → (r : ℤ) → self.old.y <ℤ r → IsFarRow cells r }
+            → IsBandOfRows cells self.old → (r : ℤ) → self.old.y <ℤ r → IsFarRow cells r }
         ensures smaller { result ≡ true → rows_left self.new < rows_left self.old }
     {
         let Some(next) = self.next_row() else {

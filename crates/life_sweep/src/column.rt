@@ -1,6 +1,6 @@
 //! Three rows of cells, column by column.
 ghost use Rattle.std.specs.Prelude.{◌≡◌, ◌⊎◌, ℕ, ℤ, ◌+◌, ◌<◌, ◌≤◌, ◌≤ℤ◌, ◌<ℤ◌, true, All, IfSome, None, length};
-ghost use Rattle.life_sweep.specs.Words.{after, IsRest, IsInside, StartsFrom, StartsAt, SomeStartsAt, InRows, AreInside, AreBelow, AreRows, IsColumn, column_at, is_blank_column, left_in, far, first_coordinate};
+ghost use Rattle.life_sweep.specs.Words.{one_after, IsRest, IsInside, StartsFrom, StartsAt, SomeStartsAt, InRows, AreInside, AreBelow, AreRows, IsColumn, column_at, is_blank_column, left_in, far, first_coordinate};
 
 use crate::plane::HALF_PLANE;
 use life_base::{Cell, State};
@@ -39,7 +39,7 @@ impl Column<State> {
 fn take(row: &[Cell], x: i64) -> (State, &[Cell])
     ensures state { (states : ℤ → ℕ) → IsRest states x row.now → result.0 ≡ states x }
     ensures rest { (states : ℤ → ℕ) → IsRest states x row.now
-        → IsRest states (after x) result.1.now }
+        → IsRest states (one_after x) result.1.now }
     ensures inside { All IsInside row.now → All IsInside result.1.now }
     ensures below { (bound : ℕ) → 0 < bound → All (λ cell. cell.state < bound) row.now
         → All (λ cell. cell.state < bound) result.1.now × (result.0 < bound) }
@@ -97,7 +97,7 @@ impl<'a> Rows<'a> {
         ensures column { (cells : ℤ → ℤ → ℕ) (y : ℤ) → AreRows cells y x self.old
             → result ≡ column_at cells y x }
         ensures rest { (cells : ℤ → ℤ → ℕ) (y : ℤ) → AreRows cells y x self.old
-            → AreRows cells y (after x) self.new }
+            → AreRows cells y (one_after x) self.new }
         ensures inside { AreInside self.old → AreInside self.new }
         ensures below { (bound : ℕ) → 0 < bound → AreBelow bound self.old
             → AreBelow bound self.new × IsColumn bound result }

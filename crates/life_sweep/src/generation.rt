@@ -1,6 +1,6 @@
 //! The next generation of a square.
 ghost use Rattle.std.specs.Prelude.{◌≡◌, ◌⊎◌, ◌↔◌, ℤ, ◌<◌, ◌≤◌, All, IsTrue, Err, Some, None, IfOk, IfErr};
-ghost use Rattle.life_sweep.specs.Words.{fault_of, depth, tree_cell, IsWantFault, Becomes, SomeNext, GenerationRefusal, states_at, AddsOnly, Keeps};
+ghost use Rattle.life_sweep.specs.Words.{fault_of, depth, tree_cell, IsShortageFault, Becomes, SomeNext, GenerationRefusal, states_at, AddsOnly, KeepsStore};
 
 use crate::law::Law;
 use crate::sweep::next_square;
@@ -40,8 +40,8 @@ pub fn next_generation<S: Squares, L: Law>(
         (Becomes (tree_cell (S.content squares.new r) x y))) }
     ensures accepted { IfOk result (λ _. GenerationRefusal (L.answers law.old) (L.bound law.old)
         most (S.content squares.old id) None) }
-    ensures refusals { IfErr result (λ f. IsWantFault (S.stored squares.new) (S.most squares.new)
-        f ⊎ GenerationRefusal (L.answers law.old) (L.bound law.old) most
+    ensures refusals { IfErr result (λ f. IsShortageFault (S.stored squares.new)
+        (S.most squares.new) f ⊎ GenerationRefusal (L.answers law.old) (L.bound law.old) most
         (S.content squares.old id) (Some f)) }
     ensures needed { result ≡ Err (fault_of Kind.Full)
         → SomeNext (S.needs_node squares.new) (L.answers law.old)
@@ -49,7 +49,7 @@ pub fn next_generation<S: Squares, L: Law>(
     ensures adds { AddsOnly S.stored
         (λ P. SomeNext P (L.answers law.old) (tree_cell (S.content squares.old id))) squares.old
         squares.new }
-    ensures keeps { Keeps S.Squares squares.old squares.new }
+    ensures keeps { KeepsStore S.Squares squares.old squares.new }
 {
     let list = cells(alloc, squares, id, most)?;
     if !are_below(&list, law.n_states()) {

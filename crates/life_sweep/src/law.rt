@@ -1,6 +1,6 @@
 //! What a cell becomes.
 ghost use Rattle.std.specs.Prelude.{◌≡◌, ℕ, ◌<◌, ◌≤◌, ◌↔◌, false, All, IfOk, IfErr, List, drop, length, slice_index};
-ghost use Rattle.life_sweep.specs.Words.{IsMemory, IsPermutation, Answer, Becomes, Ambiguous, count_of, has_digit, most_neighbours, VonNeumann, Rotate4, neighborhood_of, LifeAnswers, TableAnswers, named, SameImages, two_positive, life_quiet, table_positive, table_quiet};
+ghost use Rattle.life_sweep.specs.Words.{IsMemory, IsPermutation, Answer, Becomes, Ambiguous, count_of, has_digit, most_neighbours, VonNeumann, Rotate4, neighborhood_of_rule, LifeAnswers, TableAnswers, neighbours_among, SameImages, two_positive, life_quiet, table_positive, table_quiet};
 ghost use Rattle.std.proofs.Common.{sym, ◌∙◌};
 ghost use Rattle.std.proofs.Props.{props};
 ghost use Rattle.life_table.proofs.LawProofs.{one_law};
@@ -67,7 +67,7 @@ impl ByCounts {
 // How many of the neighbours that count are alive.
 fn live_neighbours(near: Near, around: &[State; 9]) -> u8
     requires { All (λ s. s < 2) around.now }
-    ensures count { result ≡ count_of 1 (named (neighborhood_of near) around.now) }
+    ensures count { result ≡ count_of 1 (neighbours_among (neighborhood_of_rule near) around.now) }
     ensures few { result ≤ most_neighbours near }
 {
     let [_, n, ne, e, se, s, sw, w, nw] = *around;
@@ -119,13 +119,13 @@ pub struct ByTable<'a> {
 
 impl<'a> Model for ByTable<'a> {
     ghost use Rattle.life_table.specs.declared.table.Table.{Table as TableValue};
-    ghost use Rattle.life_sweep.specs.LawFacts.{Remembers};
+    ghost use Rattle.life_sweep.specs.LawFacts.{RemembersAnswers};
 
     ghost Value = { TableValue };
 
     ghost view = { λ law. law.index };
 
-    ghost invariant = { λ law. Remembers law.index law.known.items };
+    ghost invariant = { λ law. RemembersAnswers law.index law.known.items };
 }
 
 // How many neighbourhoods are remembered.
@@ -150,7 +150,7 @@ fn place_of(around: &[State; 9]) -> usize
 // The cell and its four sides; the corners are 0.
 fn without_corners(around: &[State; 9]) -> [State; 9]
     ensures centre { slice_index result 0 ≡ slice_index around.now 0 }
-    ensures same { named VonNeumann result ≡ named VonNeumann around.now }
+    ensures same { neighbours_among VonNeumann result ≡ neighbours_among VonNeumann around.now }
     ensures states { (n : ℕ) → 0 < n → All (λ s. s < n) around.now → All (λ s. s < n) result }
 {
     let [centre, north, _, east, _, south, _, west, _] = *around;
@@ -280,5 +280,5 @@ impl<'a> Law for ByTable<'a> {
 
     ghost quiet = { λ table. table_quiet table };
 
-    ghost one_answer = { λ table v a b p q. one_law table.symmetry table.vars (slice_index v 0) (named table.neighborhood v) table.lines a b p q };
+    ghost one_answer = { λ table v a b p q. one_law table.symmetry table.vars (slice_index v 0) (neighbours_among table.neighborhood v) table.lines a b p q };
 }

@@ -1,6 +1,6 @@
 //! A builder that is given whole runs, though the sweep draws place by place.
 ghost use Rattle.std.specs.Prelude.{◌≡◌, ◌≢◌, ◌⊎◌, ℤ, pos, ◌+ℤ◌, IsTrue, ◌↔◌, [], Err, None, OnOk, IfOk, IfErr};
-ghost use Rattle.life_sweep.specs.Words.{depth, tree_cell, IsEmpty, IsFilling, IsBehind, IsNext, IsOnPlane, state_by, SomeAbove, SomeOfAll, IsHolding, drawn_runs, one_cell, AddsOnly, Keeps, IsWantOf};
+ghost use Rattle.life_sweep.specs.Words.{depth, tree_cell, IsEmpty, IsFilling, IsAfterRun, IsNextRunStart, IsRunOnPlane, state_by, SomeAbove, SomeOfAll, IsHolding, drawn_runs, one_cell, AddsOnly, KeepsStore, IsShortageIn};
 
 use life_base::{Kind, MAX_LEVEL, Run, State};
 use life_quad::{Id, Squares};
@@ -16,7 +16,7 @@ pub(crate) struct RunBuilder {
 
 // Whether the cell is the one east of the run, and has its state.
 fn is_continued_by(run: &Run, x: i64, y: i64, state: State) -> bool
-    requires { IsOnPlane run.now.x run.now.y run.now.len }
+    requires { IsRunOnPlane run.now.x run.now.y run.now.len }
     ensures { IsTrue result ↔ ((run.now.y ≡ y) × ((run.now.x +ℤ pos run.now.len) ≡ x)
         × (run.now.state ≡ state)) }
 {
@@ -43,8 +43,8 @@ impl RunBuilder {
             (IsFilling (S.knows squares.new) (S.content squares.new) self.new.builder) }
         ensures drawn { OnOk result (self.new.builder.runs ≡ drawn_runs self.old) }
         ensures none { OnOk result (self.new.unclosed ≡ None) }
-        ensures keeps { Keeps S.Squares squares.old squares.new }
-        ensures refusals { IfErr result (IsWantOf S.Squares squares.new) }
+        ensures keeps { KeepsStore S.Squares squares.old squares.new }
+        ensures refusals { IfErr result (IsShortageIn S.Squares squares.new) }
         ensures needed { result ≡ Err Kind.Full
             → SomeAbove (S.needs_node squares.new) (drawn_runs self.old) }
         ensures adds { AddsOnly S.stored (λ P. SomeAbove P (drawn_runs self.old)) squares.old
@@ -67,8 +67,8 @@ impl RunBuilder {
         state: State,
     ) -> Result<(), Kind>
         requires holding { IsHolding (S.knows squares.old) (S.content squares.old) self.old }
-        requires inside { IsOnPlane x y 1 }
-        requires next { IsNext (drawn_runs self.old) x y }
+        requires inside { IsRunOnPlane x y 1 }
+        requires next { IsNextRunStart (drawn_runs self.old) x y }
         requires nonzero { state ≢ 0 }
         ensures holding { OnOk result
             (IsHolding (S.knows squares.new) (S.content squares.new) self.new) }
@@ -76,9 +76,10 @@ impl RunBuilder {
         ensures others { OnOk result ((c r : ℤ) → (c ≡ x → r ≡ y → ⊥)
             → state_by (drawn_runs self.new) c r ≡ state_by (drawn_runs self.old) c r) }
         ensures next { OnOk result
-            ((c r : ℤ) → IsBehind (one_cell x y state) c r → IsNext (drawn_runs self.new) c r) }
-        ensures keeps { Keeps S.Squares squares.old squares.new }
-        ensures refusals { IfErr result (IsWantOf S.Squares squares.new) }
+            ((c r : ℤ) → IsAfterRun (one_cell x y state) c r
+            → IsNextRunStart (drawn_runs self.new) c r) }
+        ensures keeps { KeepsStore S.Squares squares.old squares.new }
+        ensures refusals { IfErr result (IsShortageIn S.Squares squares.new) }
         ensures needed { result ≡ Err Kind.Full
             → SomeAbove (S.needs_node squares.new) (drawn_runs self.old) }
         ensures adds { AddsOnly S.stored (λ P. SomeAbove P (drawn_runs self.old)) squares.old
@@ -108,8 +109,8 @@ impl RunBuilder {
         ensures level { IfOk result (λ r. depth (S.content squares.new r) ≡ MAX_LEVEL) }
         ensures cells { IfOk result (λ r. (x y : ℤ)
             → tree_cell (S.content squares.new r) x y ≡ state_by (drawn_runs self) x y) }
-        ensures keeps { Keeps S.Squares squares.old squares.new }
-        ensures refusals { IfErr result (IsWantOf S.Squares squares.new) }
+        ensures keeps { KeepsStore S.Squares squares.old squares.new }
+        ensures refusals { IfErr result (IsShortageIn S.Squares squares.new) }
         ensures needed { result ≡ Err Kind.Full
             → SomeAbove (S.needs_node squares.new) (drawn_runs self)
             ⊎ SomeOfAll (S.needs_node squares.new) (drawn_runs self) }

@@ -1,6 +1,6 @@
 //! The next generation, place by place.
 ghost use Rattle.std.specs.Prelude.{◌≡◌, ◌⊎◌, ◌↔◌, ℕ, ℤ, ◌<◌, true, false, All, Err, IfOk, IfErr, OnOk, IsTrue};
-ghost use Rattle.life_sweep.specs.Words.{fault_of, depth, tree_cell, IsWantFault, SomeAbove, SomeNext, IsHolding, drawn_runs, IsOnPlane, state_by, Becomes, Ambiguous, after, states_at, AreInside, AreSorted, IsSortedList, AreBelow, IsInside, IsSoundWindow, IsWindowBelow, states_of, IsScene, IsSorted, RefusesStep, IsPut, IsReady, IsReadyRow, IsSweptRows, IsFirstAmbiguous, AddsOnly, Keeps};
+ghost use Rattle.life_sweep.specs.Words.{fault_of, depth, tree_cell, IsShortageFault, SomeAbove, SomeNext, IsHolding, drawn_runs, IsRunOnPlane, state_by, Becomes, Ambiguous, one_after, states_at, AreInside, AreSorted, IsSortedList, AreBelow, IsInside, IsSoundWindow, IsWindowBelow, states_of_window, IsScene, IsSorted, RefusesStep, IsPut, IsReadyFrom, IsReadyRow, IsSweptRows, IsFirstAmbiguous, AddsOnly, KeepsStore};
 
 use crate::band::Band;
 use crate::column::Rows;
@@ -15,7 +15,7 @@ use std::alloc::Global;
 
 // Whether a place is one of the plane.
 fn is_on_plane(x: i64, y: i64) -> bool
-    ensures { IsTrue result ↔ IsOnPlane x y 1 }
+    ensures { IsTrue result ↔ IsRunOnPlane x y 1 }
 {
     -HALF_PLANE <= x && x < HALF_PLANE && -HALF_PLANE <= y && y < HALF_PLANE
 }
@@ -33,20 +33,21 @@ fn draw_place<S: Squares, L: Law>(
     requires place { IsSoundWindow window.now }
     requires states { IsWindowBelow (L.bound law.old) window.now }
     requires holding { IsHolding (S.knows squares.old) (S.content squares.old) builder.old }
-    requires ready { IsReady (drawn_runs builder.old) window.now.x y }
+    requires ready { IsReadyFrom (drawn_runs builder.old) window.now.x y }
     ensures same { law.new ≡ law.old }
     ensures holding { OnOk result
         (IsHolding (S.knows squares.new) (S.content squares.new) builder.new) }
-    ensures ready { OnOk result (IsReady (drawn_runs builder.new) (after window.now.x) y) }
+    ensures ready { OnOk result (IsReadyFrom (drawn_runs builder.new) (one_after window.now.x) y) }
     ensures put { IfOk result (λ all. state_by (drawn_runs builder.old) window.now.x y ≡ 0
-        → IsPut (L.answers law.old) (states_of window.now) (state_by (drawn_runs builder.new))
+        → IsPut (L.answers law.old) (states_of_window window.now)
+        (state_by (drawn_runs builder.new))
         leaves all window.now.x y) }
     ensures others { OnOk result ((c r : ℤ) → (c ≡ window.now.x → r ≡ y → ⊥)
         → state_by (drawn_runs builder.new) c r ≡ state_by (drawn_runs builder.old) c r) }
-    ensures keeps { Keeps S.Squares squares.old squares.new }
-    ensures refusals { IfErr result (λ f. IsWantFault (S.stored squares.new) (S.most squares.new)
-        f ⊎ ((f.kind ≡ Kind.Ambiguous)
-        × L.answers law.old (states_of window.now) (Ambiguous f.place.line))) }
+    ensures keeps { KeepsStore S.Squares squares.old squares.new }
+    ensures refusals { IfErr result (λ f. IsShortageFault (S.stored squares.new)
+        (S.most squares.new) f ⊎ ((f.kind ≡ Kind.Ambiguous)
+        × L.answers law.old (states_of_window window.now) (Ambiguous f.place.line))) }
     ensures needed { result ≡ Err (fault_of Kind.Full)
         → SomeAbove (S.needs_node squares.new) (drawn_runs builder.old) }
     ensures adds { AddsOnly S.stored (λ P. SomeAbove P (drawn_runs builder.old)) squares.old
@@ -81,13 +82,14 @@ fn draw_row<S: Squares, L: Law>(
     ensures same { law.new ≡ law.old }
     ensures holding { OnOk result
         (IsHolding (S.knows squares.new) (S.content squares.new) builder.new) }
-    ensures ready { OnOk result (IsReadyRow (drawn_runs builder.new) (after y)) }
+    ensures ready { OnOk result (IsReadyRow (drawn_runs builder.new) (one_after y)) }
     ensures swept { IfOk result (λ left. (cells : ℤ → ℤ → ℕ) → IsScene cells y rows.entry
         → IsSweptRows (L.answers law.old) cells (state_by (drawn_runs builder.old)) leaves y
         → IsSweptRows (L.answers law.old) cells (state_by (drawn_runs builder.new)) left
-        (after y)) }
-    ensures keeps { Keeps S.Squares squares.old squares.new }
-    ensures refusals { IfErr result (λ f. IsWantFault (S.stored squares.new) (S.most squares.new)
+        (one_after y)) }
+    ensures keeps { KeepsStore S.Squares squares.old squares.new }
+    ensures refusals { IfErr result (λ f. IsShortageFault (S.stored squares.new)
+        (S.most squares.new)
         f ⊎ ((f.kind ≡ Kind.Ambiguous) × ((cells : ℤ → ℤ → ℕ) → IsScene cells y rows.entry
         → IsSweptRows (L.answers law.old) cells (state_by (drawn_runs builder.old)) leaves y
         → IsFirstAmbiguous (L.answers law.old) cells f.place.line))) }
@@ -123,9 +125,9 @@ pub(crate) fn next_square<S: Squares, L: Law>(
     ensures next { IfOk result (λ r. (plane : ℤ → ℤ → ℕ) → IsSorted plane cells.now → (x y : ℤ)
         → L.answers law.old (states_at plane x y)
         (Becomes (tree_cell (S.content squares.new r) x y))) }
-    ensures keeps { Keeps S.Squares squares.old squares.new }
-    ensures refusals { IfErr result (λ f. IsWantFault (S.stored squares.new) (S.most squares.new)
-        f ⊎ ((plane : ℤ → ℤ → ℕ) → IsSorted plane cells.now
+    ensures keeps { KeepsStore S.Squares squares.old squares.new }
+    ensures refusals { IfErr result (λ f. IsShortageFault (S.stored squares.new)
+        (S.most squares.new) f ⊎ ((plane : ℤ → ℤ → ℕ) → IsSorted plane cells.now
         → RefusesStep (L.answers law.old) plane f)) }
     ensures needed { result ≡ Err (fault_of Kind.Full) → (plane : ℤ → ℤ → ℕ)
         → IsSorted plane cells.now → SomeNext (S.needs_node squares.new) (L.answers law.old) plane }

@@ -1,6 +1,6 @@
 //! The places of a row that have cells at them or beside them, from west to east.
 ghost use Rattle.std.specs.Prelude.{◌≡◌, ℕ, ℤ, ◌<◌, ◌<ℤ◌, ◌+ℤ◌, pos, true, false, IfSome, None};
-ghost use Rattle.life_sweep.specs.Words.{IsOfSweep, IsNextPlace, IsWindow, IsSoundWindow, IsWindowBelow, GoesOn, IsFar, AreRows, AreInside, AreSorted, AreBelow, column_at, no_column, is_blank_column, left_in, steps_left, states_of, start_of_sweep};
+ghost use Rattle.life_sweep.specs.Words.{IsOfSweep, IsNextPlace, IsWindow, IsSoundWindow, IsWindowBelow, GoesOn, IsFar, AreRows, AreInside, AreSorted, AreBelow, column_at, no_column, is_blank_column, left_in, steps_left, states_of_window, start_of_sweep};
 
 use crate::column::{BLANK, Column, Rows};
 use crate::plane::START;
@@ -81,7 +81,7 @@ impl<'a> Window<'a> {
 
     /// The state of the cell and those of its eight neighbours, from north clockwise.
     pub(crate) fn around(&self) -> [State; 9]
-        ensures { result ≡ states_of self.now }
+        ensures { result ≡ states_of_window self.now }
     {
         [
             self.middle.here,

@@ -5,7 +5,7 @@ use Rattle.std.proofs.lemmas.List.Elements.{All-head, All-tail, All-weaker}
 use Rattle.life_base.specs.Text.{numbered_from}
 use Rattle.life_base.specs.declared.kind.Kind.TheVariants.{NoRuleLine, NoTable, BadDescriptor}
 use Rattle.life_table.specs.Valid.{neighbour_count}
-use Rattle.life_table.specs.Reading.{Numbered, texts_of, table_texts, Describes, parsed_by, lacking, is_ahead, is_descriptor, states_of, neighborhood_of, symmetry_of, variables_in, variables_written, transitions_in, transitions_written, is_transition_line, transition_of, transition_from, entries_of}
+use Rattle.life_table.specs.Reading.{NumberedLine, texts_of_lines, table_texts, Describes, parsed_by, missing_part_of, is_ahead, is_descriptor, states_of, neighborhood_of, symmetry_of, variables_in, variables_written, transitions_in, transitions_written, is_transition_line, transition_of, transition_from, entries_of}
 use Rattle.life_table.specs.Reader.{IsGood}
 use Rattle.life_table.specs.Laws.{AcceptedWritesTable, NothingDropped, HasAll, HasSetting}
 use Rattle.life_table.specs.declared.directive.Parsed.{Parsed}
@@ -43,7 +43,7 @@ whole_of (Some title) false (Some n) None oy e = absurd (let z : ⊥ = cc in z)
 whole_of (Some title) false (Some n) (Some h) None e = absurd (let z : ⊥ = cc in z)
 whole_of (Some title) false (Some n) (Some h) (Some y) e = record { title = title; is_title = refl; n = n; is_n = refl; h = h; is_h = refl; y = y; is_y = refl }
 
-described_by : (parsed : Parsed) → IsGood parsed → lacking parsed ≡ None → (table : Table) × Describes parsed table
+described_by : (parsed : Parsed) → IsGood parsed → missing_part_of parsed ≡ None → (table : Table) × Describes parsed table
 described_by parsed g e =
     let w = whole_of parsed.name (is_ahead parsed.section) parsed.n_states parsed.neighborhood parsed.symmetry e in
     let sound = sound_of parsed g w.n w.h w.y w.is_n w.is_h w.is_y in (
@@ -75,13 +75,13 @@ line_number n k vars number text t h = let f = followed (transition_from k numbe
 abbrev numbers_of : List Transition → List ℕ
 numbers_of lines = map (λ (line : Transition). line.line) lines
 
-abbrev transition_lines : List Numbered → List Numbered
-transition_lines ts = filter (λ (text : Numbered). is_transition_line text.1) ts
+abbrev transition_lines : List NumberedLine → List NumberedLine
+transition_lines ts = filter (λ (text : NumberedLine). is_transition_line text.1) ts
 
 -- what is told of each transition that is read, told of their lines one by one
-module _ {X : Type 0} (n k : ℕ) (vars : List Var) (f : Transition → X) (g : Numbered → X)
-    (same : (x : Numbered) (t : Transition) → transition_of n k vars x.0 x.1 ≡ Some t → f t ≡ g x) where
-  told_step : (b : Bool) (x : Numbered) (ts : List Numbered) → is_transition_line x.1 ≡ b → IsRead n k vars x
+module _ {X : Type 0} (n k : ℕ) (vars : List Var) (f : Transition → X) (g : NumberedLine → X)
+    (same : (x : NumberedLine) (t : Transition) → transition_of n k vars x.0 x.1 ≡ Some t → f t ≡ g x) where
+  told_step : (b : Bool) (x : NumberedLine) (ts : List NumberedLine) → is_transition_line x.1 ≡ b → IsRead n k vars x
       → map f (transitions_written n k vars ts) ≡ map g (transition_lines ts)
       → map f (transitions_written n k vars (x ∷ ts)) ≡ map g (transition_lines (x ∷ ts))
   told_step false x ts e r ih =
@@ -94,7 +94,7 @@ module _ {X : Type 0} (n k : ℕ) (vars : List Var) (f : Transition → X) (g : 
       ∙ ap (λ (y : X). y ∷ map f (transitions_written n k vars ts)) (same x t.0 t.1) ∙ ap (λ (ys : List X). g x ∷ ys) ih
       ∙ sym (ap (λ (b : Bool). map g (if b then x ∷ transition_lines ts else transition_lines ts)) e)
 
-  told : (ts : List Numbered) → All (IsRead n k vars) ts → map f (transitions_written n k vars ts) ≡ map g (transition_lines ts)
+  told : (ts : List NumberedLine) → All (IsRead n k vars) ts → map f (transitions_written n k vars ts) ≡ map g (transition_lines ts)
   told [] h = refl
   told (x ∷ ts) h =
       told_step (is_transition_line x.1) x ts refl (All-head (IsRead n k vars) x ts h) (told ts (All-tail (IsRead n k vars) x ts h))
@@ -108,28 +108,30 @@ has_setting table on oh oy text n h y (inr (inr s)) = inr (inr (s.0, s.2 ∙ sym
 
 have_settings : (table : Table) (on : Option ℕ) (oh : Option Neighborhood) (oy : Option Symmetry) → on ≡ Some table.n_states → oh ≡ Some table.neighborhood
     → oy ≡ Some table.symmetry
-    → (ts : List Numbered) → AreSettled on oh oy ts → All (λ (text : Numbered). is_descriptor text.1 ≡ true → HasSetting table text.1) ts
-have_settings table on oh oy n h y = All-weaker (λ (text : Numbered). is_descriptor text.1 ≡ true → Settled on oh oy text.1)
+    → (ts : List NumberedLine) → AreSettled on oh oy ts → All (λ (text : NumberedLine). is_descriptor text.1 ≡ true → HasSetting table text.1) ts
+have_settings table on oh oy n h y = All-weaker (λ (text : NumberedLine). is_descriptor text.1 ≡ true → Settled on oh oy text.1)
     (λ text. is_descriptor text.1 ≡ true → HasSetting table text.1) (λ text s d. has_setting table on oh oy text.1 n h y (s d))
 
-module _ (table : Table) (ts : List Numbered) (en : states_of (texts_of ts) ≡ Some table.n_states)
-    (eh : neighborhood_of (texts_of ts) ≡ Some table.neighborhood)
-    (ey : symmetry_of (texts_of ts) ≡ Some table.symmetry) where
+module _ (table : Table) (ts : List NumberedLine) (en : states_of (texts_of_lines ts) ≡ Some table.n_states)
+    (eh : neighborhood_of (texts_of_lines ts) ≡ Some table.neighborhood)
+    (ey : symmetry_of (texts_of_lines ts) ≡ Some table.symmetry) where
   abbrev V : List Var
-  V = variables_written table.n_states (texts_of ts)
+  V = variables_written table.n_states (texts_of_lines ts)
 
-  vars_are : variables_in (states_of (texts_of ts)) (texts_of ts) ≡ V
-  vars_are = ap (λ (o : Option ℕ). variables_in o (texts_of ts)) en
+  vars_are : variables_in (states_of (texts_of_lines ts)) (texts_of_lines ts) ≡ V
+  vars_are = ap (λ (o : Option ℕ). variables_in o (texts_of_lines ts)) en
 
-  lines_are : transitions_in (states_of (texts_of ts)) (neighborhood_of (texts_of ts)) (variables_in (states_of (texts_of ts)) (texts_of ts)) ts
+  lines_are : transitions_in (states_of (texts_of_lines ts)) (neighborhood_of (texts_of_lines ts))
+      (variables_in (states_of (texts_of_lines ts)) (texts_of_lines ts)) ts
       ≡ transitions_written table.n_states (neighbour_count table.neighborhood) V ts
   lines_are =
-      ap (λ (o : Option ℕ). transitions_in o (neighborhood_of (texts_of ts)) (variables_in (states_of (texts_of ts)) (texts_of ts)) ts) en
-      ∙ ap (λ (o : Option Neighborhood). transitions_in (Some table.n_states) o (variables_in (states_of (texts_of ts)) (texts_of ts)) ts) eh
+      ap (λ (o : Option ℕ). transitions_in o (neighborhood_of (texts_of_lines ts)) (variables_in (states_of (texts_of_lines ts)) (texts_of_lines ts)) ts) en
+      ∙ ap (λ (o : Option Neighborhood). transitions_in (Some table.n_states) o (variables_in (states_of (texts_of_lines ts)) (texts_of_lines ts)) ts) eh
       ∙ ap (λ (vs : List Var). transitions_written table.n_states (neighbour_count table.neighborhood) vs ts) vars_are
 
-  has_all : TextsStand ts → variables_in (states_of (texts_of ts)) (texts_of ts) ≡ table.vars
-      → transitions_in (states_of (texts_of ts)) (neighborhood_of (texts_of ts)) (variables_in (states_of (texts_of ts)) (texts_of ts)) ts ≡ table.lines
+  has_all : TextsStand ts → variables_in (states_of (texts_of_lines ts)) (texts_of_lines ts) ≡ table.vars
+      → transitions_in (states_of (texts_of_lines ts)) (neighborhood_of (texts_of_lines ts)) (variables_in (states_of (texts_of_lines ts)) (texts_of_lines ts))
+      ts ≡ table.lines
       → HasAll ts table
   has_all stand vs ls =
       let k : ℕ = neighbour_count table.neighborhood in
@@ -137,11 +139,12 @@ module _ (table : Table) (ts : List Numbered) (en : states_of (texts_of ts) ≡ 
       let same : V ≡ table.vars = sym vars_are ∙ vs in
       let written : transitions_written table.n_states (neighbour_count table.neighborhood) V ts ≡ table.lines = sym lines_are ∙ ls in
       record {
-        settings = have_settings table (states_of (texts_of ts)) (neighborhood_of (texts_of ts)) (symmetry_of (texts_of ts)) en eh ey ts stand.settled;
+        settings = have_settings table (states_of (texts_of_lines ts)) (neighborhood_of (texts_of_lines ts)) (symmetry_of (texts_of_lines ts)) en eh ey ts
+            stand.settled;
         variables = subst (λ (vars : List Var). AreVariables table.n_states vars ts) same (stand.variables table.n_states en);
         transitions = ap (map Some) (sym written) ∙ told table.n_states (neighbour_count table.neighborhood) V Some
             (λ text. transition_of table.n_states (neighbour_count table.neighborhood) V text.0 text.1) (λ x t e. sym e) ts read
-            ∙ ap (λ (vars : List Var). map (λ (text : Numbered). transition_of table.n_states (neighbour_count table.neighborhood) vars text.0 text.1)
+            ∙ ap (λ (vars : List Var). map (λ (text : NumberedLine). transition_of table.n_states (neighbour_count table.neighborhood) vars text.0 text.1)
             (transition_lines ts)) same;
         numbers = ap numbers_of (sym written) ∙ told table.n_states (neighbour_count table.neighborhood) V (λ line. line.line) (λ text. text.0)
             (λ x t e. line_number table.n_states (neighbour_count table.neighborhood) V x.0 x.1 t e) ts read;

@@ -6,11 +6,11 @@ use Rattle.std.proofs.Math.Seq.{take-append_seam, get_or-append_seam}
 use Rattle.std.proofs.Math.ListN.{get_or-append}
 use Rattle.life_base.specs.Text.{numbered_from}
 use Rattle.life_base.specs.Rules.{rule_of, life_sets, four_sets}
-use Rattle.life_base.specs.Refusal.{Prefix, kept, continuations}
+use Rattle.life_base.specs.Refusal.{Prefix, kept_lines, continuations}
 use Rattle.life_base.specs.declared.kind.Kind.{Kind}
 use Rattle.life_base.proofs.Refusals.{UnbrokenBelow, IsByLines}
-use Rattle.life_table.specs.Reading.{Numbered, IsTableFile, broken, missing, lacking, parsed_by, parse_line, parse_descriptor, number_behind, fault_in, is_described, content}
-use Rattle.life_table.specs.Reader.{IsGood, after}
+use Rattle.life_table.specs.Reading.{NumberedLine, IsTableFile, broken_table_rule, missing_table_part, missing_part_of, parsed_by, parse_line, parse_descriptor, number_after, fault_in, is_described, line_content}
+use Rattle.life_table.specs.Reader.{IsGood, parsed_after}
 use Rattle.life_table.specs.declared.directive.Parsed.{Parsed}
 use Rattle.life_table.specs.declared.directive.Section.{Section}
 use Rattle.life_table.specs.declared.directive.Section.TheVariants.{Ahead, Open, Behind}
@@ -46,46 +46,46 @@ staged_open parsed next g s e n = record {
 }
 
 staged_says : (parsed : Parsed) (number : ℕ) (text : List ℕ) (directive : Directive) → IsStaged parsed → parsed.section ≡ Open
-    → Says parsed number text directive → IsStaged (after parsed directive)
-staged_says parsed number text directive g s (states d k none n e is) = subst (λ (t : Directive). IsStaged (after parsed t)) (sym is)
-    (staged_open parsed (after parsed (States n)) g s refl refl)
-staged_says parsed number text directive g s (neighbors d l k none h e a is) = subst (λ (t : Directive). IsStaged (after parsed t)) (sym is)
-    (staged_open parsed (after parsed (Neighbors h)) g s refl refl)
-staged_says parsed number text directive g s (orders d l m k none y e a is) = subst (λ (t : Directive). IsStaged (after parsed t)) (sym is)
-    (staged_open parsed (after parsed (Orders y)) g s refl refl)
-staged_says parsed number text directive g s (variable d n h y en eh ey v var e is) = subst (λ (t : Directive). IsStaged (after parsed t)) (sym is)
-    (staged_open parsed (after parsed (Variable var)) g s refl refl)
-staged_says parsed number text directive g s (transition d n h y en eh ey v t e b q is) = subst (λ (t : Directive). IsStaged (after parsed t)) (sym is)
-    (staged_open parsed (after parsed (Line t)) g s refl refl)
+    → Says parsed number text directive → IsStaged (parsed_after parsed directive)
+staged_says parsed number text directive g s (states d k none n e is) = subst (λ (t : Directive). IsStaged (parsed_after parsed t)) (sym is)
+    (staged_open parsed (parsed_after parsed (States n)) g s refl refl)
+staged_says parsed number text directive g s (neighbors d l k none h e a is) = subst (λ (t : Directive). IsStaged (parsed_after parsed t)) (sym is)
+    (staged_open parsed (parsed_after parsed (Neighbors h)) g s refl refl)
+staged_says parsed number text directive g s (orders d l m k none y e a is) = subst (λ (t : Directive). IsStaged (parsed_after parsed t)) (sym is)
+    (staged_open parsed (parsed_after parsed (Orders y)) g s refl refl)
+staged_says parsed number text directive g s (variable d n h y en eh ey v var e is) = subst (λ (t : Directive). IsStaged (parsed_after parsed t)) (sym is)
+    (staged_open parsed (parsed_after parsed (Variable var)) g s refl refl)
+staged_says parsed number text directive g s (transition d n h y en eh ey v t e b q is) = subst (λ (t : Directive). IsStaged (parsed_after parsed t)) (sym is)
+    (staged_open parsed (parsed_after parsed (Line t)) g s refl refl)
 
 staged_more : (parsed : Parsed) (number : ℕ) (line : List ℕ) (directive : Directive) → IsStaged parsed → Case parsed number line directive
-    → IsStaged (after parsed directive)
-staged_more parsed number line directive g (passed s n p is) = subst (λ (t : Directive). IsStaged (after parsed t)) (sym is) g
-staged_more parsed number line directive g (named s n p name e is) = subst (λ (t : Directive). IsStaged (after parsed t)) (sym is) (record {
+    → IsStaged (parsed_after parsed directive)
+staged_more parsed number line directive g (passed s n p is) = subst (λ (t : Directive). IsStaged (parsed_after parsed t)) (sym is) g
+staged_more parsed number line directive g (named s n p name e is) = subst (λ (t : Directive). IsStaged (parsed_after parsed t)) (sym is) (record {
   states_ahead = g.states_ahead;
   neighbors_ahead = g.neighbors_ahead;
   orders_ahead = g.orders_ahead;
   described = λ b. absurd (let z : Ahead ≡ Behind = sym s ∙ b in let w : ⊥ = cc in w);
   unnamed = λ b. absurd (let w : ⊥ = cc in w);
 })
-staged_more parsed number line directive g (ahead s name n p is) = subst (λ (t : Directive). IsStaged (after parsed t)) (sym is) g
-staged_more parsed number line directive g (opens s name n p is) = subst (λ (t : Directive). IsStaged (after parsed t)) (sym is) (record {
+staged_more parsed number line directive g (ahead s name n p is) = subst (λ (t : Directive). IsStaged (parsed_after parsed t)) (sym is) g
+staged_more parsed number line directive g (opens s name n p is) = subst (λ (t : Directive). IsStaged (parsed_after parsed t)) (sym is) (record {
   states_ahead = λ b. absurd (let w : ⊥ = cc in w);
   neighbors_ahead = λ b. absurd (let w : ⊥ = cc in w);
   orders_ahead = λ b. absurd (let w : ⊥ = cc in w);
   described = λ b. absurd (let w : ⊥ = cc in w);
   unnamed = λ b. absurd (let z : Some name ≡ None = sym n ∙ b in let w : ⊥ = cc in w);
 })
-staged_more parsed number line directive g (ends s l d is) = subst (λ (t : Directive). IsStaged (after parsed t)) (sym is) (record {
+staged_more parsed number line directive g (ends s l d is) = subst (λ (t : Directive). IsStaged (parsed_after parsed t)) (sym is) (record {
   states_ahead = λ b. absurd (let w : ⊥ = cc in w);
   neighbors_ahead = λ b. absurd (let w : ⊥ = cc in w);
   orders_ahead = λ b. absurd (let w : ⊥ = cc in w);
   described = λ b. d;
   unnamed = λ b. absurd (let z : Open ≡ Ahead = sym s ∙ g.unnamed b in let w : ⊥ = cc in w);
 })
-staged_more parsed number line directive g (silent s l e is) = subst (λ (t : Directive). IsStaged (after parsed t)) (sym is) g
-staged_more parsed number line directive g (says s l e more) = staged_says parsed number (content line) directive g s more
-staged_more parsed number line directive g (behind s is) = subst (λ (t : Directive). IsStaged (after parsed t)) (sym is) g
+staged_more parsed number line directive g (silent s l e is) = subst (λ (t : Directive). IsStaged (parsed_after parsed t)) (sym is) g
+staged_more parsed number line directive g (says s l e more) = staged_says parsed number (line_content line) directive g s more
+staged_more parsed number line directive g (behind s is) = subst (λ (t : Directive). IsStaged (parsed_after parsed t)) (sym is) g
 
 -- 2. One more line
 
@@ -93,18 +93,18 @@ pub number_next : (n : ℕ) (lines : List (List ℕ)) (line : List ℕ) → n �
     ++ (min (n + length lines) (2 ^ 64 - 1), line) ∷ []
 number_next n [] line h = ap (λ (k : ℕ). (k, line) ∷ []) (let e : n ≡ min (n + 0) (2 ^ 64 - 1) = omega arith in e)
 number_next n (l ∷ lines) line h =
-    ap (λ (t : List Numbered). (n, l) ∷ t) (number_next (min (n + 1) (2 ^ 64 - 1)) lines line (omega arith)
+    ap (λ (t : List NumberedLine). (n, l) ∷ t) (number_next (min (n + 1) (2 ^ 64 - 1)) lines line (omega arith)
     ∙ ap (λ (k : ℕ). numbered_from (min (n + 1) (2 ^ 64 - 1)) lines ++ (k, line) ∷ [])
     (let e : min (min (n + 1) (2 ^ 64 - 1) + length lines) (2 ^ 64 - 1) ≡ min (n + length (l ∷ lines)) (2 ^ 64 - 1) = omega arith in e))
 
-pub numbered_more : (lines : List (List ℕ)) (line : List ℕ) → numbered_from 1 (lines ++ line ∷ []) ≡ numbered_from 1 lines ++ (number_behind lines, line) ∷ []
+pub numbered_more : (lines : List (List ℕ)) (line : List ℕ) → numbered_from 1 (lines ++ line ∷ []) ≡ numbered_from 1 lines ++ (number_after lines, line) ∷ []
 numbered_more lines line = number_next 1 lines line (omega arith)
     ∙ ap (λ (k : ℕ). numbered_from 1 lines ++ (k, line) ∷ [])
     (let e : min (1 + length lines) (2 ^ 64 - 1) ≡ min (length lines + 1) (2 ^ 64 - 1) = omega arith in e)
 
 -- lines that break no rule
 pub record Reach (lines : List (List ℕ)) : Type 0 where
-  pub unbroken : UnbrokenBelow IsTableFile broken missing lines (length lines)
+  pub unbroken : UnbrokenBelow IsTableFile broken_table_rule missing_table_part lines (length lines)
   pub stands : Stands (numbered_from 1 lines)
   pub good : IsGood (parsed_by (numbered_from 1 lines))
   pub staged : IsStaged (parsed_by (numbered_from 1 lines))
@@ -124,8 +124,9 @@ reach_none = record {
       });
 }
 
-unbroken_more : (lines : List (List ℕ)) (line : List ℕ) → UnbrokenBelow IsTableFile broken missing lines (length lines) → broken lines line ≡ None
-    → UnbrokenBelow IsTableFile broken missing (lines ++ line ∷ []) (length (lines ++ line ∷ []))
+unbroken_more : (lines : List (List ℕ)) (line : List ℕ) → UnbrokenBelow IsTableFile broken_table_rule missing_table_part lines (length lines)
+    → broken_table_rule lines line ≡ None
+    → UnbrokenBelow IsTableFile broken_table_rule missing_table_part (lines ++ line ∷ []) (length (lines ++ line ∷ []))
 unbroken_more lines line u b k h = elim (cases_lt k (length lines) (omega (arith, h, length-append lines (line ∷ [])))) [
   | inl before ↦
       (let e : take k (lines ++ line ∷ []) ≡ take k lines = take-append-le k lines (line ∷ []) (omega (arith, before)) in
@@ -134,53 +135,54 @@ unbroken_more lines line u b k h = elim (cases_lt k (length lines) (omega (arith
   | inr here ↦
       (let e : take (length lines) (lines ++ line ∷ []) ≡ lines = take-append_seam lines (line ∷ []) in
       let f : get_or (lines ++ line ∷ []) (length lines) [] ≡ line = get_or-append_seam lines line [] [] in
-      let at : broken (take (length lines) (lines ++ line ∷ [])) (get_or (lines ++ line ∷ []) (length lines) []) ≡ None = rw (e, f) b in
-      subst (λ (j : ℕ). broken (take j (lines ++ line ∷ [])) (get_or (lines ++ line ∷ []) j []) ≡ None) (sym here) at)
+      let at : broken_table_rule (take (length lines) (lines ++ line ∷ [])) (get_or (lines ++ line ∷ []) (length lines) []) ≡ None = rw (e, f) b in
+      subst (λ (j : ℕ). broken_table_rule (take j (lines ++ line ∷ [])) (get_or (lines ++ line ∷ []) j []) ≡ None) (sym here) at)
 ]
   where
     cases_lt : (k n : ℕ) → k < n + 1 → (k < n) ⊎ (k ≡ n)
     cases_lt k n h = elim (eqb_tells k n) [ inl same ↦ inr same.1 | inr other ↦ inl (omega (arith, h, other.1)) ]
 
-pub directive_unbroken : (lines : List (List ℕ)) (line : List ℕ) (directive : Directive) → parse_line (parsed_by (numbered_from 1 lines)) (number_behind lines)
-    line ≡ Ok directive → broken lines line ≡ None
-unfolding broken
+pub directive_unbroken : (lines : List (List ℕ)) (line : List ℕ) (directive : Directive) → parse_line (parsed_by (numbered_from 1 lines)) (number_after lines)
+    line ≡ Ok directive → broken_table_rule lines line ≡ None
+unfolding broken_table_rule
 directive_unbroken lines line directive h = ap fault_in h
 
-pub directive_broken : (lines : List (List ℕ)) (line : List ℕ) (kind : Kind) → parse_line (parsed_by (numbered_from 1 lines)) (number_behind lines) line
-    ≡ Err kind → broken lines line ≡ Some kind
-unfolding broken
+pub directive_broken : (lines : List (List ℕ)) (line : List ℕ) (kind : Kind) → parse_line (parsed_by (numbered_from 1 lines)) (number_after lines) line
+    ≡ Err kind → broken_table_rule lines line ≡ Some kind
+unfolding broken_table_rule
 directive_broken lines line kind h = ap fault_in h
 
 no_fault : (r : Result Directive Kind) → fault_in r ≡ None → (directive : Directive) × (r ≡ Ok directive)
 no_fault (Ok directive) h = (directive, refl)
 no_fault (Err kind) h = absurd (let z : ⊥ = cc in z)
 
-pub unbroken_directive : (lines : List (List ℕ)) (line : List ℕ) → broken lines line ≡ None → (directive : Directive)
-    × (parse_line (parsed_by (numbered_from 1 lines)) (number_behind lines) line ≡ Ok directive)
-unfolding broken
-unbroken_directive lines line h = no_fault (parse_line (parsed_by (numbered_from 1 lines)) (number_behind lines) line) h
+pub unbroken_directive : (lines : List (List ℕ)) (line : List ℕ) → broken_table_rule lines line ≡ None → (directive : Directive)
+    × (parse_line (parsed_by (numbered_from 1 lines)) (number_after lines) line ≡ Ok directive)
+unfolding broken_table_rule
+unbroken_directive lines line h = no_fault (parse_line (parsed_by (numbered_from 1 lines)) (number_after lines) line) h
 
 pub reach_more : (lines : List (List ℕ)) (line : List ℕ) (directive : Directive) → Reach lines
-    → parse_line (parsed_by (numbered_from 1 lines)) (number_behind lines) line ≡ Ok directive
-    → (parsed_by (numbered_from 1 (lines ++ line ∷ [])) ≡ after (parsed_by (numbered_from 1 lines)) directive) × Reach (lines ++ line ∷ [])
+    → parse_line (parsed_by (numbered_from 1 lines)) (number_after lines) line ≡ Ok directive
+    → (parsed_by (numbered_from 1 (lines ++ line ∷ [])) ≡ parsed_after (parsed_by (numbered_from 1 lines)) directive) × Reach (lines ++ line ∷ [])
 reach_more lines line directive r h =
     let ps = numbered_from 1 lines in
-    let case : Case (parsed_by (numbered_from 1 lines)) (number_behind lines) line directive = line_case (parsed_by (numbered_from 1 lines))
-    (number_behind lines) line directive h in
-    let m = line_more (numbered_from 1 lines) (number_behind lines, line) r.stands directive case in
-    let e : numbered_from 1 (lines ++ line ∷ []) ≡ numbered_from 1 lines ++ (number_behind lines, line) ∷ [] = numbered_more lines line in
-    let is : parsed_by (numbered_from 1 (lines ++ line ∷ [])) ≡ after (parsed_by (numbered_from 1 lines)) directive = ap parsed_by e ∙ m.0 in (
+    let case : Case (parsed_by (numbered_from 1 lines)) (number_after lines) line directive = line_case (parsed_by (numbered_from 1 lines))
+    (number_after lines) line directive h in
+    let m = line_more (numbered_from 1 lines) (number_after lines, line) r.stands directive case in
+    let e : numbered_from 1 (lines ++ line ∷ []) ≡ numbered_from 1 lines ++ (number_after lines, line) ∷ [] = numbered_more lines line in
+    let is : parsed_by (numbered_from 1 (lines ++ line ∷ [])) ≡ parsed_after (parsed_by (numbered_from 1 lines)) directive = ap parsed_by e ∙ m.0 in (
       is,
       record {
         unbroken = unbroken_more lines line r.unbroken (directive_unbroken lines line directive h);
         stands = subst Stands (sym e) m.1;
-        good = subst IsGood (sym is) (good_more (parsed_by (numbered_from 1 lines)) (number_behind lines) line directive r.good case);
-        staged = subst IsStaged (sym is) (staged_more (parsed_by (numbered_from 1 lines)) (number_behind lines) line directive r.staged case);
+        good = subst IsGood (sym is) (good_more (parsed_by (numbered_from 1 lines)) (number_after lines) line directive r.good case);
+        staged = subst IsStaged (sym is) (staged_more (parsed_by (numbered_from 1 lines)) (number_after lines) line directive r.staged case);
       },
     )
 
 -- lines of which none breaks a rule are reached one by one
-reach_front : (lines : List (List ℕ)) → UnbrokenBelow IsTableFile broken missing lines (length lines) → (k : ℕ) → k ≤ length lines → Reach (take k lines)
+reach_front : (lines : List (List ℕ)) → UnbrokenBelow IsTableFile broken_table_rule missing_table_part lines (length lines) → (k : ℕ) → k ≤ length lines
+    → Reach (take k lines)
 reach_front lines u zero h = reach_none
 reach_front lines u (suc k) h =
     let r = reach_front lines u k (omega arith) in
@@ -188,24 +190,25 @@ reach_front lines u (suc k) h =
     let m = reach_more (take k lines) (get_or lines k []) t.0 r t.1 in
     subst Reach (sym (ap (λ (j : ℕ). take j lines) (sym (add-one k)) ∙ take_more lines k [] (omega arith))) m.1
 
-pub reach : (lines : List (List ℕ)) → UnbrokenBelow IsTableFile broken missing lines (length lines) → Reach lines
+pub reach : (lines : List (List ℕ)) → UnbrokenBelow IsTableFile broken_table_rule missing_table_part lines (length lines) → Reach lines
 reach lines u = subst Reach (take_all (length lines) lines (omega arith)) (reach_front lines u (length lines) (omega arith))
 
 -- 3. Lines that make a whole file
 
-pub missing_is : (lines : List (List ℕ)) → missing lines ≡ lacking (parsed_by (numbered_from 1 lines))
-unfolding missing
+pub missing_is : (lines : List (List ℕ)) → missing_table_part lines ≡ missing_part_of (parsed_by (numbered_from 1 lines))
+unfolding missing_table_part
 missing_is lines = refl
 
 -- each line breaks no rule behind those before it, and at the end nothing is lacking
 abbrev Runs : Parsed → List (List ℕ) → Type 0
-Runs parsed [] = lacking parsed ≡ None
-Runs parsed (line ∷ lines) = (directive : Directive) × ((number : ℕ) → parse_line parsed number line ≡ Ok directive) × Runs (after parsed directive) lines
+Runs parsed [] = missing_part_of parsed ≡ None
+Runs parsed (line ∷ lines) = (directive : Directive) × ((number : ℕ) → parse_line parsed number line ≡ Ok directive)
+    × Runs (parsed_after parsed directive) lines
 
 run : (more lines : List (List ℕ)) → Reach lines → Runs (parsed_by (numbered_from 1 lines)) more → IsTableFile (lines ++ more)
 run [] lines r whole = subst IsTableFile (sym (append-nil lines)) (record { unbroken = r.unbroken; whole = missing_is lines ∙ whole })
 run (line ∷ more) lines r runs =
-    let m = reach_more lines line runs.0 r (runs.1 (number_behind lines)) in
+    let m = reach_more lines line runs.0 r (runs.1 (number_after lines)) in
     let rest : Runs (parsed_by (numbered_from 1 (lines ++ line ∷ []))) more = subst (λ (s : Parsed). Runs s more) (sym m.0) runs.2 in
     subst IsTableFile (append_assoc lines (line ∷ []) more) (run more (lines ++ line ∷ []) m.1 rest)
 
@@ -214,7 +217,7 @@ parsed_parts name section on oh oy vars lines =
     record { name = name; section = section; n_states = on; neighborhood = oh; symmetry = oy; vars = vars; lines = lines }
 
 abbrev Ends : Parsed → Type 0
-Ends parsed = (keeps : List Bool) × Runs parsed (kept keeps continuations)
+Ends parsed = (keeps : List Bool) × Runs parsed (kept_lines keeps continuations)
 
 module _ (vars : List Var) (lines : List Transition) where
   open_ends : (name : List ℕ) (on : Option ℕ) (oh : Option Neighborhood) (oy : Option Symmetry) → Ends (parsed_parts (Some name) Open on oh oy vars lines)
@@ -278,12 +281,12 @@ module _ (vars : List Var) (lines : List Transition) where
   ends_at (Some name) Behind (Some n) (Some h) None g = absurd (let z : false ≡ true = g.described refl in let w : ⊥ = cc in w)
   ends_at (Some name) Behind (Some n) (Some h) (Some y) g = ([], refl)
 
-front : (lines : List (List ℕ)) → UnbrokenBelow IsTableFile broken missing lines (length lines) → Prefix IsTableFile lines
+front : (lines : List (List ℕ)) → UnbrokenBelow IsTableFile broken_table_rule missing_table_part lines (length lines) → Prefix IsTableFile lines
 front lines u =
     let r = reach lines u in
     let parsed : Parsed = parsed_by (numbered_from 1 lines) in
     let e = ends_at parsed.vars parsed.lines parsed.name parsed.section parsed.n_states parsed.neighborhood parsed.symmetry r.staged in
-    (e.0, run (kept e.0 continuations) lines r e.1)
+    (e.0, run (kept_lines e.0 continuations) lines r e.1)
 
-pub by_lines : IsByLines IsTableFile broken missing
+pub by_lines : IsByLines IsTableFile broken_table_rule missing_table_part
 by_lines = record { sound = λ lines g. g.unbroken; complete = front }

@@ -5,7 +5,7 @@ use Rattle.life_base.specs.Text.{is_empty, is_too_long}
 use Rattle.life_base.specs.declared.kind.Kind.{Kind}
 use Rattle.life_base.specs.declared.kind.Kind.TheVariants.{LineTooLong, NoRuleLine, BadDescriptor, UnsupportedNeighborhood, UnsupportedSymmetry, BadVariable, BadTransition, UnboundOutput, NotQuiet}
 use Rattle.life_table.specs.Valid.{neighbour_count, is_quiet}
-use Rattle.life_table.specs.Reading.{parse_line, parse_in_section, parse_ahead, if_named, parse_in_table, parse_descriptor, if_states, if_neighborhood, if_symmetry, parse_rest, parse_settled, if_variable, if_transition, is_described, name_on, is_passed_over, is_table_line, is_section_line, content, is_descriptor, is_states_key, is_neighborhood_key, is_symmetry_key, key_of, setting_of, states_named, neighborhood_named, symmetry_named, agree, is_variable_line, variable_of, transition_of, is_bound}
+use Rattle.life_table.specs.Reading.{parse_line, parse_in_section, parse_ahead, if_named, parse_in_table, parse_descriptor, if_states, if_neighborhood, if_symmetry, parse_rest, parse_settled, if_variable, if_transition, is_described, name_on, is_passed_over, is_table_line, is_section_line, line_content, is_descriptor, is_states_key, is_neighborhood_key, is_symmetry_key, key_of, setting_of, states_named, neighborhood_named, symmetry_named, agree, is_variable_line, variable_of, transition_of, is_bound}
 use Rattle.life_table.specs.declared.directive.Parsed.{Parsed}
 use Rattle.life_table.specs.declared.directive.Section.{Section}
 use Rattle.life_table.specs.declared.directive.Section.TheVariants.{Ahead, Open, Behind}
@@ -44,8 +44,8 @@ pub data Case (parsed : Parsed) (number : ℕ) (line : List ℕ) (directive : Di
   opens : parsed.section ≡ Ahead → (name : List ℕ) → parsed.name ≡ Some name → is_table_line line ≡ true → directive ≡ TableOpens
       → Case parsed number line directive
   ends : parsed.section ≡ Open → is_section_line line ≡ true → is_described parsed ≡ true → directive ≡ TableEnds → Case parsed number line directive
-  silent : parsed.section ≡ Open → is_section_line line ≡ false → is_empty (content line) ≡ true → directive ≡ Nothing → Case parsed number line directive
-  says : parsed.section ≡ Open → is_section_line line ≡ false → is_empty (content line) ≡ false → Says parsed number (content line) directive
+  silent : parsed.section ≡ Open → is_section_line line ≡ false → is_empty (line_content line) ≡ true → directive ≡ Nothing → Case parsed number line directive
+  says : parsed.section ≡ Open → is_section_line line ≡ false → is_empty (line_content line) ≡ false → Says parsed number (line_content line) directive
       → Case parsed number line directive
   behind : parsed.section ≡ Behind → directive ≡ Nothing → Case parsed number line directive
 
@@ -216,13 +216,14 @@ module _ (parsed : Parsed) (number : ℕ) (line : List ℕ) (directive : Directi
   ahead_case (Some name) s e a = behind_rule_case s name e a
 
   content_case : parsed.section ≡ Open → is_section_line line ≡ false
-      → (if is_empty (content line) then Ok Nothing else
-      (if is_descriptor (content line) then parse_descriptor parsed.n_states parsed.neighborhood parsed.symmetry (content line)
-      else parse_rest parsed.n_states parsed.neighborhood parsed.symmetry parsed.vars parsed.lines number (content line))) ≡ Ok directive
+      → (if is_empty (line_content line) then Ok Nothing else
+      (if is_descriptor (line_content line) then parse_descriptor parsed.n_states parsed.neighborhood parsed.symmetry (line_content line)
+      else parse_rest parsed.n_states parsed.neighborhood parsed.symmetry parsed.vars parsed.lines number (line_content line))) ≡ Ok directive
       → Case parsed number line directive
-  content_case s l a = elim (cases_Bool (is_empty (content line))) [
-    | inl does ↦ silent s l does (let g : Ok Nothing ≡ Ok directive = then_part (is_empty (content line)) _ _ (Ok directive) does a in cc)
-    | inr does_not ↦ says s l does_not (text_case parsed number (content line) directive (else_part (is_empty (content line)) _ _ (Ok directive) does_not a))
+  content_case s l a = elim (cases_Bool (is_empty (line_content line))) [
+    | inl does ↦ silent s l does (let g : Ok Nothing ≡ Ok directive = then_part (is_empty (line_content line)) _ _ (Ok directive) does a in cc)
+    | inr does_not ↦ says s l does_not (text_case parsed number (line_content line) directive
+        (else_part (is_empty (line_content line)) _ _ (Ok directive) does_not a))
   ]
 
   table_case : parsed.section ≡ Open → parse_in_table parsed number line ≡ Ok directive → Case parsed number line directive

@@ -8,9 +8,9 @@ use Rattle.std.proofs.lemmas.List.Sums.{sum_by-cons}
 use Rattle.std.proofs.lemmas.Bool.{cases_Bool}
 use Rattle.std.proofs.lemmas.Option.{same_Some}
 use Rattle.life_table.specs.Meaning.{IsChoice, has_state, state_of, count_of, GivesByCounts}
-use Rattle.life_table.specs.Found.{Tells}
+use Rattle.life_table.specs.Found.{IsFoundOf}
 use Rattle.life_table.specs.Valid.{is_variable}
-use Rattle.life_table.specs.Taking.{of_state, free_count, can_be_state, settled, settled_count, open_state, wanted, first_variable, IsGrouped, Completes, CompletesWith}
+use Rattle.life_table.specs.Taking.{of_state, free_count, can_be_state, settled_state, settled_count, open_state, wanted_inputs, first_variable, IsGrouped, Completes, CompletesWith}
 use Rattle.life_table.proofs.Adding.{directives_same}
 use Rattle.life_table.proofs.Choices.{changed, changed_same, changed_choice}
 use Rattle.life_table.proofs.Counts.{count-cons}
@@ -31,7 +31,7 @@ centre_is choice i (entries.Var j) h = ap choice (sym (eqb-true i j h))
 
 -- one input is settled or open
 one_entry : (choice : ℕ → ℕ) (first : Entry) (centre t : ℕ) → state_of choice first ≡ centre → (e : Entry) →
-    of_state t (state_of choice e) 1 ≡ option_map_or (λ s. of_state t s 1) (settled first centre e) 0 + open_state first choice t e
+    of_state t (state_of choice e) 1 ≡ option_map_or (λ s. of_state t s 1) (settled_state first centre e) 0 + open_state first choice t e
 one_entry choice first centre t h (entries.Fixed s) = omega arith
 one_entry choice first centre t h (entries.Var i) = elim (cases_Bool (is_variable i first)) [
   | inl is_one ↦
@@ -49,7 +49,7 @@ split_count : (choice : ℕ → ℕ) (first : Entry) (centre t : ℕ) → state_
 split_count choice first centre t h [] = refl
 split_count choice first centre t h (e ∷ es) =
     let a = count-cons t (state_of choice e) (map (state_of choice) es) in
-    let b = sum_by-cons (λ entry. option_map_or (λ s. of_state t s 1) (settled first centre entry) 0) e es in
+    let b = sum_by-cons (λ entry. option_map_or (λ s. of_state t s 1) (settled_state first centre entry) 0) e es in
     let d = sum_by-cons (open_state first choice t) e es in
     let one = one_entry choice first centre t h e in
     let r = split_count choice first centre t h es in
@@ -84,7 +84,7 @@ centred vars (entries.Var j) centre h choice is = (
 
 wanted_same : (first : Entry) (centre : ℕ) (choice new : ℕ → ℕ) → IsCentred first centre choice new → (t : ℕ) (groups : List Group)
     → All (λ (g : Group). is_variable g.variable first ≡ false) groups →
-    wanted new groups t ≡ wanted choice groups t
+    wanted_inputs new groups t ≡ wanted_inputs choice groups t
 wanted_same first centre choice new c t [] h = refl
 wanted_same first centre choice new c t (g ∷ groups) h =
     let a = sum_by-cons (of_group new t) g groups in
@@ -148,14 +148,15 @@ module _ (vars : List Var) (line : Transition) (first : Entry) (rest : List Entr
         )
 
     -- where the output is settled
-    settled_is : (choice : ℕ → ℕ) → state_of choice first ≡ centre → (e : Entry) (o : ℕ) → settled first centre e ≡ Some o → state_of choice e ≡ o
+    settled_is : (choice : ℕ → ℕ) → state_of choice first ≡ centre → (e : Entry) (o : ℕ) → settled_state first centre e ≡ Some o → state_of choice e ≡ o
     settled_is choice h (entries.Fixed s) o is = same_Some s o is
     settled_is choice h (entries.Var i) o is = elim (cases_Bool (is_variable i first)) [
       | inl is_one ↦ sym (centre_is choice i first is_one) ∙ h ∙ same_Some centre o (sym (ap (λ b. cond b (Some centre) None) is_one) ∙ is)
       | inr is_none ↦ absurd (some_none (sym (sym (ap (λ b. cond b (Some centre) None) is_none) ∙ is)))
     ]
 
-    pub gives_settled : can_be_state vars first centre ≡ true → (o : ℕ) → settled first centre line.output ≡ Some o → Completes vars output_groups others free →
+    pub gives_settled : can_be_state vars first centre ≡ true → (o : ℕ) → settled_state first centre line.output ≡ Some o
+        → Completes vars output_groups others free →
         GivesByCounts vars line centre others o × ((s : ℕ) → GivesByCounts vars line centre others s → s ≡ o)
     gives_settled may o is c =
         let r = to_gives may c in (
@@ -164,7 +165,7 @@ module _ (vars : List Var) (line : Transition) (first : Entry) (rest : List Entr
         )
 
     -- where the output is open
-    open_is : (choice new : ℕ → ℕ) → IsCentred first centre choice new → (e : Entry) → settled first centre e ≡ None
+    open_is : (choice new : ℕ → ℕ) → IsCentred first centre choice new → (e : Entry) → settled_state first centre e ≡ None
         → ((i : ℕ) → e ≡ entries.Var i → is_variable i first ≡ false → first_variable output_groups ≡ i) →
         (state_of new e ≡ choice (first_variable output_groups)) × (state_of choice e ≡ choice (first_variable output_groups))
     open_is choice new c (entries.Fixed s) is h = absurd (some_none is)
@@ -173,9 +174,9 @@ module _ (vars : List Var) (line : Transition) (first : Entry) (rest : List Entr
       | inr is_none ↦ let v = h i refl is_none in (c.others i is_none ∙ ap choice (sym v), ap choice (sym v))
     ]
 
-    pub gives_open : can_be_state vars first centre ≡ true → settled first centre line.output ≡ None → (found : Found)
-        → Tells (CompletesWith vars output_groups others free) found →
-        Tells (GivesByCounts vars line centre others) found
+    pub gives_open : can_be_state vars first centre ≡ true → settled_state first centre line.output ≡ None → (found : Found)
+        → IsFoundOf (CompletesWith vars output_groups others free) found →
+        IsFoundOf (GivesByCounts vars line centre others) found
     unfolding from_gives
     gives_open may is found h =
         directives_same (CompletesWith vars output_groups others free) (GivesByCounts vars line centre others)

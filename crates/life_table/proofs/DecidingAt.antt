@@ -3,10 +3,10 @@ use Rattle.std.proofs.Common.{◌≡◌, ◌≢◌, ℕ, ◌+◌, ◌-◌, ◌<�
 use Rattle.std.specs.Int.{bit_at}
 use Rattle.std.specs.List.{list_any}
 use Rattle.life_table.specs.Meaning.{GivesByCounts, state_of, count_of}
-use Rattle.life_table.specs.Found.{Tells}
+use Rattle.life_table.specs.Found.{IsFoundOf}
 use Rattle.life_table.specs.Seen.{places}
 use Rattle.life_table.specs.Site.{IsSite, IsLineAt, centre_of, others_of}
-use Rattle.life_table.specs.Taking.{free_count, can_be_state, settled, settled_count, IsGrouped, IsSearch, Completes, CompletesWith}
+use Rattle.life_table.specs.Taking.{free_count, can_be_state, settled_state, settled_count, IsGrouped, IsSearch, Completes, CompletesWith}
 use Rattle.life_table.specs.Valid.{IsEntry, is_variable}
 use Rattle.life_table.proofs.Pairing.{some_place, some_entry}
 use Rattle.life_table.proofs.Grouping.{are_groups}
@@ -80,17 +80,18 @@ module _ (site : Site) (line : Transition) (is_site : IsSite site) (is_line : Is
 
       -- where the output is settled
       pub gives_settled_at : can_be_state site.vars.now (first_of inputs) (centre_of site) ≡ true → (o : ℕ) →
-          settled (first_of inputs) (centre_of site) line.output ≡ Some o →
-          Completes site.vars.now groups (behind site.cells.now) free → Tells (GivesAt site line) (One o)
+          settled_state (first_of inputs) (centre_of site) line.output ≡ Some o →
+          Completes site.vars.now groups (behind site.cells.now) free → IsFoundOf (GivesAt site line) (One o)
       gives_settled_at may o is c =
-          subst (λ (others : List ℕ). Tells (GivesByCounts site.vars.now line (centre_of site) others) (One o)) (rest_of site.cells.now)
+          subst (λ (others : List ℕ). IsFoundOf (GivesByCounts site.vars.now line (centre_of site) others) (One o)) (rest_of site.cells.now)
           (gives_settled site.vars.now line (first_of inputs) (behind inputs) shape (centre_of site) (behind site.cells.now) groups free grouped left
           may o is c)
 
       -- where the output is open
-      pub gives_open_at : can_be_state site.vars.now (first_of inputs) (centre_of site) ≡ true → settled (first_of inputs) (centre_of site) line.output ≡ None →
-          (found : Found) → Tells (CompletesWith site.vars.now groups (behind site.cells.now) free) found → Tells (GivesAt site line) found
+      pub gives_open_at : can_be_state site.vars.now (first_of inputs) (centre_of site) ≡ true → settled_state (first_of inputs) (centre_of site) line.output
+          ≡ None →
+          (found : Found) → IsFoundOf (CompletesWith site.vars.now groups (behind site.cells.now) free) found → IsFoundOf (GivesAt site line) found
       gives_open_at may is found h =
-          subst (λ (others : List ℕ). Tells (GivesByCounts site.vars.now line (centre_of site) others) found) (rest_of site.cells.now)
+          subst (λ (others : List ℕ). IsFoundOf (GivesByCounts site.vars.now line (centre_of site) others) found) (rest_of site.cells.now)
           (gives_open site.vars.now line (first_of inputs) (behind inputs) shape (centre_of site) (behind site.cells.now) groups free grouped left
           may is found h)

@@ -3,7 +3,7 @@ use Rattle.std.proofs.Common.{◌≡◌, ℕ, ◌<◌, ◌++◌, ◌∷◌, List
 use Rattle.std.proofs.lemmas.List.{get_or-map}
 use Rattle.std.proofs.lemmas.List.Elements.{Contains-append_left, Contains-append_right, Contains-append_cases}
 use Rattle.life_table.specs.Meaning.{state_of, GivesAs}
-use Rattle.life_table.specs.Found.{Tells, Adds, SomeGives}
+use Rattle.life_table.specs.Found.{IsFoundOf, Adds, SomeGives}
 use Rattle.life_base.proofs.Members.{in_head, in_none, in_one}
 use Rattle.life_table.proofs.Adding.{directives_same, tells_more, adds_same, adds_more, adds_none}
 use Rattle.life_table.specs.declared.found.Found.{Found}
@@ -52,8 +52,8 @@ module _ (vars : List Var) (line : Transition) where
       (adds_same (GivesAs vars line states) (SomeGives vars line (states ∷ [])) (one_alone states) (alone_one states) mid new k))
 
   -- more images tell what they give too
-  pub images_more : (list more : List (List ℕ)) (old new : Found) → Tells (SomeGives vars line list) old → Adds (SomeGives vars line more) old new
-      → Tells (SomeGives vars line (list ++ more)) new
+  pub images_more : (list more : List (List ℕ)) (old new : Found) → IsFoundOf (SomeGives vars line list) old → Adds (SomeGives vars line more) old new
+      → IsFoundOf (SomeGives vars line (list ++ more)) new
   images_more list more old new h k =
       directives_same (λ s. SomeGives vars line list s ⊎ SomeGives vars line more s) (SomeGives vars line (list ++ more))
       (from_either list more) (to_either list more) new

@@ -4,7 +4,7 @@ use Rattle.std.specs.List.{list_any}
 use Rattle.std.proofs.lemmas.List.Folds.{list_any-append}
 use Rattle.std.proofs.Math.Bool.{or-false}
 use Rattle.life_base.specs.Text.{is_empty}
-use Rattle.life_table.specs.Reading.{Numbered, from_first, up_to, from_rule, from_table, table_texts, contents, content, name_of, name_on, section_of, is_passed_over, is_table_line, is_section_line}
+use Rattle.life_table.specs.Reading.{NumberedLine, from_first, up_to, from_rule, from_table, table_texts, contents, line_content, name_of, name_on, section_of, is_passed_over, is_table_line, is_section_line}
 use Rattle.life_table.specs.declared.directive.Section.{Section}
 use Rattle.life_table.specs.declared.directive.Section.TheVariants.{Ahead, Open, Behind}
 
@@ -71,41 +71,42 @@ split_list : {X : Type 0} (xs : List X) → ((y : X) × (ys : List X) × (xs ≡
 split_list [] = inr refl
 split_list (x ∷ xs) = inl (x, xs, refl)
 
-abbrev pub is_section : Numbered → Bool
+abbrev pub is_section : NumberedLine → Bool
 is_section line = is_section_line line.1
 
-abbrev pub is_table : Numbered → Bool
+abbrev pub is_table : NumberedLine → Bool
 is_table line = is_table_line line.1
 
 -- what the lines from the rule line on say
-abbrev name_by : List Numbered → Option (List ℕ)
-name_by rule = option_and_then (λ (line : Numbered). name_on line.1) (slice_get rule 0)
+abbrev name_by : List NumberedLine → Option (List ℕ)
+name_by rule = option_and_then (λ (line : NumberedLine). name_on line.1) (slice_get rule 0)
 
-abbrev section_by : List Numbered → Section
+abbrev section_by : List NumberedLine → Section
 section_by table = if is_empty table then Ahead else (if list_any is_section (drop 1 table) then Behind else Open)
 
-abbrev texts_by : List Numbered → List Numbered
+abbrev texts_by : List NumberedLine → List NumberedLine
 texts_by table = contents (up_to is_section (drop 1 table))
 
-name_is : (ps : List Numbered) → name_of ps ≡ name_by (from_rule ps)
+name_is : (ps : List NumberedLine) → name_of ps ≡ name_by (from_rule ps)
 unfolding name_of
 name_is ps = refl
 
-section_is : (ps : List Numbered) → section_of ps ≡ section_by (from_table ps)
+section_is : (ps : List NumberedLine) → section_of ps ≡ section_by (from_table ps)
 unfolding section_of
 section_is ps = refl
 
-texts_are : (ps : List Numbered) → table_texts ps ≡ texts_by (from_table ps)
+texts_are : (ps : List NumberedLine) → table_texts ps ≡ texts_by (from_table ps)
 unfolding table_texts
 texts_are ps = refl
 
 -- where the lines stand
-pub data Stage (ps : List Numbered) : Type 0 where
+pub data Stage (ps : List NumberedLine) : Type 0 where
   start : from_rule ps ≡ [] → Stage ps
-  ruled : (r : Numbered) (rs : List Numbered) → from_rule ps ≡ r ∷ rs → from_first is_table rs ≡ [] → Stage ps
-  tabled : (r : Numbered) (rs : List Numbered) → from_rule ps ≡ r ∷ rs → (t : Numbered) (bs : List Numbered) → from_first is_table rs ≡ t ∷ bs → Stage ps
+  ruled : (r : NumberedLine) (rs : List NumberedLine) → from_rule ps ≡ r ∷ rs → from_first is_table rs ≡ [] → Stage ps
+  tabled : (r : NumberedLine) (rs : List NumberedLine) → from_rule ps ≡ r ∷ rs → (t : NumberedLine) (bs : List NumberedLine) → from_first is_table rs ≡ t ∷ bs
+      → Stage ps
 
-pub stage : (ps : List Numbered) → Stage ps
+pub stage : (ps : List NumberedLine) → Stage ps
 stage ps = elim (split_list (from_rule ps)) [
   | inr none ↦ start none
   | inl r ↦ elim (split_list (from_first is_table r.1)) [
@@ -115,39 +116,42 @@ stage ps = elim (split_list (from_rule ps)) [
 ]
 
 -- one more line, and what it changes
-pub record Grown (ps : List Numbered) (x : Numbered) (new_name : Option (List ℕ)) (new_section : Section) (more : List Numbered) : Type 0 where
+pub record Grown (ps : List NumberedLine) (x : NumberedLine) (new_name : Option (List ℕ)) (new_section : Section) (more : List NumberedLine) : Type 0 where
   pub name : name_of (ps ++ x ∷ []) ≡ new_name
   pub section : section_of (ps ++ x ∷ []) ≡ new_section
   pub texts : table_texts (ps ++ x ∷ []) ≡ table_texts ps ++ more
 
-contents_step : (b : Bool) (number : ℕ) (line : List ℕ) (xs ys : List Numbered) → is_empty (content line) ≡ b → contents (xs ++ ys) ≡ contents xs ++ contents ys
+contents_step : (b : Bool) (number : ℕ) (line : List ℕ) (xs ys : List NumberedLine) → is_empty (line_content line) ≡ b → contents (xs ++ ys) ≡ contents xs
+    ++ contents ys
     → contents ((number, line) ∷ (xs ++ ys)) ≡ contents ((number, line) ∷ xs) ++ contents ys
 contents_step true number line xs ys e ih = rw e ih
-contents_step false number line xs ys e ih = rw e (ap (λ (t : List Numbered). (number, content line) ∷ t) ih)
+contents_step false number line xs ys e ih = rw e (ap (λ (t : List NumberedLine). (number, line_content line) ∷ t) ih)
 
-contents_more : (xs ys : List Numbered) → contents (xs ++ ys) ≡ contents xs ++ contents ys
+contents_more : (xs ys : List NumberedLine) → contents (xs ++ ys) ≡ contents xs ++ contents ys
 contents_more [] ys = refl
-contents_more (x ∷ xs) ys = contents_step (is_empty (content x.1)) x.0 x.1 xs ys refl (contents_more xs ys)
+contents_more (x ∷ xs) ys = contents_step (is_empty (line_content x.1)) x.0 x.1 xs ys refl (contents_more xs ys)
 
-module _ (ps : List Numbered) (x : Numbered) where
+module _ (ps : List NumberedLine) (x : NumberedLine) where
   -- the rule line and what follows it, once it came
-  rule_kept : (r : Numbered) (rs : List Numbered) → from_rule ps ≡ r ∷ rs → from_rule (ps ++ x ∷ []) ≡ r ∷ (rs ++ x ∷ [])
-  rule_kept r rs e = first_kept (λ (line : Numbered). not (is_passed_over line.1)) ps r rs x e
+  rule_kept : (r : NumberedLine) (rs : List NumberedLine) → from_rule ps ≡ r ∷ rs → from_rule (ps ++ x ∷ []) ≡ r ∷ (rs ++ x ∷ [])
+  rule_kept r rs e = first_kept (λ (line : NumberedLine). not (is_passed_over line.1)) ps r rs x e
 
   rule_new : from_rule ps ≡ [] → from_rule (ps ++ x ∷ []) ≡ (if not (is_passed_over x.1) then x ∷ [] else [])
-  rule_new e = first_new (λ (line : Numbered). not (is_passed_over line.1)) ps x e
+  rule_new e = first_new (λ (line : NumberedLine). not (is_passed_over line.1)) ps x e
 
-  table_of_rule : (qs : List Numbered) (rule table : List Numbered) → from_rule qs ≡ rule → from_first is_table (drop 1 rule) ≡ table → from_table qs ≡ table
-  table_of_rule qs rule table e f = ap (λ (t : List Numbered). from_first is_table (drop 1 t)) e ∙ f
+  table_of_rule : (qs : List NumberedLine) (rule table : List NumberedLine) → from_rule qs ≡ rule → from_first is_table (drop 1 rule) ≡ table → from_table qs
+      ≡ table
+  table_of_rule qs rule table e f = ap (λ (t : List NumberedLine). from_first is_table (drop 1 t)) e ∙ f
 
   -- from the parts before and after to what they say
-  grown : (name : Option (List ℕ)) (section : Section) (before after more : List Numbered) → name_by (from_rule (ps ++ x ∷ [])) ≡ name → from_table ps ≡ before
+  grown : (name : Option (List ℕ)) (section : Section) (before after more : List NumberedLine) → name_by (from_rule (ps ++ x ∷ [])) ≡ name → from_table ps
+      ≡ before
       → from_table (ps ++ x ∷ []) ≡ after
       → section_by after ≡ section → texts_by after ≡ texts_by before ++ more → Grown ps x name section more
   grown name section before after more n b a s t = record {
     name = name_is (ps ++ x ∷ []) ∙ n;
     section = section_is (ps ++ x ∷ []) ∙ ap section_by a ∙ s;
-    texts = texts_are (ps ++ x ∷ []) ∙ ap texts_by a ∙ t ∙ ap (λ (u : List Numbered). u ++ more) (sym (ap texts_by b) ∙ sym (texts_are ps));
+    texts = texts_are (ps ++ x ∷ []) ∙ ap texts_by a ∙ t ∙ ap (λ (u : List NumberedLine). u ++ more) (sym (ap texts_by b) ∙ sym (texts_are ps));
   }
 
   pub rule_passed : from_rule ps ≡ [] → is_passed_over x.1 ≡ true → from_rule (ps ++ x ∷ []) ≡ []
@@ -163,7 +167,7 @@ module _ (ps : List Numbered) (x : Numbered) where
       let r : from_rule (ps ++ x ∷ []) ≡ x ∷ [] = rule_new e ∙ ap (λ (b : Bool). if not b then x ∷ [] else []) p in
       grown (name_on x.1) Ahead [] [] [] (ap name_by r) (table_of_rule ps [] [] e refl) (table_of_rule (ps ++ x ∷ []) (x ∷ []) [] r refl) refl refl
 
-  module _ (r : Numbered) (rs : List Numbered) (e : from_rule ps ≡ r ∷ rs) where
+  module _ (r : NumberedLine) (rs : List NumberedLine) (e : from_rule ps ≡ r ∷ rs) where
     name_kept : name_by (from_rule (ps ++ x ∷ [])) ≡ name_of ps
     name_kept = ap name_by (rule_kept r rs e) ∙ sym (name_is ps ∙ ap name_by e)
 
@@ -179,8 +183,9 @@ module _ (ps : List Numbered) (x : Numbered) where
         grown (name_of ps) Open [] (x ∷ []) [] name_kept (table_of_rule ps (r ∷ rs) [] e f)
         (table_of_rule (ps ++ x ∷ []) (r ∷ (rs ++ x ∷ [])) (x ∷ []) (rule_kept r rs e) g) refl refl
 
-    module _ (t : Numbered) (bs : List Numbered) (f : from_first is_table rs ≡ t ∷ bs) where
-      in_table : (name : Option (List ℕ)) (section : Section) (more : List Numbered) → (if list_any is_section (bs ++ x ∷ []) then Behind else Open) ≡ section
+    module _ (t : NumberedLine) (bs : List NumberedLine) (f : from_first is_table rs ≡ t ∷ bs) where
+      in_table : (name : Option (List ℕ)) (section : Section) (more : List NumberedLine) → (if list_any is_section (bs ++ x ∷ []) then Behind else Open)
+          ≡ section
           → contents (up_to is_section (bs ++ x ∷ [])) ≡ contents (up_to is_section bs) ++ more → Grown ps x (name_of ps) section more
       in_table name section more s c =
           grown (name_of ps) section (t ∷ bs) (t ∷ (bs ++ x ∷ [])) more name_kept (table_of_rule ps (r ∷ rs) (t ∷ bs) e f)
@@ -200,7 +205,7 @@ module _ (ps : List Numbered) (x : Numbered) where
       grown_text a p =
           let none : list_any is_section (bs ++ x ∷ []) ≡ false = any_more is_section bs x ∙ ap (λ (b : Bool). b || is_section x) a ∙ p in
           in_table None Open (contents (x ∷ [])) (ap (λ (b : Bool). if b then Behind else Open) none)
-          (ap contents (up_to_all is_section (bs ++ x ∷ []) none) ∙ contents_more bs (x ∷ []) ∙ ap (λ (u : List Numbered). contents u ++ contents (x ∷ []))
+          (ap contents (up_to_all is_section (bs ++ x ∷ []) none) ∙ contents_more bs (x ∷ []) ∙ ap (λ (u : List NumberedLine). contents u ++ contents (x ∷ []))
           (sym (up_to_all is_section bs a)))
 
   -- what the section tells of the stage
@@ -210,9 +215,10 @@ module _ (ps : List Numbered) (x : Numbered) where
   pub name_at_start : from_rule ps ≡ [] → name_of ps ≡ None
   name_at_start e = name_is ps ∙ ap name_by e
 
-  pub section_ahead : (r : Numbered) (rs : List Numbered) → from_rule ps ≡ r ∷ rs → from_first is_table rs ≡ [] → section_of ps ≡ Ahead
+  pub section_ahead : (r : NumberedLine) (rs : List NumberedLine) → from_rule ps ≡ r ∷ rs → from_first is_table rs ≡ [] → section_of ps ≡ Ahead
   section_ahead r rs e f = section_is ps ∙ ap section_by (table_of_rule ps (r ∷ rs) [] e f)
 
-  pub section_within : (r : Numbered) (rs : List Numbered) → from_rule ps ≡ r ∷ rs → (t : Numbered) (bs : List Numbered) → from_first is_table rs ≡ t ∷ bs
+  pub section_within : (r : NumberedLine) (rs : List NumberedLine) → from_rule ps ≡ r ∷ rs → (t : NumberedLine) (bs : List NumberedLine)
+      → from_first is_table rs ≡ t ∷ bs
       → section_of ps ≡ (if list_any is_section bs then Behind else Open)
   section_within r rs e t bs f = section_is ps ∙ ap section_by (table_of_rule ps (r ∷ rs) (t ∷ bs) e f)

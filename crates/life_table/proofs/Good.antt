@@ -10,9 +10,9 @@ use Rattle.std.proofs.lemmas.Option.{slice_get_within, slice_get-get_or, get_or_
 use Rattle.std.proofs.lemmas.Slice.Eq.{bytes_eq-Decides}
 use Rattle.life_base.specs.Text.{value_of}
 use Rattle.life_table.specs.Meaning.{has_state}
-use Rattle.life_table.specs.Valid.{IsEntry, IsTransition, IsVariable, IsSound, neighbour_count, is_listed, allows_zero, fits_zero, is_quiet_output, is_quiet}
-use Rattle.life_table.specs.Reading.{variable_named, states_named, number_below, agree, setting_of, content}
-use Rattle.life_table.specs.Reader.{IsGood, IsKept, after, fits_after, nothing_parsed}
+use Rattle.life_table.specs.Valid.{IsEntry, IsTransition, IsVariable, IsSoundTable, neighbour_count, is_listed, allows_zero, fits_zero, is_quiet_output, is_quiet}
+use Rattle.life_table.specs.Reading.{variable_named, states_named, number_below, agree, setting_of, line_content}
+use Rattle.life_table.specs.Reader.{IsGood, IsKeptParse, parsed_after, fits_after, nothing_parsed}
 use Rattle.life_table.specs.declared.directive.Parsed.{Parsed}
 use Rattle.life_table.specs.declared.directive.Section.{Section}
 use Rattle.life_table.specs.declared.directive.Section.TheVariants.{Open, Behind}
@@ -137,7 +137,8 @@ good_with parsed name section symmetry g listed = record {
 good_elsewhere : (parsed : Parsed) (name : Option (List ℕ)) (section : Section) → IsGood parsed → IsGood (record parsed { name = name; section = section })
 good_elsewhere parsed name section g = good_with parsed name section parsed.symmetry g g.listed
 
-good_states : (parsed : Parsed) (n : ℕ) (word : List ℕ) → IsGood parsed → parsed.n_states ≡ None → states_named word ≡ Some n → IsGood (after parsed (States n))
+good_states : (parsed : Parsed) (n : ℕ) (word : List ℕ) → IsGood parsed → parsed.n_states ≡ None → states_named word ≡ Some n
+    → IsGood (parsed_after parsed (States n))
 good_states parsed n word g none e =
     let range = states_range word n e in
     record {
@@ -154,7 +155,7 @@ good_states parsed n word g none e =
     }
 
 good_neighbors : (parsed : Parsed) (h : Neighborhood) → IsGood parsed → parsed.neighborhood ≡ None → agree (Some h) parsed.symmetry ≡ true
-    → IsGood (after parsed (Neighbors h))
+    → IsGood (parsed_after parsed (Neighbors h))
 good_neighbors parsed h g none e = record {
   states = g.states;
   listed = λ k y ik iy. (let same : h ≡ k = (let z : Some h ≡ Some k = ik in cc) in
@@ -169,13 +170,13 @@ good_neighbors parsed h g none e = record {
   quiet = g.quiet;
 }
 
-good_orders : (parsed : Parsed) (y : Symmetry) → IsGood parsed → agree parsed.neighborhood (Some y) ≡ true → IsGood (after parsed (Orders y))
+good_orders : (parsed : Parsed) (y : Symmetry) → IsGood parsed → agree parsed.neighborhood (Some y) ≡ true → IsGood (parsed_after parsed (Orders y))
 good_orders parsed y g e = good_with parsed parsed.name parsed.section (Some y) g (λ k z ik iz.
     let same : y ≡ z = (let w : Some y ≡ Some z = iz in cc) in
     subst (λ (z : Symmetry). IsTrue (is_listed k z)) same (sym (ap (λ (o : Option Neighborhood). agree o (Some y)) ik) ∙ e))
 
 module _ (parsed : Parsed) (n : ℕ) (h : Neighborhood) (g : IsGood parsed) (en : parsed.n_states ≡ Some n) (eh : parsed.neighborhood ≡ Some h) where
-  good_variable : (text : List ℕ) (var : Var) → IsVariable n var → variable_named parsed.vars var.name ≡ None → IsGood (after parsed (Variable var))
+  good_variable : (text : List ℕ) (var : Var) → IsVariable n var → variable_named parsed.vars var.name ≡ None → IsGood (parsed_after parsed (Variable var))
   good_variable text var is none = record {
     states = g.states;
     listed = g.listed;
@@ -190,7 +191,7 @@ module _ (parsed : Parsed) (n : ℕ) (h : Neighborhood) (g : IsGood parsed) (en 
   }
 
   good_line : (t : Transition) → IsTransition n (neighbour_count h) parsed.vars t → is_quiet parsed.vars (parsed.lines ++ t ∷ []) ≡ true
-      → IsGood (after parsed (Line t))
+      → IsGood (parsed_after parsed (Line t))
   good_line t is quiet = record {
     states = g.states;
     listed = g.listed;
@@ -209,33 +210,33 @@ module _ (parsed : Parsed) (n : ℕ) (h : Neighborhood) (g : IsGood parsed) (en 
   }
 
 good_says : (parsed : Parsed) (number : ℕ) (text : List ℕ) (directive : Directive) → IsGood parsed → Says parsed number text directive
-    → IsGood (after parsed directive)
-good_says parsed number text directive g (states d k none n e is) = subst (λ (t : Directive). IsGood (after parsed t)) (sym is)
+    → IsGood (parsed_after parsed directive)
+good_says parsed number text directive g (states d k none n e is) = subst (λ (t : Directive). IsGood (parsed_after parsed t)) (sym is)
     (good_states parsed n (setting_of text) g none e)
-good_says parsed number text directive g (neighbors d s k none h e agrees is) = subst (λ (t : Directive). IsGood (after parsed t)) (sym is)
+good_says parsed number text directive g (neighbors d s k none h e agrees is) = subst (λ (t : Directive). IsGood (parsed_after parsed t)) (sym is)
     (good_neighbors parsed h g none agrees)
-good_says parsed number text directive g (orders d s m k none y e agrees is) = subst (λ (t : Directive). IsGood (after parsed t)) (sym is)
+good_says parsed number text directive g (orders d s m k none y e agrees is) = subst (λ (t : Directive). IsGood (parsed_after parsed t)) (sym is)
     (good_orders parsed y g agrees)
 good_says parsed number text directive g (variable d n h y en eh ey v var e is) =
     let w = is_variable_written n (g.states n en).1 parsed.vars (g.variables n en) text var e in
-    subst (λ (t : Directive). IsGood (after parsed t)) (sym is) (good_variable parsed n h g en eh text var w.0 w.1)
+    subst (λ (t : Directive). IsGood (parsed_after parsed t)) (sym is) (good_variable parsed n h g en eh text var w.0 w.1)
 good_says parsed number text directive g (transition d n h y en eh ey v t e bound quiet is) =
-    subst (λ (t : Directive). IsGood (after parsed t)) (sym is)
+    subst (λ (t : Directive). IsGood (parsed_after parsed t)) (sym is)
     (good_line parsed n h g en eh t (is_transition n (neighbour_count h) parsed.vars number text t e bound) quiet)
 
 pub good_more : (parsed : Parsed) (number : ℕ) (line : List ℕ) (directive : Directive) → IsGood parsed → Case parsed number line directive
-    → IsGood (after parsed directive)
-good_more parsed number line directive g (passed s n p is) = subst (λ (t : Directive). IsGood (after parsed t)) (sym is) g
-good_more parsed number line directive g (named s n p name e is) = subst (λ (t : Directive). IsGood (after parsed t)) (sym is)
+    → IsGood (parsed_after parsed directive)
+good_more parsed number line directive g (passed s n p is) = subst (λ (t : Directive). IsGood (parsed_after parsed t)) (sym is) g
+good_more parsed number line directive g (named s n p name e is) = subst (λ (t : Directive). IsGood (parsed_after parsed t)) (sym is)
     (good_elsewhere parsed (Some name) parsed.section g)
-good_more parsed number line directive g (ahead s name n p is) = subst (λ (t : Directive). IsGood (after parsed t)) (sym is) g
-good_more parsed number line directive g (opens s name n p is) = subst (λ (t : Directive). IsGood (after parsed t)) (sym is)
+good_more parsed number line directive g (ahead s name n p is) = subst (λ (t : Directive). IsGood (parsed_after parsed t)) (sym is) g
+good_more parsed number line directive g (opens s name n p is) = subst (λ (t : Directive). IsGood (parsed_after parsed t)) (sym is)
     (good_elsewhere parsed parsed.name Open g)
-good_more parsed number line directive g (ends s l d is) = subst (λ (t : Directive). IsGood (after parsed t)) (sym is)
+good_more parsed number line directive g (ends s l d is) = subst (λ (t : Directive). IsGood (parsed_after parsed t)) (sym is)
     (good_elsewhere parsed parsed.name Behind g)
-good_more parsed number line directive g (silent s l e is) = subst (λ (t : Directive). IsGood (after parsed t)) (sym is) g
-good_more parsed number line directive g (says s l e more) = good_says parsed number (content line) directive g more
-good_more parsed number line directive g (behind s is) = subst (λ (t : Directive). IsGood (after parsed t)) (sym is) g
+good_more parsed number line directive g (silent s l e is) = subst (λ (t : Directive). IsGood (parsed_after parsed t)) (sym is) g
+good_more parsed number line directive g (says s l e more) = good_says parsed number (line_content line) directive g more
+good_more parsed number line directive g (behind s is) = subst (λ (t : Directive). IsGood (parsed_after parsed t)) (sym is) g
 
 pub good_start : IsGood nothing_parsed
 good_start = record {
@@ -253,7 +254,7 @@ good_start = record {
 -- what is said makes a table
 pub sound_of : (parsed : Parsed) → IsGood parsed → (n : ℕ) (h : Neighborhood) (y : Symmetry) → parsed.n_states ≡ Some n → parsed.neighborhood ≡ Some h
     → parsed.symmetry ≡ Some y
-    → IsSound n h y parsed.vars parsed.lines
+    → IsSoundTable n h y parsed.vars parsed.lines
 sound_of parsed g n h y en eh ey = record {
   least = (g.states n en).0;
   most = (g.states n en).1;
@@ -272,7 +273,8 @@ kept_most (Some n) f = (f n refl).1
 
 -- a line fits zeros behind a directive where the reader says so
 abbrev StaysFit : Parsed → Bool → Directive → Type 0
-StaysFit parsed fit directive = fits_after fit parsed.vars directive ≡ list_any (fits_zero (after parsed directive).vars) (after parsed directive).lines
+StaysFit parsed fit directive = fits_after fit parsed.vars directive
+    ≡ list_any (fits_zero (parsed_after parsed directive).vars) (parsed_after parsed directive).lines
 
 fits_says : (parsed : Parsed) (number : ℕ) (text : List ℕ) (directive : Directive) (fit : Bool) → IsGood parsed
     → fit ≡ list_any (fits_zero parsed.vars) parsed.lines → Says parsed number text directive
@@ -294,19 +296,19 @@ fits_case parsed number line directive fit g f (ahead s name n p is) = subst (St
 fits_case parsed number line directive fit g f (opens s name n p is) = subst (StaysFit parsed fit) (sym is) f
 fits_case parsed number line directive fit g f (ends s l d is) = subst (StaysFit parsed fit) (sym is) f
 fits_case parsed number line directive fit g f (silent s l e is) = subst (StaysFit parsed fit) (sym is) f
-fits_case parsed number line directive fit g f (says s l e more) = fits_says parsed number (content line) directive fit g f more
+fits_case parsed number line directive fit g f (says s l e more) = fits_says parsed number (line_content line) directive fit g f more
 fits_case parsed number line directive fit g f (behind s is) = subst (StaysFit parsed fit) (sym is) f
 
-pub kept_start : IsKept nothing_parsed false
+pub kept_start : IsKeptParse nothing_parsed false
 kept_start = record { most = tt; fits = refl; quiet = refl }
 
-pub kept_more : (parsed : Parsed) (number : ℕ) (line : List ℕ) (directive : Directive) (fit : Bool) → IsGood parsed → IsKept parsed fit
+pub kept_more : (parsed : Parsed) (number : ℕ) (line : List ℕ) (directive : Directive) (fit : Bool) → IsGood parsed → IsKeptParse parsed fit
     → Case parsed number line directive
-    → IsKept (after parsed directive) (fits_after fit parsed.vars directive)
+    → IsKeptParse (parsed_after parsed directive) (fits_after fit parsed.vars directive)
 kept_more parsed number line directive fit g k case =
     let next = good_more parsed number line directive g case in
     record {
-      most = kept_most (after parsed directive).n_states next.states;
+      most = kept_most (parsed_after parsed directive).n_states next.states;
       fits = fits_case parsed number line directive fit g k.fits case;
       quiet = next.quiet;
     }

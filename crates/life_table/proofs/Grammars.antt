@@ -8,8 +8,8 @@ use Rattle.life_base.specs.declared.kind.Kind.{Kind}
 use Rattle.life_base.specs.declared.kind.Kind.TheVariants.{LineTooLong, NoRuleLine, NoTable, BadDescriptor, UnsupportedSymmetry, UnboundOutput, NotQuiet}
 use Rattle.life_base.proofs.Refusals.{UnbrokenBelow}
 use Rattle.life_base.proofs.Texts.{empty_is, not_too_long}
-use Rattle.life_table.specs.Grammar.{IsFile, GrammarsAgree, Lead, LineSays, TextSays, AreGiven, states, neighborhood, symmetry, variable, transition, passed, rule_line, other, table_line, blank, says, section_line, behind}
-use Rattle.life_table.specs.Reading.{AreTable, IsTableFile, Describes, broken, missing, lacking, is_ahead, is_described, parsed_by, number_behind, parse_line, parse_in_section, parse_ahead, parse_descriptor, parse_rest, parse_settled, if_named, if_states, if_neighborhood, if_symmetry, if_variable, if_transition, name_on, is_passed_over, is_table_line, is_section_line, is_descriptor, content, key_of, setting_of, is_states_key, is_neighborhood_key, is_symmetry_key, states_named, neighborhood_named, symmetry_named, agree, is_variable_line, variable_of, transition_of, is_bound}
+use Rattle.life_table.specs.Grammar.{IsPlainTable, TableGrammarsAgree, Lead, LineSays, TextSays, AreGiven, states, neighborhood, symmetry, variable, transition, passed, rule_line, other, table_line, blank, says, section_line, behind}
+use Rattle.life_table.specs.Reading.{AreTable, IsTableFile, Describes, broken_table_rule, missing_table_part, missing_part_of, is_ahead, is_described, parsed_by, number_after, parse_line, parse_in_section, parse_ahead, parse_descriptor, parse_rest, parse_settled, if_named, if_states, if_neighborhood, if_symmetry, if_variable, if_transition, name_on, is_passed_over, is_table_line, is_section_line, is_descriptor, line_content, key_of, setting_of, is_states_key, is_neighborhood_key, is_symmetry_key, states_named, neighborhood_named, symmetry_named, agree, is_variable_line, variable_of, transition_of, is_bound}
 use Rattle.life_table.specs.Valid.{neighbour_count, is_quiet}
 use Rattle.life_table.specs.declared.directive.Parsed.{Parsed}
 use Rattle.life_table.specs.declared.directive.Section.{Section}
@@ -89,8 +89,8 @@ module _ (parsed : Parsed) (number : ℕ) (line : List ℕ) (directive : Directi
   line_is (cases.opens s name o e t) = table_line name s o e t
   line_is (cases.ends s e d t) = let g = all_given parsed parsed.n_states parsed.neighborhood parsed.symmetry refl refl refl d in
       section_line g.0 g.1 g.2 s e g.3 t
-  line_is (cases.silent s e c t) = blank s e (empty_is (content line) c) t
-  line_is (cases.says s e c f) = says s e (is_something (content line) c) (text_is parsed number (content line) directive f)
+  line_is (cases.silent s e c t) = blank s e (empty_is (line_content line) c) t
+  line_is (cases.says s e c f) = says s e (is_something (line_content line) c) (text_is parsed number (line_content line) directive f)
   line_is (cases.behind s t) = behind s t
 
 -- ---- what a line's tests tell, from what it is
@@ -170,10 +170,10 @@ module _ (parsed : Parsed) (number : ℕ) (text : List ℕ) where
 
 module _ (parsed : Parsed) (number : ℕ) (line : List ℕ) where
   abbrev of_text : Result Directive Kind
-  of_text = tells parsed number (content line)
+  of_text = tells parsed number (line_content line)
 
   abbrev of_content : Result Directive Kind
-  of_content = if is_empty (content line) then Ok Nothing else of_text
+  of_content = if is_empty (line_content line) then Ok Nothing else of_text
 
   abbrev of_end : Result Directive Kind
   of_end = if is_described parsed then Ok TableEnds else Err BadDescriptor
@@ -194,12 +194,12 @@ module _ (parsed : Parsed) (number : ℕ) (line : List ℕ) where
   in_section directive (table_line name s o e t) = at_section Ahead s ∙ at_name (Some name) o ∙ take_then (is_table_line line) (Ok TableOpens) (Ok Nothing) e
       ∙ ap Ok (sym t)
   in_section directive (blank s e c t) =
-      at_section Open s ∙ take_else (is_section_line line) of_end of_content e ∙ take_then (is_empty (content line)) (Ok Nothing) of_text (ap is_empty c)
+      at_section Open s ∙ take_else (is_section_line line) of_end of_content e ∙ take_then (is_empty (line_content line)) (Ok Nothing) of_text (ap is_empty c)
       ∙ ap Ok (sym t)
   in_section directive (says s e c f) =
       at_section Open s ∙ take_else (is_section_line line) of_end of_content e
-      ∙ take_else (is_empty (content line)) (Ok Nothing) of_text (not_nothing (content line) c)
-      ∙ text_tells parsed number (content line) directive f
+      ∙ take_else (is_empty (line_content line)) (Ok Nothing) of_text (not_nothing (line_content line) c)
+      ∙ text_tells parsed number (line_content line) directive f
   in_section directive (section_line n h y s e g t) =
       at_section Open s ∙ take_then (is_section_line line) of_end of_content e ∙ take_then (is_described parsed) (Ok TableEnds) (Err BadDescriptor)
       (is_given parsed n h y g) ∙ ap Ok (sym t)
@@ -221,47 +221,47 @@ module _ (parsed : Parsed) (number : ℕ) (line : List ℕ) where
 
 -- ---- lines
 
-next_number : (lines : List (List ℕ)) (line : List ℕ) → min (number_behind lines + 1) (2 ^ 64 - 1) ≡ number_behind (lines ++ line ∷ [])
+next_number : (lines : List (List ℕ)) (line : List ℕ) → min (number_after lines + 1) (2 ^ 64 - 1) ≡ number_after (lines ++ line ∷ [])
 next_number lines line = omega (arith, length-append lines (line ∷ []))
 
 abbrev parsed_of : List (List ℕ) → Parsed
 parsed_of lines = parsed_by (numbered_from 1 lines)
 
 -- lines that lead on break no rule
-led : (more lines : List (List ℕ)) (end : Parsed) → Reach lines → Lead (parsed_of lines) (number_behind lines) more end → Reach (lines ++ more)
+led : (more lines : List (List ℕ)) (end : Parsed) → Reach lines → Lead (parsed_of lines) (number_after lines) more end → Reach (lines ++ more)
     × (parsed_of (lines ++ more) ≡ end)
 led [] lines end r l = (subst Reach (sym (append-nil lines)) r, ap parsed_of (append-nil lines) ∙ l)
 led (line ∷ more) lines end r l =
-    let m = reach_more lines line l.0 r (line_tells (parsed_of lines) (number_behind lines) line l.0 l.1 l.2) in
-    let S : Parsed → Type 0 = λ s. Lead s (min (number_behind lines + 1) (2 ^ 64 - 1)) more end in
+    let m = reach_more lines line l.0 r (line_tells (parsed_of lines) (number_after lines) line l.0 l.1 l.2) in
+    let S : Parsed → Type 0 = λ s. Lead s (min (number_after lines + 1) (2 ^ 64 - 1)) more end in
     let N : ℕ → Type 0 = λ k. Lead (parsed_of (lines ++ line ∷ [])) k more end in
-    let rest : Lead (parsed_of (lines ++ line ∷ [])) (number_behind (lines ++ line ∷ [])) more end = subst N (next_number lines line) (subst S (sym m.0) l.3) in
+    let rest : Lead (parsed_of (lines ++ line ∷ [])) (number_after (lines ++ line ∷ [])) more end = subst N (next_number lines line) (subst S (sym m.0) l.3) in
     let whole = led more (lines ++ line ∷ []) end m.1 rest in
     let e : (lines ++ line ∷ []) ++ more ≡ lines ++ line ∷ more = append_assoc lines (line ∷ []) more in
     (subst Reach e whole.0, sym (ap parsed_of e) ∙ whole.1)
 
 abbrev IsUnbroken : List (List ℕ) → Type 0
-IsUnbroken lines = UnbrokenBelow IsTableFile broken missing lines (length lines)
+IsUnbroken lines = UnbrokenBelow IsTableFile broken_table_rule missing_table_part lines (length lines)
 
 -- lines that break no rule lead on
-leads : (more lines : List (List ℕ)) → Reach lines → IsUnbroken (lines ++ more) → Lead (parsed_of lines) (number_behind lines) more (parsed_of (lines ++ more))
+leads : (more lines : List (List ℕ)) → Reach lines → IsUnbroken (lines ++ more) → Lead (parsed_of lines) (number_after lines) more (parsed_of (lines ++ more))
 leads [] lines r u = ap parsed_of (sym (append-nil lines))
 leads (line ∷ more) lines r u =
     let f : take (length lines) (lines ++ line ∷ more) ≡ lines = take-append_seam lines (line ∷ more) in
     let g : get_or (lines ++ line ∷ more) (length lines) [] ≡ line = get_or-append_seam lines line more [] in
-    let here : broken (take (length lines) (lines ++ line ∷ more)) (get_or (lines ++ line ∷ more) (length lines) []) ≡ None = u (length lines)
+    let here : broken_table_rule (take (length lines) (lines ++ line ∷ more)) (get_or (lines ++ line ∷ more) (length lines) []) ≡ None = u (length lines)
     (omega (arith, length-append lines (line ∷ more))) in
-    let b : broken lines line ≡ None = rw (f, g) at here in
+    let b : broken_table_rule lines line ≡ None = rw (f, g) at here in
     let t = unbroken_directive lines line b in
     let m = reach_more lines line t.0 r t.1 in
     let e : (lines ++ line ∷ []) ++ more ≡ lines ++ line ∷ more = append_assoc lines (line ∷ []) more in
     let rest = leads more (lines ++ line ∷ []) m.1 (subst IsUnbroken (sym e) u) in
-    let E : List (List ℕ) → Type 0 = λ ls. Lead (parsed_of (lines ++ line ∷ [])) (number_behind (lines ++ line ∷ [])) more (parsed_of ls) in
+    let E : List (List ℕ) → Type 0 = λ ls. Lead (parsed_of (lines ++ line ∷ [])) (number_after (lines ++ line ∷ [])) more (parsed_of ls) in
     let N : ℕ → Type 0 = λ k. Lead (parsed_of (lines ++ line ∷ [])) k more (parsed_of (lines ++ line ∷ more)) in
-    let S : Parsed → Type 0 = λ s. Lead s (min (number_behind lines + 1) (2 ^ 64 - 1)) more (parsed_of (lines ++ line ∷ more)) in (
+    let S : Parsed → Type 0 = λ s. Lead s (min (number_after lines + 1) (2 ^ 64 - 1)) more (parsed_of (lines ++ line ∷ more)) in (
       t.0,
-      short_line (parsed_of lines) (number_behind lines) line t.0 t.1,
-      line_is (parsed_of lines) (number_behind lines) line t.0 (cases.line_case (parsed_of lines) (number_behind lines) line t.0 t.1),
+      short_line (parsed_of lines) (number_after lines) line t.0 t.1,
+      line_is (parsed_of lines) (number_after lines) line t.0 (cases.line_case (parsed_of lines) (number_after lines) line t.0 t.1),
       subst S m.0 (subst N (sym (next_number lines line)) (subst E e rest)),
     )
 
@@ -272,7 +272,7 @@ no_ahead Ahead h = absurd (h refl)
 no_ahead Open h = refl
 no_ahead Behind h = refl
 
-nothing_lacks : (parsed : Parsed) (table : Table) → Describes parsed table → parsed.section ≢ Ahead → lacking parsed ≡ None
+nothing_lacks : (parsed : Parsed) (table : Table) → Describes parsed table → parsed.section ≢ Ahead → missing_part_of parsed ≡ None
 nothing_lacks parsed table d h =
     let described : Option Kind = if is_described parsed then None else Some BadDescriptor in
     let g : AreGiven parsed table.n_states table.neighborhood table.symmetry = record { states = d.n_states; neighbours = d.neighborhood; orders = d.symmetry }
@@ -286,24 +286,24 @@ table_came true b c h = absurd (let z : ⊥ = cc in z)
 table_came false true c h = absurd (let z : ⊥ = cc in z)
 table_came false false c h = refl
 
-came_of : (parsed : Parsed) → lacking parsed ≡ None → parsed.section ≢ Ahead
+came_of : (parsed : Parsed) → missing_part_of parsed ≡ None → parsed.section ≢ Ahead
 came_of parsed h e =
     let f : is_ahead parsed.section ≡ false = table_came (is_none parsed.name) (is_ahead parsed.section) (is_described parsed) h in
     let t : is_ahead parsed.section ≡ true = ap is_ahead e in
     let z : true ≡ false = sym t ∙ f in cc
 
-written : (lines : List (List ℕ)) (table : Table) → IsFile lines table → AreTable lines table
+written : (lines : List (List ℕ)) (table : Table) → IsPlainTable lines table → AreTable lines table
 written lines table f =
-    let start : Lead (parsed_of []) (number_behind []) lines f.parsed = subst (λ (s : Parsed). Lead s 1 lines f.parsed) (sym parsed_start) f.leads in
+    let start : Lead (parsed_of []) (number_after []) lines f.parsed = subst (λ (s : Parsed). Lead s 1 lines f.parsed) (sym parsed_start) f.leads in
     let r = led lines [] f.parsed reach_none start in
     record {
-      file = record { unbroken = r.0.unbroken; whole = missing_is lines ∙ ap lacking r.1 ∙ nothing_lacks f.parsed table f.describes f.came };
+      file = record { unbroken = r.0.unbroken; whole = missing_is lines ∙ ap missing_part_of r.1 ∙ nothing_lacks f.parsed table f.describes f.came };
       says = subst (λ (s : Parsed). Describes s table) (sym r.1) f.describes;
     }
 
-parsed_plainly : (lines : List (List ℕ)) (table : Table) → AreTable lines table → IsFile lines table
+parsed_plainly : (lines : List (List ℕ)) (table : Table) → AreTable lines table → IsPlainTable lines table
 parsed_plainly lines table a =
-    let l : Lead (parsed_of []) (number_behind []) lines (parsed_of lines) = leads lines [] reach_none a.file.unbroken in
+    let l : Lead (parsed_of []) (number_after []) lines (parsed_of lines) = leads lines [] reach_none a.file.unbroken in
     record {
       parsed = parsed_of lines;
       leads = subst (λ (s : Parsed). Lead s 1 lines (parsed_of lines)) parsed_start l;
@@ -311,5 +311,5 @@ parsed_plainly lines table a =
       describes = a.says;
     }
 
-pub grammars_agree : GrammarsAgree
+pub grammars_agree : TableGrammarsAgree
 grammars_agree lines table = (written lines table, parsed_plainly lines table)

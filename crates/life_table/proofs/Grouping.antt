@@ -11,7 +11,7 @@ use Rattle.std.proofs.lemmas.List.{take_more_set}
 use Rattle.std.proofs.lemmas.List.Sums.{sum_by-cons, sum_by_push}
 use Rattle.std.proofs.lemmas.Bool.{eqb-false, or_parts, or_from, or_cases, or_left, or_right}
 use Rattle.life_table.specs.Valid.{IsEntry, is_variable}
-use Rattle.life_table.specs.Taking.{of_state, open_state, wanted, add_to, has_group, IsDistinct, first_variable, IsGrouped, AreGroups}
+use Rattle.life_table.specs.Taking.{of_state, open_state, wanted_inputs, add_to, has_group, IsDistinct, first_variable, IsGrouped, AreGroups}
 use Rattle.life_table.proofs.Free.{of_sum, zero_of}
 use Rattle.life_table.specs.declared.table.Var.{Var}
 use Rattle.life_table.specs.declared.table.Entry.{Entry}
@@ -23,19 +23,19 @@ use Rattle.life_base.proofs.Basics.{true_false}
 abbrev pub of_group : (ℕ → ℕ) → ℕ → Group → ℕ
 of_group choice t g = of_state t (choice g.variable) g.times
 
-wanted_add : (choice : ℕ → ℕ) (t number : ℕ) (groups : List Group) → wanted choice (add_to number groups) t ≡ wanted choice groups t + of_state t
+wanted_add : (choice : ℕ → ℕ) (t number : ℕ) (groups : List Group) → wanted_inputs choice (add_to number groups) t ≡ wanted_inputs choice groups t + of_state t
     (choice number) 1
 wanted_add choice t number [] = let e = sum_by-cons (of_group choice t) (record { variable = number; times = 1 }) [] in omega (arith, e)
 wanted_add choice t number (g ∷ groups) = elim (eqb_tells number g.variable) [
   | inl same ↦
-      let e = ap (λ b. wanted choice (cond b (record { variable = g.variable; times = g.times + 1 } ∷ groups) (g ∷ add_to number groups)) t) same.0 in
+      let e = ap (λ b. wanted_inputs choice (cond b (record { variable = g.variable; times = g.times + 1 } ∷ groups) (g ∷ add_to number groups)) t) same.0 in
       let f = sum_by-cons (of_group choice t) (record { variable = g.variable; times = g.times + 1 }) groups in
       let old = sum_by-cons (of_group choice t) g groups in
       let more = of_sum t (choice g.variable) (g.times + 1) g.times 1 refl in
       let one = ap (λ v. of_state t (choice v) 1) same.1 in
       omega (arith, e, f, old, more, one)
   | inr other ↦
-      let e = ap (λ b. wanted choice (cond b (record { variable = g.variable; times = g.times + 1 } ∷ groups) (g ∷ add_to number groups)) t) other.0 in
+      let e = ap (λ b. wanted_inputs choice (cond b (record { variable = g.variable; times = g.times + 1 } ∷ groups) (g ∷ add_to number groups)) t) other.0 in
       let f = sum_by-cons (of_group choice t) g (add_to number groups) in
       let old = sum_by-cons (of_group choice t) g groups in
       let r = wanted_add choice t number groups in

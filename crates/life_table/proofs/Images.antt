@@ -4,7 +4,7 @@ use Rattle.std.proofs.Math.Nat.{div_self, zero-mul}
 use Rattle.std.specs.List.{range_with_len}
 use Rattle.life_table.specs.Orders.{turn, turns, reflected_turn, reflected_turns, family, images}
 use Rattle.life_table.specs.Meaning.{Gives, GivesAs, GivesByCounts}
-use Rattle.life_table.specs.Found.{Tells, SomeGives}
+use Rattle.life_table.specs.Found.{IsFoundOf, SomeGives}
 use Rattle.life_table.specs.Valid.{neighbour_count}
 use Rattle.life_base.proofs.Members.{from_map}
 use Rattle.life_table.proofs.Adding.{directives_same}
@@ -22,8 +22,9 @@ pub four_or_eight : (n : Neighborhood) → (4 ≤ neighbour_count n) × (neighbo
 four_or_eight VonNeumann = (omega arith, omega arith)
 four_or_eight Moore = (omega arith, omega arith)
 
-pub tells_permute : (vars : List Var) (line : Transition) (centre : ℕ) (others : List ℕ) (found : Found) → Tells (GivesByCounts vars line centre others) found
-    → Tells (Gives Permute vars line centre others) found
+pub tells_permute : (vars : List Var) (line : Transition) (centre : ℕ) (others : List ℕ) (found : Found)
+    → IsFoundOf (GivesByCounts vars line centre others) found
+    → IsFoundOf (Gives Permute vars line centre others) found
 tells_permute vars line centre others found h =
     directives_same (GivesByCounts vars line centre others) (Gives Permute vars line centre others)
     (λ s g. (permute_law vars line centre others s).1 g) (λ s g. (permute_law vars line centre others s).0 g) found h
@@ -49,7 +50,8 @@ family_is symmetry sort is v chosen step reflect same are = ap (λ y. images y v
 
 -- what the images give is what the line gives
 pub tells_images : (symmetry : Symmetry) (vars : List Var) (line : Transition) (centre : ℕ) (others : List ℕ) (list : List (List ℕ)) (found : Found) →
-    list ≡ map (λ w. centre ∷ w) (images symmetry others) → Tells (SomeGives vars line list) found → Tells (Gives symmetry vars line centre others) found
+    list ≡ map (λ w. centre ∷ w) (images symmetry others) → IsFoundOf (SomeGives vars line list) found
+    → IsFoundOf (Gives symmetry vars line centre others) found
 tells_images symmetry vars line centre others list found are h =
     directives_same (SomeGives vars line list) (Gives symmetry vars line centre others)
     (λ s g.

@@ -9,7 +9,7 @@ use Rattle.std.proofs.lemmas.List.FromFn.{length-map-range_with_len, get_or-map-
 use Rattle.std.proofs.lemmas.Nat.Bits.{shr_and_one, bit_at_and, bit_at_or, bit_at_set_same, bit_at_set_other, bit_at-lt, bit_at-zero}
 use Rattle.std.proofs.lemmas.Bool.{cases_lt}
 use Rattle.std.proofs.Math.Nat.{div-div-eq-div-mul}
-use Rattle.life_table.specs.Index.{Stay, HasLine, HasLines, AreBlocks, MayFit, IsImage, MayGive}
+use Rattle.life_table.specs.Index.{Stay, BlockHasLine, HasLines, AreBlocks, MayFit, IsImage, MayGive}
 use Rattle.life_table.specs.Meaning.{IsChoice, state_of, Gives, GivesNothing}
 use Rattle.life_table.specs.Orders.{turn, turns, reflected_turn, reflected_turns, family, images}
 use Rattle.life_table.specs.Valid.{IsEntry}
@@ -111,7 +111,7 @@ bit_there n k h =
 -- ---- lines in sets
 
 -- a line may fit the states that a choice gives its inputs
-pub fits : (vars : List Var) (inputs : List Entry) (k : ℕ) (block : Block) → HasLine vars inputs k block → All (IsEntry 256 vars) inputs
+pub fits : (vars : List Var) (inputs : List Entry) (k : ℕ) (block : Block) → BlockHasLine vars inputs k block → All (IsEntry 256 vars) inputs
     → (choice : ℕ → ℕ) → IsChoice vars choice → (image : List ℕ) → map (state_of choice) inputs ≡ image → MayFit block image k
 fits vars inputs k block has are choice is image values =
     let size : length image ≡ length inputs = ap length (sym values) ∙ length-map inputs (state_of choice) in
@@ -130,7 +130,7 @@ fits vars inputs k block has are choice is image values =
 
 -- a line of a block that gives something is in the set that has those that may fit an image
 pub may_give_of : (symmetry : Symmetry) (vars : List Var) (line : Transition) (centre : ℕ) (others : List ℕ) (block : Block) (k set : ℕ)
-    → HasLine vars line.inputs k block → All (IsEntry 256 vars) line.inputs
+    → BlockHasLine vars line.inputs k block → All (IsEntry 256 vars) line.inputs
     → ((v : List ℕ) → Contains (images symmetry others) v → MayFit block (centre ∷ v) k → bit_at set k ≡ 1)
     → (s : ℕ) → Gives symmetry vars line centre others s → bit_at set k ≡ 1
 may_give_of symmetry vars line centre others block k set has are in_set s g =

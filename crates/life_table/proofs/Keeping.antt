@@ -4,7 +4,7 @@ use Rattle.std.proofs.lemmas.List.{map-append}
 use Rattle.std.proofs.lemmas.List.Elements.{All-push, All-weaker, All-head, All-tail, filter-append}
 use Rattle.std.proofs.lemmas.Option.{slice_get_within}
 use Rattle.std.proofs.lemmas.Bool.{and_right}
-use Rattle.life_table.specs.Reading.{Numbered, all_some, is_descriptor, key_of, setting_of, is_states_key, is_neighborhood_key, is_symmetry_key, states_named, neighborhood_named, symmetry_named, is_variable_line, entry_of, states_of_entry, states_listed, between_commas, within_braces, name_text, list_text, variable_states, variable_of, union_of}
+use Rattle.life_table.specs.Reading.{NumberedLine, all_some, is_descriptor, key_of, setting_of, is_states_key, is_neighborhood_key, is_symmetry_key, states_named, neighborhood_named, symmetry_named, is_variable_line, entry_of, states_of_entry, states_listed, between_commas, within_braces, variable_name, list_text, variable_states, variable_of, union_of}
 use Rattle.life_table.specs.Laws.{is_variable_text, variable_on}
 use Rattle.life_table.specs.declared.table.Neighborhood.{Neighborhood}
 use Rattle.life_table.specs.declared.table.Symmetry.{Symmetry}
@@ -24,8 +24,8 @@ Settled on oh oy text =
     ⊎ (((is_neighborhood_key (key_of text) ≡ true) × (h : Neighborhood) × (neighborhood_named (setting_of text) ≡ Some h) × (oh ≡ Some h))
     ⊎ ((is_symmetry_key (key_of text) ≡ true) × (y : Symmetry) × (symmetry_named (setting_of text) ≡ Some y) × (oy ≡ Some y)))
 
-abbrev pub AreSettled : Option ℕ → Option Neighborhood → Option Symmetry → List Numbered → Type 0
-AreSettled on oh oy ts = All (λ (t : Numbered). is_descriptor t.1 ≡ true → Settled on oh oy t.1) ts
+abbrev pub AreSettled : Option ℕ → Option Neighborhood → Option Symmetry → List NumberedLine → Type 0
+AreSettled on oh oy ts = All (λ (t : NumberedLine). is_descriptor t.1 ≡ true → Settled on oh oy t.1) ts
 
 -- what is there stays
 abbrev pub Stays : {X : Type 0} → Option X → Option X → Type 0
@@ -43,13 +43,13 @@ module _ (on on' : Option ℕ) (oh oh' : Option Neighborhood) (oy oy' : Option S
   settled_kept text (inr (inl s)) = inr (inl (s.0, s.1, s.2, h s.1 s.3))
   settled_kept text (inr (inr s)) = inr (inr (s.0, s.1, s.2, y s.1 s.3))
 
-  all_kept : (ts : List Numbered) → AreSettled on oh oy ts → AreSettled on' oh' oy' ts
-  all_kept = All-weaker (λ (t : Numbered). is_descriptor t.1 ≡ true → Settled on oh oy t.1) (λ t. is_descriptor t.1 ≡ true → Settled on' oh' oy' t.1)
+  all_kept : (ts : List NumberedLine) → AreSettled on oh oy ts → AreSettled on' oh' oy' ts
+  all_kept = All-weaker (λ (t : NumberedLine). is_descriptor t.1 ≡ true → Settled on oh oy t.1) (λ t. is_descriptor t.1 ≡ true → Settled on' oh' oy' t.1)
       (λ t s d. settled_kept t.1 (s d))
 
-  pub settled_more : (ts : List Numbered) (x : Numbered) → AreSettled on oh oy ts → (is_descriptor x.1 ≡ true → Settled on' oh' oy' x.1)
+  pub settled_more : (ts : List NumberedLine) (x : NumberedLine) → AreSettled on oh oy ts → (is_descriptor x.1 ≡ true → Settled on' oh' oy' x.1)
       → AreSettled on' oh' oy' (ts ++ x ∷ [])
-  settled_more ts x a s = All-push (λ (t : Numbered). is_descriptor t.1 ≡ true → Settled on' oh' oy' t.1) ts x (all_kept ts a) s
+  settled_more ts x a s = All-push (λ (t : NumberedLine). is_descriptor t.1 ≡ true → Settled on' oh' oy' t.1) ts x (all_kept ts a) s
 
 -- 2. One more variable changes no list of states that was read
 
@@ -76,20 +76,20 @@ module _ (n : ℕ) (vars : List Var) (v : Var) where
 abbrev pub directive : Var → List ℕ × Option (List ℕ)
 directive var = (var.name, Some var.states)
 
-abbrev pub variable_texts : List Numbered → List Numbered
-variable_texts ts = filter (λ (text : Numbered). is_variable_text text.1) ts
+abbrev pub variable_texts : List NumberedLine → List NumberedLine
+variable_texts ts = filter (λ (text : NumberedLine). is_variable_text text.1) ts
 
-abbrev pub on_lines : ℕ → List Var → List Numbered → List (List ℕ × Option (List ℕ))
-on_lines n vars ts = map (λ (text : Numbered). variable_on n vars text.1) ts
+abbrev pub on_lines : ℕ → List Var → List NumberedLine → List (List ℕ × Option (List ℕ))
+on_lines n vars ts = map (λ (text : NumberedLine). variable_on n vars text.1) ts
 
 -- each line of a variable gives one, with its name and its states
-abbrev pub AreVariables : ℕ → List Var → List Numbered → Type 0
+abbrev pub AreVariables : ℕ → List Var → List NumberedLine → Type 0
 AreVariables n vars ts = map directive vars ≡ on_lines n vars (variable_texts ts)
 
 same_pair : (a b : List ℕ) (o p : Option (List ℕ)) → a ≡ b → o ≡ p → (let q : List ℕ × Option (List ℕ) = (a, o) in q) ≡ (b, p)
 same_pair a b o p e f = cc
 
-on_lines_kept : (n : ℕ) (vars : List Var) (v : Var) (some : List Var) (ts : List Numbered) → map directive some ≡ on_lines n vars ts
+on_lines_kept : (n : ℕ) (vars : List Var) (v : Var) (some : List Var) (ts : List NumberedLine) → map directive some ≡ on_lines n vars ts
     → map directive some ≡ on_lines n (vars ++ v ∷ []) ts
 on_lines_kept n vars v [] [] h = refl
 on_lines_kept n vars v [] (t ∷ ts) h = absurd (let z : ⊥ = cc in z)
@@ -97,57 +97,58 @@ on_lines_kept n vars v (w ∷ some) [] h = absurd (let z : ⊥ = cc in z)
 on_lines_kept n vars v (w ∷ some) (t ∷ ts) h =
     let first : directive w ≡ variable_on n vars t.1 = cc in
     let rest : map directive some ≡ on_lines n vars ts = cc in
-    let name : w.name ≡ name_text t.1 = ap (λ (p : List ℕ × Option (List ℕ)). p.0) first in
+    let name : w.name ≡ variable_name t.1 = ap (λ (p : List ℕ × Option (List ℕ)). p.0) first in
     let states : Some w.states ≡ states_listed n vars (within_braces (list_text t.1)) = ap (λ (p : List ℕ × Option (List ℕ)). p.1) first in
     let kept : states_listed n (vars ++ v ∷ []) (within_braces (list_text t.1)) ≡ Some w.states = list_kept n vars v (within_braces (list_text t.1)) w.states
     (sym states) in
-    let head : directive w ≡ variable_on n (vars ++ v ∷ []) t.1 = same_pair w.name (name_text t.1) (Some w.states)
+    let head : directive w ≡ variable_on n (vars ++ v ∷ []) t.1 = same_pair w.name (variable_name t.1) (Some w.states)
     (states_listed n (vars ++ v ∷ []) (within_braces (list_text t.1))) name (sym kept) in
     ap (λ (p : List ℕ × Option (List ℕ)). p ∷ map directive some) head
     ∙ ap (λ (ps : List (List ℕ × Option (List ℕ))). variable_on n (vars ++ v ∷ []) t.1 ∷ ps) (on_lines_kept n vars v some ts rest)
 
 written_parts : (n : ℕ) (vars : List Var) (text : List ℕ) (var : Var) → variable_of n vars text ≡ Some var
-    → (var.name ≡ name_text text) × (states_listed n vars (within_braces (list_text text)) ≡ Some var.states)
+    → (var.name ≡ variable_name text) × (states_listed n vars (within_braces (list_text text)) ≡ Some var.states)
 unfolding variable_of
 written_parts n vars text var h =
-    let m = mapped (λ (states : List ℕ). record { name = name_text text; states = states }) (variable_states n vars (name_text text) (list_text text)) var h in
-    let s = states_case n vars (name_text text) (list_text text) m.0 m.1 in
+    let m = mapped (λ (states : List ℕ). record { name = variable_name text; states = states }) (variable_states n vars (variable_name text) (list_text text))
+    var h in
+    let s = states_case n vars (variable_name text) (list_text text) m.0 m.1 in
     (ap (λ (v : Var). v.name) m.2, s.1 ∙ ap Some (sym (ap (λ (v : Var). v.states) m.2)))
 
-one_text : (x : Numbered) (b : Bool) → is_variable_text x.1 ≡ b → variable_texts (x ∷ []) ≡ (if b then x ∷ [] else [])
+one_text : (x : NumberedLine) (b : Bool) → is_variable_text x.1 ≡ b → variable_texts (x ∷ []) ≡ (if b then x ∷ [] else [])
 one_text x b e = ap (λ (c : Bool). if c then x ∷ [] else []) e
 
-texts_more : (ts : List Numbered) (x : Numbered) (b : Bool) → is_variable_text x.1 ≡ b → variable_texts (ts ++ x ∷ []) ≡ variable_texts ts
+texts_more : (ts : List NumberedLine) (x : NumberedLine) (b : Bool) → is_variable_text x.1 ≡ b → variable_texts (ts ++ x ∷ []) ≡ variable_texts ts
     ++ (if b then x ∷ [] else [])
-texts_more ts x b e = filter-append (λ (text : Numbered). is_variable_text text.1) ts (x ∷ [])
-    ∙ ap (λ (us : List Numbered). variable_texts ts ++ us) (one_text x b e)
+texts_more ts x b e = filter-append (λ (text : NumberedLine). is_variable_text text.1) ts (x ∷ [])
+    ∙ ap (λ (us : List NumberedLine). variable_texts ts ++ us) (one_text x b e)
 
-pub variables_same : (n : ℕ) (vars : List Var) (ts : List Numbered) (x : Numbered) → AreVariables n vars ts → is_variable_text x.1 ≡ false
+pub variables_same : (n : ℕ) (vars : List Var) (ts : List NumberedLine) (x : NumberedLine) → AreVariables n vars ts → is_variable_text x.1 ≡ false
     → AreVariables n vars (ts ++ x ∷ [])
 variables_same n vars ts x a e = a ∙ ap (on_lines n vars) (sym (texts_more ts x false e ∙ append-nil (variable_texts ts)))
 
-pub variables_new : (n : ℕ) (vars : List Var) (v : Var) (ts : List Numbered) (x : Numbered) → AreVariables n vars ts → is_variable_text x.1 ≡ true
+pub variables_new : (n : ℕ) (vars : List Var) (v : Var) (ts : List NumberedLine) (x : NumberedLine) → AreVariables n vars ts → is_variable_text x.1 ≡ true
     → variable_of n vars x.1 ≡ Some v
     → AreVariables n (vars ++ v ∷ []) (ts ++ x ∷ [])
 variables_new n vars v ts x a e w =
     let p = written_parts n vars x.1 v w in
     let states : states_listed n (vars ++ v ∷ []) (within_braces (list_text x.1)) ≡ Some v.states = list_kept n vars v (within_braces (list_text x.1)) v.states
     p.1 in
-    let new : directive v ≡ variable_on n (vars ++ v ∷ []) x.1 = same_pair v.name (name_text x.1) (Some v.states)
+    let new : directive v ≡ variable_on n (vars ++ v ∷ []) x.1 = same_pair v.name (variable_name x.1) (Some v.states)
     (states_listed n (vars ++ v ∷ []) (within_braces (list_text x.1))) p.0 (sym states) in
     map-append directive vars (v ∷ [])
     ∙ ap (λ (us : List (List ℕ × Option (List ℕ))). us ++ directive v ∷ []) (on_lines_kept n vars v vars (variable_texts ts) a)
     ∙ ap (λ (u : List ℕ × Option (List ℕ)). on_lines n (vars ++ v ∷ []) (variable_texts ts) ++ u ∷ []) new
-    ∙ sym (map-append (λ (text : Numbered). variable_on n (vars ++ v ∷ []) text.1) (variable_texts ts) (x ∷ []))
+    ∙ sym (map-append (λ (text : NumberedLine). variable_on n (vars ++ v ∷ []) text.1) (variable_texts ts) (x ∷ []))
     ∙ ap (on_lines n (vars ++ v ∷ [])) (sym (texts_more ts x true e))
 
 -- descriptors are no variables
-no_texts : (ts : List Numbered) → AreDescriptors ts → variable_texts ts ≡ []
+no_texts : (ts : List NumberedLine) → AreDescriptors ts → variable_texts ts ≡ []
 no_texts [] h = refl
 no_texts (t ∷ ts) h =
-    let d = All-head (λ (u : Numbered). is_descriptor u.1 ≡ true) t ts h in
+    let d = All-head (λ (u : NumberedLine). is_descriptor u.1 ≡ true) t ts h in
     ap (λ (b : Bool). if b then t ∷ variable_texts ts else variable_texts ts) (and_right (is_variable_line t.1) (not (is_descriptor t.1)) (ap not d))
-    ∙ no_texts ts (All-tail (λ (u : Numbered). is_descriptor u.1 ≡ true) t ts h)
+    ∙ no_texts ts (All-tail (λ (u : NumberedLine). is_descriptor u.1 ≡ true) t ts h)
 
-pub variables_none : (n : ℕ) (vars : List Var) (ts : List Numbered) → AreDescriptors ts → vars ≡ [] → AreVariables n vars ts
+pub variables_none : (n : ℕ) (vars : List Var) (ts : List NumberedLine) → AreDescriptors ts → vars ≡ [] → AreVariables n vars ts
 variables_none n vars ts d e = ap (map directive) e ∙ sym (ap (on_lines n vars) (no_texts ts d))

@@ -6,7 +6,7 @@ use Rattle.std.proofs.lemmas.Slice.Eq.{bytes_eq-Decides}
 use Rattle.std.proofs.Math.Seq.{take-append_seam}
 use Rattle.life_base.specs.Text.{is_digit_text, value_of}
 use Rattle.life_table.specs.Grammar.{neighborhood_word, symmetry_word, IsVariableLine, IsTransitionLine}
-use Rattle.life_table.specs.Reading.{states_named, number_below, neighborhood_named, symmetry_named, all_some, entry_of, entries_of, transition_words, transition_from, transition_of, is_descriptor, is_variable_line, is_variable_name, is_list, is_bound, list_text, name_text, states_listed, variable_named, variable_of, variable_states, within_braces}
+use Rattle.life_table.specs.Reading.{states_named, number_below, neighborhood_named, symmetry_named, all_some, entry_of, entries_of, transition_words, transition_from, transition_of, is_descriptor, is_variable_line, is_variable_name, is_list, is_bound, list_text, variable_name, states_listed, variable_named, variable_of, variable_states, within_braces}
 use Rattle.life_table.specs.declared.table.Entry.{Entry}
 use Rattle.life_table.specs.declared.table.Neighborhood.{Neighborhood}
 use Rattle.life_table.specs.declared.table.Neighborhood.TheVariants.{VonNeumann, Moore}
@@ -105,30 +105,30 @@ module _ (n : ℕ) (vars : List Var) (text : List ℕ) (var : Var) where
   pub variable_is : IsVariableLine n vars text var → variable_of n vars text ≡ Some var
   unfolding variable_of variable_states
   variable_is v =
-      let form : is_variable_name (name_text text) ≡ true = ap is_variable_name (sym v.name) ∙ v.form in
-      let new : is_some (variable_named vars (name_text text)) ≡ false = ap is_some (ap (variable_named vars) (sym v.name) ∙ v.new) in
+      let form : is_variable_name (variable_name text) ≡ true = ap is_variable_name (sym v.name) ∙ v.form in
+      let new : is_some (variable_named vars (variable_name text)) ≡ false = ap is_some (ap (variable_named vars) (sym v.name) ∙ v.new) in
       let listed : Option (List ℕ) = if is_list (list_text text) then states_listed n vars (within_braces (list_text text)) else None in
-      let states : variable_states n vars (name_text text) (list_text text) ≡ Some var.states =
-      take_then (is_variable_name (name_text text)) (if is_some (variable_named vars (name_text text)) then None else listed) None form
-      ∙ take_else (is_some (variable_named vars (name_text text))) None listed new
+      let states : variable_states n vars (variable_name text) (list_text text) ≡ Some var.states =
+      take_then (is_variable_name (variable_name text)) (if is_some (variable_named vars (variable_name text)) then None else listed) None form
+      ∙ take_else (is_some (variable_named vars (variable_name text))) None listed new
       ∙ take_then (is_list (list_text text)) (states_listed n vars (within_braces (list_text text))) None v.braces ∙ v.states in
-      ap (option_map (λ (s : List ℕ). new_var s (name_text text))) states ∙ ap (λ (name : List ℕ). Some (new_var var.states name)) (sym v.name)
+      ap (option_map (λ (s : List ℕ). new_var s (variable_name text))) states ∙ ap (λ (name : List ℕ). Some (new_var var.states name)) (sym v.name)
 
   pub variable_parsed : is_descriptor text ≡ false → is_variable_line text ≡ true → variable_of n vars text ≡ Some var → IsVariableLine n vars text var
   unfolding variable_of variable_states
   variable_parsed d b h =
       let listed : Option (List ℕ) = if is_list (list_text text) then states_listed n vars (within_braces (list_text text)) else None in
-      let m = mapped (λ (s : List ℕ). new_var s (name_text text)) (variable_states n vars (name_text text) (list_text text)) var h in
-      let x = tested (is_variable_name (name_text text)) (if is_some (variable_named vars (name_text text)) then None else listed) m.0 m.1 in
-      let y = tested_not (is_some (variable_named vars (name_text text))) listed m.0 x.1 in
+      let m = mapped (λ (s : List ℕ). new_var s (variable_name text)) (variable_states n vars (variable_name text) (list_text text)) var h in
+      let x = tested (is_variable_name (variable_name text)) (if is_some (variable_named vars (variable_name text)) then None else listed) m.0 m.1 in
+      let y = tested_not (is_some (variable_named vars (variable_name text))) listed m.0 x.1 in
       let z = tested (is_list (list_text text)) (states_listed n vars (within_braces (list_text text))) m.0 y.1 in
-      let name : var.name ≡ name_text text = ap (λ (v : Var). v.name) m.2 in
+      let name : var.name ≡ variable_name text = ap (λ (v : Var). v.name) m.2 in
       record {
         colon = d;
         begins = b;
         name = name;
         form = ap is_variable_name name ∙ x.0;
-        new = ap (variable_named vars) name ∙ not_some (variable_named vars (name_text text)) y.0;
+        new = ap (variable_named vars) name ∙ not_some (variable_named vars (variable_name text)) y.0;
         braces = z.0;
         states = z.1 ∙ ap Some (sym (ap (λ (v : Var). v.states) m.2));
       }

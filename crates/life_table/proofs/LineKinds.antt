@@ -9,8 +9,8 @@ use Rattle.life_base.proofs.LineKinds.{names_line as kinds_name_lines}
 use Rattle.life_base.proofs.RuleKinds.{errs_by, errs_by_cases}
 use Rattle.life_base.proofs.Basics.{le_or_lt}
 use Rattle.life_table.specs.Valid.{neighbour_count, is_quiet}
-use Rattle.life_table.specs.Laws.{LinesBreakByKinds, RefusalsHaveKinds}
-use Rattle.life_table.specs.Reading.{is_table_kind, broken, missing, lacking, is_ahead, is_described, parsed_by, number_behind, fault_in, parse_line, parse_in_section, parse_in_table, parse_rest, parse_settled, parse_ahead, parse_descriptor, if_named, if_states, if_neighborhood, if_symmetry, if_variable, if_transition, name_on, is_passed_over, is_table_line, is_section_line, is_descriptor, content, key_of, setting_of, is_states_key, is_neighborhood_key, is_symmetry_key, states_named, neighborhood_named, symmetry_named, agree, is_variable_line, variable_of, transition_of, is_bound}
+use Rattle.life_table.specs.Laws.{TableLinesBreakByKinds, TableRefusalsHaveKinds}
+use Rattle.life_table.specs.Reading.{is_table_kind, broken_table_rule, missing_table_part, missing_part_of, is_ahead, is_described, parsed_by, number_after, fault_in, parse_line, parse_in_section, parse_in_table, parse_rest, parse_settled, parse_ahead, parse_descriptor, if_named, if_states, if_neighborhood, if_symmetry, if_variable, if_transition, name_on, is_passed_over, is_table_line, is_section_line, is_descriptor, line_content, key_of, setting_of, is_states_key, is_neighborhood_key, is_symmetry_key, states_named, neighborhood_named, symmetry_named, agree, is_variable_line, variable_of, transition_of, is_bound}
 use Rattle.life_table.specs.declared.directive.Parsed.{Parsed}
 use Rattle.life_table.specs.declared.directive.Section.{Section}
 use Rattle.life_table.specs.declared.directive.Section.TheVariants.{Ahead, Open, Behind}
@@ -98,14 +98,14 @@ in_rest None h y vars lines number text = refl
 in_table : (parsed : Parsed) (number : ℕ) (line : List ℕ) → InKinds (parse_in_table parsed number line)
 in_table parsed number line =
     let closing : Result Directive Kind = cond (is_described parsed) (Ok TableEnds) (Err kinds.BadDescriptor) in
-    let descriptor : Result Directive Kind = parse_descriptor parsed.n_states parsed.neighborhood parsed.symmetry (content line) in
-    let rest : Result Directive Kind = parse_rest parsed.n_states parsed.neighborhood parsed.symmetry parsed.vars parsed.lines number (content line) in
-    let says : Result Directive Kind = cond (is_descriptor (content line)) descriptor rest in
-    let blank : Result Directive Kind = cond (is_empty (content line)) (Ok Nothing) says in
+    let descriptor : Result Directive Kind = parse_descriptor parsed.n_states parsed.neighborhood parsed.symmetry (line_content line) in
+    let rest : Result Directive Kind = parse_rest parsed.n_states parsed.neighborhood parsed.symmetry parsed.vars parsed.lines number (line_content line) in
+    let says : Result Directive Kind = cond (is_descriptor (line_content line)) descriptor rest in
+    let blank : Result Directive Kind = cond (is_empty (line_content line)) (Ok Nothing) says in
     either (is_section_line line) closing blank (either (is_described parsed) (Ok TableEnds) (Err kinds.BadDescriptor) refl refl)
-    (either (is_empty (content line)) (Ok Nothing) says refl
-    (either (is_descriptor (content line)) descriptor rest (in_descriptor parsed.n_states parsed.neighborhood parsed.symmetry (content line))
-    (in_rest parsed.n_states parsed.neighborhood parsed.symmetry parsed.vars parsed.lines number (content line))))
+    (either (is_empty (line_content line)) (Ok Nothing) says refl
+    (either (is_descriptor (line_content line)) descriptor rest (in_descriptor parsed.n_states parsed.neighborhood parsed.symmetry (line_content line))
+    (in_rest parsed.n_states parsed.neighborhood parsed.symmetry parsed.vars parsed.lines number (line_content line))))
 
 in_section : (section : Section) (parsed : Parsed) (number : ℕ) (line : List ℕ) → InKinds (parse_in_section section parsed number line)
 in_section Ahead parsed number line = in_front parsed.name line
@@ -124,11 +124,11 @@ kind_of : (r : Result Directive Kind) (kind : Kind) → errs_by is_table_kind r 
 kind_of (Ok directive) kind h e = cc
 kind_of (Err other) kind h e = let same : other ≡ kind = cc in ap is_table_kind (sym same) ∙ h
 
-pub lines_break_by_kinds : LinesBreakByKinds
-unfolding broken
+pub lines_break_by_kinds : TableLinesBreakByKinds
+unfolding broken_table_rule
 lines_break_by_kinds front line kind e =
     let parsed : Parsed = parsed_by (numbered_from 1 front) in
-    kind_of (parse_line parsed (number_behind front) line) kind (directive_kinds parsed (number_behind front) line) e
+    kind_of (parse_line parsed (number_after front) line) kind (directive_kinds parsed (number_after front) line) e
 
 -- ---- the end of a file
 
@@ -139,14 +139,14 @@ by_lack false true d kind e = let same : kinds.NoTable ≡ kind = cc in ap is_ta
 by_lack false false true kind e = cc
 by_lack false false false kind e = let same : kinds.BadDescriptor ≡ kind = cc in ap is_table_kind (sym same)
 
-pub lacking_kind : (parsed : Parsed) (kind : Kind) → lacking parsed ≡ Some kind → is_table_kind kind ≡ true
+pub lacking_kind : (parsed : Parsed) (kind : Kind) → missing_part_of parsed ≡ Some kind → is_table_kind kind ≡ true
 lacking_kind parsed kind e = by_lack (is_none parsed.name) (is_ahead parsed.section) (is_described parsed) kind e
 
-missing_kind : (lines : List (List ℕ)) (kind : Kind) → missing lines ≡ Some kind → is_table_kind kind ≡ true
-unfolding missing
+missing_kind : (lines : List (List ℕ)) (kind : Kind) → missing_table_part lines ≡ Some kind → is_table_kind kind ≡ true
+unfolding missing_table_part
 missing_kind lines kind e = lacking_kind (parsed_by (numbered_from 1 lines)) kind e
 
-pub refusals_have_kinds : RefusalsHaveKinds
+pub refusals_have_kinds : TableRefusalsHaveKinds
 refusals_have_kinds lines fault r = elim (le_or_lt r.n (length lines)) [
   | inl within ↦ lines_break_by_kinds (take (r.n - 1) lines) (slice_index_or lines (r.n - 1) []) fault.kind (r.at_line within)
   | inr beyond ↦ missing_kind lines fault.kind (r.at_end beyond)

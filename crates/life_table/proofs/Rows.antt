@@ -5,7 +5,7 @@ use Rattle.life_base.specs.Text.{numbered_from}
 use Rattle.life_base.specs.Rules.{rule_of, life_sets, four_sets}
 use Rattle.life_base.specs.declared.kind.Kind.{Kind}
 use Rattle.life_base.specs.declared.kind.Kind.TheVariants.{NoRuleLine, NoTable, BadDescriptor, UnsupportedNeighborhood, UnsupportedSymmetry, BadVariable, BadTransition, UnboundOutput, NotQuiet}
-use Rattle.life_table.specs.Reading.{broken, missing, parsed_by, parse_line, parse_descriptor, name_of, section_of, table_texts, entry_of, states_listed, entries_of, variable_states, variable_of, transition_of}
+use Rattle.life_table.specs.Reading.{broken_table_rule, missing_table_part, parsed_by, parse_line, parse_descriptor, name_of, section_of, table_texts, entry_of, states_listed, entries_of, variable_states, variable_of, transition_of}
 use Rattle.life_table.specs.declared.directive.Parsed.{Parsed}
 use Rattle.life_table.specs.declared.directive.Section.TheVariants.{Open, Behind}
 use Rattle.life_table.specs.declared.table.Neighborhood.TheVariants.{VonNeumann}
@@ -16,7 +16,7 @@ use Rattle.life_table.specs.declared.table.Transition.{Transition}
 
 -- the rule that each line breaks, if it breaks one
 abbrev faults : List (List ℕ) → List (Option Kind)
-faults lines = map (λ k. broken (take k lines) (slice_index_or lines k [])) (range_with_len 0 (length lines))
+faults lines = map (λ k. broken_table_rule (take k lines) (slice_index_or lines k [])) (range_with_len 0 (length lines))
 
 -- a fault of the line behind this many lines
 abbrev after : ℕ → Kind → List (Option Kind)
@@ -103,7 +103,8 @@ fault_rows =
     []
 
 faults_are_found : map (λ row. faults row.0) fault_rows ≡ map (λ row. row.1) fault_rows
-unfolding broken parse_line parse_descriptor name_of section_of table_texts entry_of states_listed entries_of variable_states variable_of transition_of rule_of
+unfolding broken_table_rule parse_line parse_descriptor name_of section_of table_texts entry_of states_listed entries_of variable_states variable_of
+    transition_of rule_of
     life_sets four_sets
 faults_are_found = refl
 
@@ -116,7 +117,8 @@ missing_rows =
     (codes "@RULE A" ∷ codes "@TABLE" ∷ [], Some BadDescriptor) ∷
     []
 
-missing_is_found : map (λ row. missing row.0) missing_rows ≡ map (λ row. row.1) missing_rows
-unfolding missing parse_line parse_descriptor name_of section_of table_texts entry_of states_listed entries_of variable_states variable_of transition_of rule_of
+missing_is_found : map (λ row. missing_table_part row.0) missing_rows ≡ map (λ row. row.1) missing_rows
+unfolding missing_table_part parse_line parse_descriptor name_of section_of table_texts entry_of states_listed entries_of variable_states variable_of
+    transition_of rule_of
     life_sets four_sets
 missing_is_found = refl

@@ -6,8 +6,8 @@ use Rattle.std.proofs.lemmas.List.Elements.{All-push}
 use Rattle.std.proofs.lemmas.Slice.Eq.{bytes_eq-Decides}
 use Rattle.std.proofs.lemmas.Bool.{or_cases}
 use Rattle.life_table.specs.Valid.{neighbour_count}
-use Rattle.life_table.specs.Reading.{Numbered, texts_of, parsed_in, is_descriptor, key_of, setting_of, is_states_key, is_neighborhood_key, is_symmetry_key, states_named, neighborhood_named, symmetry_named, states_of, neighborhood_of, symmetry_of, is_variable_line, variable_of, variables_written, variables_in, is_transition_line, transition_of, transitions_written, transitions_in}
-use Rattle.life_table.specs.Reader.{after}
+use Rattle.life_table.specs.Reading.{NumberedLine, texts_of_lines, parsed_in, is_descriptor, key_of, setting_of, is_states_key, is_neighborhood_key, is_symmetry_key, states_named, neighborhood_named, symmetry_named, states_of, neighborhood_of, symmetry_of, is_variable_line, variable_of, variables_written, variables_in, is_transition_line, transition_of, transitions_written, transitions_in}
+use Rattle.life_table.specs.Reader.{parsed_after}
 use Rattle.life_table.specs.declared.directive.Parsed.{Parsed}
 use Rattle.life_table.specs.declared.directive.Section.{Section}
 use Rattle.life_table.specs.declared.directive.Section.TheVariants.{Open}
@@ -22,12 +22,13 @@ use Rattle.life_table.proofs.Keeping.{AreSettled, Settled, settled_more, Stays, 
 use Rattle.life_table.proofs.Texts.{setting_same, setting_new, this_key, other_key, no_descriptor, written, variables_more, transitions_more, IsRead, transitions_kept, AreDescriptors, no_variables, no_transitions, none_to_read, on_line}
 
 -- the texts so far: all are descriptors until all three settings are given, and each transition's line is read
-pub record TextsStand (ts : List Numbered) : Type 0 where
-  pub early : (is_some (states_of (texts_of ts)) && is_some (neighborhood_of (texts_of ts)) && is_some (symmetry_of (texts_of ts))) ≡ false → AreDescriptors ts
-  pub read : (n : ℕ) (h : Neighborhood) → states_of (texts_of ts) ≡ Some n → neighborhood_of (texts_of ts) ≡ Some h
-      → All (IsRead n (neighbour_count h) (variables_written n (texts_of ts))) ts
-  pub settled : AreSettled (states_of (texts_of ts)) (neighborhood_of (texts_of ts)) (symmetry_of (texts_of ts)) ts
-  pub variables : (n : ℕ) → states_of (texts_of ts) ≡ Some n → AreVariables n (variables_written n (texts_of ts)) ts
+pub record TextsStand (ts : List NumberedLine) : Type 0 where
+  pub early : (is_some (states_of (texts_of_lines ts)) && is_some (neighborhood_of (texts_of_lines ts)) && is_some (symmetry_of (texts_of_lines ts))) ≡ false
+      → AreDescriptors ts
+  pub read : (n : ℕ) (h : Neighborhood) → states_of (texts_of_lines ts) ≡ Some n → neighborhood_of (texts_of_lines ts) ≡ Some h
+      → All (IsRead n (neighbour_count h) (variables_written n (texts_of_lines ts))) ts
+  pub settled : AreSettled (states_of (texts_of_lines ts)) (neighborhood_of (texts_of_lines ts)) (symmetry_of (texts_of_lines ts)) ts
+  pub variables : (n : ℕ) → states_of (texts_of_lines ts) ≡ Some n → AreVariables n (variables_written n (texts_of_lines ts)) ts
 
 -- no key is another
 alone : (is_key : List ℕ → Bool) (own key : List ℕ) → is_key own ≡ false → bytes_eq key own ≡ true → is_key key ≡ false
@@ -54,57 +55,58 @@ not_described true true c (inr (inr h)) = h
 not_described true false c h = refl
 not_described false b c h = refl
 
-module _ (name : Option (List ℕ)) (ts : List Numbered) (number : ℕ) (text : List ℕ) (stand : TextsStand ts) where
-  abbrev x : Numbered
+module _ (name : Option (List ℕ)) (ts : List NumberedLine) (number : ℕ) (text : List ℕ) (stand : TextsStand ts) where
+  abbrev x : NumberedLine
   x = (number, text)
 
   abbrev on : Option ℕ
-  on = states_of (texts_of ts)
+  on = states_of (texts_of_lines ts)
 
   abbrev oh : Option Neighborhood
-  oh = neighborhood_of (texts_of ts)
+  oh = neighborhood_of (texts_of_lines ts)
 
   abbrev oy : Option Symmetry
-  oy = symmetry_of (texts_of ts)
+  oy = symmetry_of (texts_of_lines ts)
 
   abbrev on' : Option ℕ
-  on' = states_of (texts_of (ts ++ x ∷ []))
+  on' = states_of (texts_of_lines (ts ++ x ∷ []))
 
   abbrev oh' : Option Neighborhood
-  oh' = neighborhood_of (texts_of (ts ++ x ∷ []))
+  oh' = neighborhood_of (texts_of_lines (ts ++ x ∷ []))
 
   abbrev oy' : Option Symmetry
-  oy' = symmetry_of (texts_of (ts ++ x ∷ []))
+  oy' = symmetry_of (texts_of_lines (ts ++ x ∷ []))
 
   -- one more descriptor
   module _ (d : is_descriptor text ≡ true) (all : AreDescriptors ts) where
     more_described : AreDescriptors (ts ++ x ∷ [])
-    more_described = All-push (λ (t : Numbered). is_descriptor t.1 ≡ true) ts x all d
+    more_described = All-push (λ (t : NumberedLine). is_descriptor t.1 ≡ true) ts x all d
 
-    described_vars : variables_in on' (texts_of (ts ++ x ∷ [])) ≡ variables_in on (texts_of ts)
+    described_vars : variables_in on' (texts_of_lines (ts ++ x ∷ [])) ≡ variables_in on (texts_of_lines ts)
     described_vars = no_variables on' (ts ++ x ∷ []) more_described ∙ sym (no_variables on ts all)
 
-    described_lines : transitions_in on' oh' (variables_in on' (texts_of (ts ++ x ∷ []))) (ts ++ x ∷ []) ≡ transitions_in on oh (variables_in on (texts_of ts))
+    described_lines : transitions_in on' oh' (variables_in on' (texts_of_lines (ts ++ x ∷ []))) (ts ++ x ∷ [])
+        ≡ transitions_in on oh (variables_in on (texts_of_lines ts))
         ts
-    described_lines = no_transitions on' oh' (variables_in on' (texts_of (ts ++ x ∷ []))) (ts ++ x ∷ []) more_described
-        ∙ sym (no_transitions on oh (variables_in on (texts_of ts)) ts all)
+    described_lines = no_transitions on' oh' (variables_in on' (texts_of_lines (ts ++ x ∷ []))) (ts ++ x ∷ []) more_described
+        ∙ sym (no_transitions on oh (variables_in on (texts_of_lines ts)) ts all)
 
     described_stand : Stays on on' → Stays oh oh' → Stays oy oy' → Settled on' oh' oy' text → TextsStand (ts ++ x ∷ [])
     described_stand n h y s = record {
       early = λ _. more_described;
-      read = λ n h en eh. none_to_read n (neighbour_count h) (variables_written n (texts_of (ts ++ x ∷ []))) (ts ++ x ∷ []) more_described;
+      read = λ n h en eh. none_to_read n (neighbour_count h) (variables_written n (texts_of_lines (ts ++ x ∷ []))) (ts ++ x ∷ []) more_described;
       settled = settled_more on on' oh oh' oy oy' n h y ts x stand.settled (λ _. s);
-      variables = λ n en. variables_none n (variables_written n (texts_of (ts ++ x ∷ []))) (ts ++ x ∷ []) more_described
+      variables = λ n en. variables_none n (variables_written n (texts_of_lines (ts ++ x ∷ []))) (ts ++ x ∷ []) more_described
           (no_variables (Some n) (ts ++ x ∷ []) more_described);
     }
 
   -- one more variable or transition
   module _ (d : is_descriptor text ≡ false) (n : ℕ) (h : Neighborhood) (y : Symmetry) (en : on ≡ Some n) (eh : oh ≡ Some h) (ey : oy ≡ Some y) where
     abbrev V : List Var
-    V = variables_written n (texts_of ts)
+    V = variables_written n (texts_of_lines ts)
 
-    vars_are : variables_in on (texts_of ts) ≡ V
-    vars_are = ap (λ (o : Option ℕ). variables_in o (texts_of ts)) en
+    vars_are : variables_in on (texts_of_lines ts) ≡ V
+    vars_are = ap (λ (o : Option ℕ). variables_in o (texts_of_lines ts)) en
 
     states_same : on' ≡ on
     states_same = setting_same is_states_key states_named ts x (no_descriptor is_states_key text d)
@@ -115,27 +117,27 @@ module _ (name : Option (List ℕ)) (ts : List Numbered) (number : ℕ) (text : 
     symmetry_same : oy' ≡ oy
     symmetry_same = setting_same is_symmetry_key symmetry_named ts x (no_descriptor is_symmetry_key text d)
 
-    vars_then : (new : List Var) → written n V text ≡ new → variables_in on' (texts_of (ts ++ x ∷ [])) ≡ V ++ new
-    vars_then new w = ap (λ (o : Option ℕ). variables_in o (texts_of (ts ++ x ∷ []))) (states_same ∙ en) ∙ variables_more n ts x
+    vars_then : (new : List Var) → written n V text ≡ new → variables_in on' (texts_of_lines (ts ++ x ∷ [])) ≡ V ++ new
+    vars_then new w = ap (λ (o : Option ℕ). variables_in o (texts_of_lines (ts ++ x ∷ []))) (states_same ∙ en) ∙ variables_more n ts x
         ∙ ap (λ (vs : List Var). V ++ vs) w
 
-    lines_are : transitions_in on oh (variables_in on (texts_of ts)) ts ≡ transitions_written n (neighbour_count h) V ts
-    lines_are = ap (λ (o : Option ℕ). transitions_in o oh (variables_in on (texts_of ts)) ts) en
-        ∙ ap (λ (o : Option Neighborhood). transitions_in (Some n) o (variables_in on (texts_of ts)) ts) eh
+    lines_are : transitions_in on oh (variables_in on (texts_of_lines ts)) ts ≡ transitions_written n (neighbour_count h) V ts
+    lines_are = ap (λ (o : Option ℕ). transitions_in o oh (variables_in on (texts_of_lines ts)) ts) en
+        ∙ ap (λ (o : Option Neighborhood). transitions_in (Some n) o (variables_in on (texts_of_lines ts)) ts) eh
         ∙ ap (λ (vs : List Var). transitions_written n (neighbour_count h) vs ts) vars_are
 
-    lines_then : (vars : List Var) → variables_in on' (texts_of (ts ++ x ∷ [])) ≡ vars
-        → transitions_in on' oh' (variables_in on' (texts_of (ts ++ x ∷ []))) (ts ++ x ∷ []) ≡ transitions_written n (neighbour_count h) vars ts
+    lines_then : (vars : List Var) → variables_in on' (texts_of_lines (ts ++ x ∷ [])) ≡ vars
+        → transitions_in on' oh' (variables_in on' (texts_of_lines (ts ++ x ∷ []))) (ts ++ x ∷ []) ≡ transitions_written n (neighbour_count h) vars ts
         ++ cons_option (on_line n (neighbour_count h) vars x) []
-    lines_then vars e = ap (λ (o : Option ℕ). transitions_in o oh' (variables_in on' (texts_of (ts ++ x ∷ []))) (ts ++ x ∷ [])) (states_same ∙ en)
-        ∙ ap (λ (o : Option Neighborhood). transitions_in (Some n) o (variables_in on' (texts_of (ts ++ x ∷ []))) (ts ++ x ∷ [])) (neighbors_same ∙ eh)
+    lines_then vars e = ap (λ (o : Option ℕ). transitions_in o oh' (variables_in on' (texts_of_lines (ts ++ x ∷ []))) (ts ++ x ∷ [])) (states_same ∙ en)
+        ∙ ap (λ (o : Option Neighborhood). transitions_in (Some n) o (variables_in on' (texts_of_lines (ts ++ x ∷ []))) (ts ++ x ∷ [])) (neighbors_same ∙ eh)
         ∙ ap (λ (vs : List Var). transitions_written n (neighbour_count h) vs (ts ++ x ∷ [])) e ∙ transitions_more n (neighbour_count h) vars ts x
 
     all_read : All (IsRead n (neighbour_count h) V) ts
     all_read = stand.read n h en eh
 
-    stand_then : All (IsRead n (neighbour_count h) (variables_written n (texts_of (ts ++ x ∷ [])))) (ts ++ x ∷ [])
-        → AreVariables n (variables_written n (texts_of (ts ++ x ∷ []))) (ts ++ x ∷ []) → TextsStand (ts ++ x ∷ [])
+    stand_then : All (IsRead n (neighbour_count h) (variables_written n (texts_of_lines (ts ++ x ∷ [])))) (ts ++ x ∷ [])
+        → AreVariables n (variables_written n (texts_of_lines (ts ++ x ∷ []))) (ts ++ x ∷ []) → TextsStand (ts ++ x ∷ [])
     stand_then all vars = record {
       early = λ e. absurd (
           let t : (is_some on' && is_some oh' && is_some oy') ≡ true =
@@ -145,17 +147,18 @@ module _ (name : Option (List ℕ)) (ts : List Numbered) (number : ℕ) (text : 
       read = λ m g em eg.
           let same_n : n ≡ m = (let z : Some n ≡ Some m = sym (states_same ∙ en) ∙ em in cc) in
           let same_h : h ≡ g = (let z : Some h ≡ Some g = sym (neighbors_same ∙ eh) ∙ eg in cc) in
-          subst (λ (m : ℕ). All (IsRead m (neighbour_count g) (variables_written m (texts_of (ts ++ x ∷ [])))) (ts ++ x ∷ [])) same_n
-          (subst (λ (g : Neighborhood). All (IsRead n (neighbour_count g) (variables_written n (texts_of (ts ++ x ∷ [])))) (ts ++ x ∷ [])) same_h all);
+          subst (λ (m : ℕ). All (IsRead m (neighbour_count g) (variables_written m (texts_of_lines (ts ++ x ∷ [])))) (ts ++ x ∷ [])) same_n
+          (subst (λ (g : Neighborhood). All (IsRead n (neighbour_count g) (variables_written n (texts_of_lines (ts ++ x ∷ [])))) (ts ++ x ∷ [])) same_h all);
       settled = settled_more on on' oh oh' oy oy' (stays_same on on' states_same) (stays_same oh oh' neighbors_same) (stays_same oy oy' symmetry_same) ts x
           stand.settled
           (λ e. absurd (let z : false ≡ true = sym d ∙ e in let w : ⊥ = cc in w));
       variables = λ m em.
           let same_n : n ≡ m = (let z : Some n ≡ Some m = sym (states_same ∙ en) ∙ em in cc) in
-          subst (λ (m : ℕ). AreVariables m (variables_written m (texts_of (ts ++ x ∷ []))) (ts ++ x ∷ [])) same_n vars;
+          subst (λ (m : ℕ). AreVariables m (variables_written m (texts_of_lines (ts ++ x ∷ []))) (ts ++ x ∷ [])) same_n vars;
     }
 
-    variable_written : (var : Var) → is_variable_line text ≡ true → variable_of n (variables_in on (texts_of ts)) text ≡ Some var → written n V text ≡ var ∷ []
+    variable_written : (var : Var) → is_variable_line text ≡ true → variable_of n (variables_in on (texts_of_lines ts)) text ≡ Some var → written n V text ≡ var
+        ∷ []
     variable_written var v e =
         ap (λ (b : Bool). if b && not (is_descriptor text) then option_to_list (variable_of n V text) else []) v
         ∙ ap (λ (b : Bool). if not b then option_to_list (variable_of n V text) else []) d
@@ -175,7 +178,7 @@ module _ (name : Option (List ℕ)) (ts : List Numbered) (number : ℕ) (text : 
 
   -- what the texts say together with one more, and that they stand
   abbrev SaysMore : Directive → Type 0
-  SaysMore directive = (parsed_in name Open (ts ++ x ∷ []) ≡ after (parsed_in name Open ts) directive) × TextsStand (ts ++ x ∷ [])
+  SaysMore directive = (parsed_in name Open (ts ++ x ∷ []) ≡ parsed_after (parsed_in name Open ts) directive) × TextsStand (ts ++ x ∷ [])
 
   says_states : is_descriptor text ≡ true → is_states_key (key_of text) ≡ true → on ≡ None → (n : ℕ) → states_named (setting_of text) ≡ Some n
       → SaysMore (States n)
@@ -222,17 +225,17 @@ module _ (name : Option (List ℕ)) (ts : List Numbered) (number : ℕ) (text : 
 
   says_variable : is_descriptor text ≡ false → (n : ℕ) (h : Neighborhood) (y : Symmetry) → on ≡ Some n → oh ≡ Some h → oy ≡ Some y
       → is_variable_line text ≡ true → (var : Var)
-      → variable_of n (variables_in on (texts_of ts)) text ≡ Some var → SaysMore (Variable var)
+      → variable_of n (variables_in on (texts_of_lines ts)) text ≡ Some var → SaysMore (Variable var)
   says_variable d n h y en eh ey v var e =
       let k : ℕ = neighbour_count h in
       let w = variable_written d n h y en eh ey var v e in
-      let vars : variables_in on' (texts_of (ts ++ x ∷ [])) ≡ V d n h y en eh ey ++ var ∷ [] = vars_then d n h y en eh ey (var ∷ []) w in
+      let vars : variables_in on' (texts_of_lines (ts ++ x ∷ [])) ≡ V d n h y en eh ey ++ var ∷ [] = vars_then d n h y en eh ey (var ∷ []) w in
       let kept = transitions_kept n (neighbour_count h) (V d n h y en eh ey) var ts (all_read d n h y en eh ey) in
       let lines = lines_then d n h y en eh ey (V d n h y en eh ey ++ var ∷ []) vars
       ∙ ap (λ (o : Option Transition). transitions_written n (neighbour_count h) (V d n h y en eh ey ++ var ∷ []) ts ++ cons_option o [])
       (no_transition d n h y en eh ey (V d n h y en eh ey ++ var ∷ []) v)
       ∙ append-nil (transitions_written n (neighbour_count h) (V d n h y en eh ey ++ var ∷ []) ts) ∙ kept.0 ∙ sym (lines_are d n h y en eh ey) in
-      let there : variables_written n (texts_of (ts ++ x ∷ [])) ≡ V d n h y en eh ey ++ var ∷ [] = variables_more n ts x
+      let there : variables_written n (texts_of_lines (ts ++ x ∷ [])) ≡ V d n h y en eh ey ++ var ∷ [] = variables_more n ts x
       ∙ ap (λ (vs : List Var). V d n h y en eh ey ++ vs) w in
       let last : IsRead n (neighbour_count h) (V d n h y en eh ey ++ var ∷ []) x = λ is. absurd (
       let no : is_transition_line text ≡ false = ap (λ (b : Bool). not (is_descriptor text) && not b) v ∙ and-false (not (is_descriptor text)) in
@@ -248,17 +251,17 @@ module _ (name : Option (List ℕ)) (ts : List Numbered) (number : ℕ) (text : 
 
   says_transition : is_descriptor text ≡ false → (n : ℕ) (h : Neighborhood) (y : Symmetry) → on ≡ Some n → oh ≡ Some h → oy ≡ Some y
       → is_variable_line text ≡ false → (t : Transition)
-      → transition_of n (neighbour_count h) (variables_in on (texts_of ts)) number text ≡ Some t → SaysMore (Line t)
+      → transition_of n (neighbour_count h) (variables_in on (texts_of_lines ts)) number text ≡ Some t → SaysMore (Line t)
   says_transition d n h y en eh ey v t e =
       let w = nothing_written d n h y en eh ey v in
-      let vars : variables_in on' (texts_of (ts ++ x ∷ [])) ≡ V d n h y en eh ey = vars_then d n h y en eh ey [] w ∙ append-nil (V d n h y en eh ey) in
+      let vars : variables_in on' (texts_of_lines (ts ++ x ∷ [])) ≡ V d n h y en eh ey = vars_then d n h y en eh ey [] w ∙ append-nil (V d n h y en eh ey) in
       let read : transition_of n (neighbour_count h) (V d n h y en eh ey) number text ≡ Some t =
       ap (λ (vs : List Var). transition_of n (neighbour_count h) vs number text) (sym (vars_are d n h y en eh ey)) ∙ e in
       let lines = lines_then d n h y en eh ey (V d n h y en eh ey) vars
       ∙ ap (λ (o : Option Transition). transitions_written n (neighbour_count h) (V d n h y en eh ey) ts ++ cons_option o [])
       (transition_there d n h y en eh ey (V d n h y en eh ey) v ∙ read)
       ∙ ap (λ (ls : List Transition). ls ++ t ∷ []) (sym (lines_are d n h y en eh ey)) in
-      let there : variables_written n (texts_of (ts ++ x ∷ [])) ≡ V d n h y en eh ey = variables_more n ts x
+      let there : variables_written n (texts_of_lines (ts ++ x ∷ [])) ≡ V d n h y en eh ey = variables_more n ts x
       ∙ ap (λ (vs : List Var). V d n h y en eh ey ++ vs) w ∙ append-nil (V d n h y en eh ey) in (
         parsed_same name Open on' on oh' oh oy' oy _ _ _ _ (states_same d n h y en eh ey) (neighbors_same d n h y en eh ey) (symmetry_same d n h y en eh ey)
             (vars ∙ sym (vars_are d n h y en eh ey)) lines,

@@ -7,11 +7,11 @@ use Rattle.std.proofs.lemmas.List.{drop_all}
 use Rattle.std.proofs.lemmas.List.Sums.{sum_by-cons}
 use Rattle.std.proofs.lemmas.Bool.{or_parts}
 use Rattle.life_table.specs.Meaning.{HasState}
-use Rattle.life_table.specs.Found.{Consistent, Tells, Adds}
+use Rattle.life_table.specs.Found.{Consistent, IsFoundOf, Adds}
 use Rattle.life_table.specs.declared.found.Found.{Found}
 use Rattle.life_table.specs.declared.found.Found.TheVariants.{Nothing, Two}
 use Rattle.life_table.proofs.Adding.{directives_same, adds_more}
-use Rattle.life_table.specs.Taking.{of_state, free_count, wanted, has_group, IsDistinct, first_variable, AreGroups, Completes, CompletesWith, AreFailed, Takes}
+use Rattle.life_table.specs.Taking.{of_state, free_count, wanted_inputs, has_group, IsDistinct, first_variable, AreGroups, Completes, CompletesWith, AreFailed, GroupTakes}
 use Rattle.life_table.proofs.Choices.{changed, changed_same, changed_choice}
 use Rattle.life_table.proofs.Free.{same_state, none_free, no_count, at_place}
 use Rattle.life_table.proofs.Grouping.{of_group, no_group}
@@ -22,8 +22,8 @@ pub drop_at : {X : Type 0} (xs : List X) (n : ℕ) (d : X) → n < length xs →
 drop_at xs n d below = rw add-one (drop-cons xs n d below)
 
 -- no group is of the variable that changes
-pub wanted_changed : (choice : ℕ → ℕ) (v s t : ℕ) (groups : List Group) → has_group v groups ≡ false → wanted (changed choice v s) groups t
-    ≡ wanted choice groups t
+pub wanted_changed : (choice : ℕ → ℕ) (v s t : ℕ) (groups : List Group) → has_group v groups ≡ false → wanted_inputs (changed choice v s) groups t
+    ≡ wanted_inputs choice groups t
 wanted_changed choice v s t [] h = refl
 wanted_changed choice v s t (g ∷ groups) h =
     let parts = or_parts (nat_eq v g.variable) (has_group v groups) h in
@@ -75,7 +75,7 @@ module _ (vars : List Var) (g : Group) (groups : List Group) (states : List ℕ)
       absurd (omega (arith, e, s, few, c.counts (c.choice g.variable)))
 
   -- the others complete what its variable leaves free
-  pub others_complete : (place rest : ℕ) → Takes vars g states place free rest → (c : Completes vars (g ∷ groups) states free)
+  pub others_complete : (place rest : ℕ) → GroupTakes vars g states place free rest → (c : Completes vars (g ∷ groups) states free)
       → slice_index states place ≡ c.choice g.variable → Completes vars groups states rest
   others_complete place rest takes c is = record {
     choice = c.choice;
@@ -86,7 +86,7 @@ module _ (vars : List Var) (g : Group) (groups : List Group) (states : List ℕ)
         omega (arith, e, s, c.counts t, takes.counts t);
   }
 
-  pub completes_more : (place rest : ℕ) → has_group g.variable groups ≡ false → Takes vars g states place free rest → Completes vars groups states rest
+  pub completes_more : (place rest : ℕ) → has_group g.variable groups ≡ false → GroupTakes vars g states place free rest → Completes vars groups states rest
       → Completes vars (g ∷ groups) states free
   completes_more place rest other takes c = record {
     choice = changed c.choice g.variable (slice_index states place);
@@ -98,7 +98,7 @@ module _ (vars : List Var) (g : Group) (groups : List Group) (states : List ℕ)
         omega (arith, e, s, w, c.counts t, takes.counts t);
   }
 
-  pub more_is : (place rest : ℕ) (other : has_group g.variable groups ≡ false) (takes : Takes vars g states place free rest)
+  pub more_is : (place rest : ℕ) (other : has_group g.variable groups ≡ false) (takes : GroupTakes vars g states place free rest)
       (c : Completes vars groups states rest) →
       (completes_more place rest other takes c).choice g.variable ≡ slice_index states place
   unfolding completes_more
@@ -163,13 +163,13 @@ none_more vars groups states free n h here c p below set is = elim (eqb_tells p 
 
 -- the groups from one of them on
 module _ (vars : List Var) (groups : List Group) (states : List ℕ) (free k : ℕ) (d : Group) (below : k < length groups) (are : AreGroups vars groups) where
-  pub taken_completes : (place rest : ℕ) → Takes vars (get_or groups k d) states place free rest → Completes vars (drop (k + 1) groups) states rest
+  pub taken_completes : (place rest : ℕ) → GroupTakes vars (get_or groups k d) states place free rest → Completes vars (drop (k + 1) groups) states rest
       → Completes vars (drop k groups) states free
   taken_completes place rest takes c =
       subst (λ gs. Completes vars gs states free) (sym (drop_at groups k d below))
       (completes_more vars (get_or groups k d) (drop (k + 1) groups) states free place rest (distinct_at groups k d below are.distinct) takes c)
 
-  pub taken_fails : (place rest : ℕ) → Takes vars (get_or groups k d) states place free rest → (Completes vars (drop (k + 1) groups) states rest → ⊥) →
+  pub taken_fails : (place rest : ℕ) → GroupTakes vars (get_or groups k d) states place free rest → (Completes vars (drop (k + 1) groups) states rest → ⊥) →
       (c : Completes vars (drop k groups) states free) → slice_index states place ≡ c.choice (first_variable (drop k groups)) → ⊥
   taken_fails place rest takes none =
       subst (λ gs. (c : Completes vars gs states free) → slice_index states place ≡ c.choice (first_variable gs) → ⊥) (sym (drop_at groups k d below))
@@ -188,7 +188,7 @@ module _ (vars : List Var) (groups : List Group) (states : List ℕ) (free k : �
       subst (λ gs. IsNone vars gs states free (length states) → Completes vars gs states free → ⊥) (sym (drop_at groups k d below))
       (λ none c. let p = first_place vars (get_or groups k d) (drop (k + 1) groups) states free (are.some k d below) c in none c p.0 p.1 p.2 p.3)
 
-  pub taken_with : (place rest : ℕ) → Takes vars (get_or groups k d) states place free rest → Completes vars (drop (k + 1) groups) states rest
+  pub taken_with : (place rest : ℕ) → GroupTakes vars (get_or groups k d) states place free rest → Completes vars (drop (k + 1) groups) states rest
       → CompletesWith vars (drop k groups) states free (slice_index states place)
   taken_with place rest takes c =
       subst (λ gs. CompletesWith vars gs states free (slice_index states place)) (sym (drop_at groups k d below))
@@ -216,9 +216,9 @@ module _ (vars : List Var) (groups : List Group) (states : List ℕ) (free n : �
   found_old : (s : ℕ) → IsFoundBy vars groups states free n s → IsFoundBy vars groups states free (n + 1) s
   found_old s f = record { completes = f.completes; place = f.place; below = omega (arith, f.below); is_free = f.is_free; is = f.is }
 
-  pub tell_more : (old new : Found) → Tells (IsFoundBy vars groups states free n) old → bit_at free n ≡ 1
+  pub tell_more : (old new : Found) → IsFoundOf (IsFoundBy vars groups states free n) old → bit_at free n ≡ 1
       → CompletesWith vars groups states free (slice_index states n) →
-      Adds (λ t. t ≡ slice_index states n) old new → Tells (IsFoundBy vars groups states free (n + 1)) new
+      Adds (λ t. t ≡ slice_index states n) old new → IsFoundOf (IsFoundBy vars groups states free (n + 1)) new
   tell_more old new h set here k =
       directives_same (λ s. IsFoundBy vars groups states free n s ⊎ (s ≡ slice_index states n)) (IsFoundBy vars groups states free (n + 1))
       (λ s x. elim x [
@@ -231,9 +231,9 @@ module _ (vars : List Var) (groups : List Group) (states : List ℕ) (free n : �
       ])
       new (adds_more (IsFoundBy vars groups states free n) (λ s. s ≡ slice_index states n) Nothing old new h k)
 
-  pub tell_skip : (found : Found) → Tells (IsFoundBy vars groups states free n) found
+  pub tell_skip : (found : Found) → IsFoundOf (IsFoundBy vars groups states free n) found
       → (bit_at free n ≡ 1 → (c : Completes vars groups states free) → slice_index states n ≡ c.choice (first_variable groups) → ⊥) →
-      Tells (IsFoundBy vars groups states free (n + 1)) found
+      IsFoundOf (IsFoundBy vars groups states free (n + 1)) found
   tell_skip found h none =
       directives_same (IsFoundBy vars groups states free n) (IsFoundBy vars groups states free (n + 1))
       found_old
@@ -245,15 +245,15 @@ module _ (vars : List Var) (groups : List Group) (states : List ℕ) (free n : �
       found h
 
   -- two states are two
-  pub tell_two : (found : Found) → found ≡ Two → Tells (IsFoundBy vars groups states free n) found → Tells (CompletesWith vars groups states free) found
+  pub tell_two : (found : Found) → found ≡ Two → IsFoundOf (IsFoundBy vars groups states free n) found → IsFoundOf (CompletesWith vars groups states free) found
   tell_two found is h =
-      let two : Tells (IsFoundBy vars groups states free n) Two = subst (Tells (IsFoundBy vars groups states free n)) is h in
-      subst (Tells (CompletesWith vars groups states free)) (sym is) (two.0, two.1, two.2, two.3.completes, two.4.completes)
+      let two : IsFoundOf (IsFoundBy vars groups states free n) Two = subst (IsFoundOf (IsFoundBy vars groups states free n)) is h in
+      subst (IsFoundOf (CompletesWith vars groups states free)) (sym is) (two.0, two.1, two.2, two.3.completes, two.4.completes)
 
 -- every place was tried
 pub tell_all : (vars : List Var) (groups : List Group) (states : List ℕ) (free : ℕ) → 0 < length groups → AreGroups vars groups → (found : Found)
-    → Tells (IsFoundBy vars groups states free (length states)) found →
-    Tells (CompletesWith vars groups states free) found
+    → IsFoundOf (IsFoundBy vars groups states free (length states)) found →
+    IsFoundOf (CompletesWith vars groups states free) found
 tell_all vars groups states free some are found h =
     directives_same (IsFoundBy vars groups states free (length states)) (CompletesWith vars groups states free)
     (λ s f. f.completes)
@@ -266,6 +266,6 @@ pub takes_of : (vars : List Var) (group : Group) (states : List ℕ) (place free
     → IfSome (slice_get vars group.variable) (λ var. HasState var (slice_index states place)) →
     (result : Option ℕ) → IfSome result (λ rest. rest ≤ free)
     → IfSome result (λ rest. (t : ℕ) → free_count t free states ≡ of_state t (slice_index states place) group.times + free_count t rest states) →
-    IfSome result (λ rest. Takes vars group states place free rest)
+    IfSome result (λ rest. GroupTakes vars group states place free rest)
 takes_of vars group states place free set can None less counts = tt
 takes_of vars group states place free set can (Some rest) less counts = record { is_free = set; less = less; can_be = can; counts = counts }

@@ -8,7 +8,7 @@ use Rattle.std.proofs.lemmas.List.Folds.{list_any-append, list_any_more}
 use Rattle.std.proofs.lemmas.List.Sums.{count_by_more_yes, count_by_more_no, sum_by-cons, sum_by-take-drop}
 use Rattle.std.proofs.lemmas.Map.Views.{Contains-from_any}
 use Rattle.std.proofs.lemmas.Bool.{or_cases, or_left, or_right}
-use Rattle.life_table.specs.Index.{is_among, AreCounts, MayBeBehind, MayFit, MayFitInSomeOrder}
+use Rattle.life_table.specs.Index.{is_among, AreCounts, MayComeAfter, MayFit, MayFitInSomeOrder}
 use Rattle.life_table.specs.Orders.{orders}
 use Rattle.life_table.specs.Meaning.{count_of}
 use Rattle.life_table.proofs.Counts.{sum-order, count-order, count-cons, is_one}
@@ -108,7 +108,7 @@ counted_more others states times count y n room space is before j below = elim (
 ]
 
 -- behind the centre
-behind : (block : Block) (centre : ℕ) (v : List ℕ) (k : ℕ) → MayFit block (centre ∷ v) k → MayBeBehind block v k
+behind : (block : Block) (centre : ℕ) (v : List ℕ) (k : ℕ) → MayFit block (centre ∷ v) k → MayComeAfter block v k
 behind block centre v k fit = λ p below small.
     let next : p + 1 ≡ suc p = omega arith in
     let here : slice_index (centre ∷ v) (p + 1) ≡ slice_index v p = ap (slice_index (centre ∷ v)) next in
@@ -123,7 +123,7 @@ centre_may block centre v k fit small =
 
 -- what is told by an order of the neighbours in which a line may fit
 pub order_tells : (block : Block) (cells : List ℕ) (k : ℕ) (fit : MayFitInSomeOrder block cells k) → slice_index cells 0 < 256
-    → Contains (orders (take (length cells - 1) (drop 1 cells))) fit.order × MayBeBehind block fit.order k
+    → Contains (orders (take (length cells - 1) (drop 1 cells))) fit.order × MayComeAfter block fit.order k
     × (bit_at (slice_index block.sets (slice_index cells 0)) k ≡ 1)
 order_tells block cells k fit small = (
   subst (λ w. Contains (orders w) fit.order) (sym (rest_of cells)) fit.is_order,

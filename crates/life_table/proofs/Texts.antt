@@ -9,7 +9,7 @@ use Rattle.std.proofs.lemmas.Option.{cond_some}
 use Rattle.std.proofs.lemmas.List.{map-append}
 use Rattle.life_base.specs.Text.{is_digit_text}
 use Rattle.life_table.specs.Valid.{neighbour_count}
-use Rattle.life_table.specs.Reading.{Numbered, texts_of, first_some, value_by, describes_by, is_descriptor, key_of, setting_of, is_variable_line, variable_of, variables_written, variables_in, is_transition_line, transition_of, transition_from, entries_of, entry_of, all_some, transition_words, transitions_written, transitions_in, variable_named, number_below}
+use Rattle.life_table.specs.Reading.{NumberedLine, texts_of_lines, first_some, value_by, describes_by, is_descriptor, key_of, setting_of, is_variable_line, variable_of, variables_written, variables_in, is_transition_line, transition_of, transition_from, entries_of, entry_of, all_some, transition_words, transitions_written, transitions_in, variable_named, number_below}
 use Rattle.life_table.specs.declared.table.Neighborhood.{Neighborhood}
 use Rattle.life_table.specs.declared.table.Var.{Var}
 use Rattle.life_table.specs.declared.table.Entry.{Entry}
@@ -27,10 +27,11 @@ module _ {X : Type 0} (f : List ℕ → Option X) where
   first_end None = refl
   first_end (Some x) = refl
 
-  pub first_more : (ts : List Numbered) (x : Numbered) → first_some (map f (texts_of (ts ++ x ∷ []))) ≡ or_new (first_some (map f (texts_of ts))) (f x.1)
+  pub first_more : (ts : List NumberedLine) (x : NumberedLine) → first_some (map f (texts_of_lines (ts ++ x ∷ [])))
+      ≡ or_new (first_some (map f (texts_of_lines ts))) (f x.1)
   first_more [] x = first_end (f x.1)
-  first_more (t ∷ ts) x = first_again (f t.1) (first_some (map f (texts_of (ts ++ x ∷ [])))) (first_some (map f (texts_of ts))) (f x.1)
-      (map f (texts_of (ts ++ x ∷ []))) (map f (texts_of ts)) refl refl (first_more ts x)
+  first_more (t ∷ ts) x = first_again (f t.1) (first_some (map f (texts_of_lines (ts ++ x ∷ [])))) (first_some (map f (texts_of_lines ts))) (f x.1)
+      (map f (texts_of_lines (ts ++ x ∷ []))) (map f (texts_of_lines ts)) refl refl (first_more ts x)
     where
       first_again : (o l r new : Option X) (ls rs : List (Option X)) → first_some ls ≡ l → first_some rs ≡ r → l ≡ or_new r new
           → first_some (o ∷ ls) ≡ or_new (first_some (o ∷ rs)) new
@@ -59,9 +60,9 @@ this_key is_key text d e = ap (λ (b : Bool). b && is_key (key_of text)) d ∙ e
 pub no_descriptor : (is_key : List ℕ → Bool) (text : List ℕ) → is_descriptor text ≡ false → describes_by is_key text ≡ false
 no_descriptor is_key text d = ap (λ (b : Bool). b && is_key (key_of text)) d
 
-module _ {X : Type 0} (is_key : List ℕ → Bool) (named : List ℕ → Option X) (ts : List Numbered) (x : Numbered) where
-  abbrev value_in : List Numbered → Option X
-  value_in qs = first_some (map (value_by is_key named) (texts_of qs))
+module _ {X : Type 0} (is_key : List ℕ → Bool) (named : List ℕ → Option X) (ts : List NumberedLine) (x : NumberedLine) where
+  abbrev value_in : List NumberedLine → Option X
+  value_in qs = first_some (map (value_by is_key named) (texts_of_lines qs))
 
   pub setting_same : describes_by is_key x.1 ≡ false → value_in (ts ++ x ∷ []) ≡ value_in ts
   setting_same e = first_more (value_by is_key named) ts x ∙ ap (or_new (value_in ts)) (value_none is_key named x.1 e) ∙ or_nothing (value_in ts)
@@ -74,20 +75,21 @@ module _ {X : Type 0} (is_key : List ℕ → Bool) (named : List ℕ → Option 
 abbrev pub written : ℕ → List Var → List ℕ → List Var
 written n vars text = if is_variable_line text && not (is_descriptor text) then option_to_list (variable_of n vars text) else []
 
-texts_more : (ts : List Numbered) (x : Numbered) → texts_of (ts ++ x ∷ []) ≡ texts_of ts ++ x.1 ∷ []
-texts_more ts x = map-append (λ (text : Numbered). text.1) ts (x ∷ [])
+texts_more : (ts : List NumberedLine) (x : NumberedLine) → texts_of_lines (ts ++ x ∷ []) ≡ texts_of_lines ts ++ x.1 ∷ []
+texts_more ts x = map-append (λ (text : NumberedLine). text.1) ts (x ∷ [])
 
-pub variables_more : (n : ℕ) (ts : List Numbered) (x : Numbered)
-    → variables_written n (texts_of (ts ++ x ∷ [])) ≡ variables_written n (texts_of ts) ++ written n (variables_written n (texts_of ts)) x.1
+pub variables_more : (n : ℕ) (ts : List NumberedLine) (x : NumberedLine)
+    → variables_written n (texts_of_lines (ts ++ x ∷ [])) ≡ variables_written n (texts_of_lines ts) ++ written n (variables_written n (texts_of_lines ts)) x.1
 variables_more n ts x =
-    ap (variables_written n) (texts_more ts x) ∙ fold-append (λ (vars : List Var) (text : List ℕ). vars ++ written n vars text) [] (texts_of ts) (x.1 ∷ [])
+    ap (variables_written n) (texts_more ts x)
+    ∙ fold-append (λ (vars : List Var) (text : List ℕ). vars ++ written n vars text) [] (texts_of_lines ts) (x.1 ∷ [])
 
 -- 3. Transitions
 
-abbrev pub on_line : ℕ → ℕ → List Var → Numbered → Option Transition
+abbrev pub on_line : ℕ → ℕ → List Var → NumberedLine → Option Transition
 on_line n k vars text = if is_transition_line text.1 then transition_of n k vars text.0 text.1 else None
 
-pub transitions_more : (n k : ℕ) (vars : List Var) (ts : List Numbered) (x : Numbered)
+pub transitions_more : (n k : ℕ) (vars : List Var) (ts : List NumberedLine) (x : NumberedLine)
     → transitions_written n k vars (ts ++ x ∷ []) ≡ transitions_written n k vars ts ++ cons_option (on_line n k vars x) []
 transitions_more n k vars ts x = filter_map-append (on_line n k vars) ts (x ∷ [])
 
@@ -160,13 +162,13 @@ transition_kept n k vars v number text t h =
     ap (option_and_then (transition_from k number)) (entries_kept n vars v text f.0 f.1) ∙ f.2
 
 -- each transition's line is read
-abbrev pub IsRead : ℕ → ℕ → List Var → Numbered → Type 0
+abbrev pub IsRead : ℕ → ℕ → List Var → NumberedLine → Type 0
 IsRead n k vars text = is_transition_line text.1 ≡ true → (t : Transition) × (transition_of n k vars text.0 text.1 ≡ Some t)
 
-read_kept : (n k : ℕ) (vars : List Var) (v : Var) (text : Numbered) → IsRead n k vars text → IsRead n k (vars ++ v ∷ []) text
+read_kept : (n k : ℕ) (vars : List Var) (v : Var) (text : NumberedLine) → IsRead n k vars text → IsRead n k (vars ++ v ∷ []) text
 read_kept n k vars v text r = λ is. let s = r is in (s.0, transition_kept n k vars v text.0 text.1 s.0 s.1)
 
-on_line_kept : (n k : ℕ) (vars : List Var) (v : Var) (b : Bool) (text : Numbered) → is_transition_line text.1 ≡ b → IsRead n k vars text
+on_line_kept : (n k : ℕ) (vars : List Var) (v : Var) (b : Bool) (text : NumberedLine) → is_transition_line text.1 ≡ b → IsRead n k vars text
     → on_line n k (vars ++ v ∷ []) text ≡ on_line n k vars text
 on_line_kept n k vars v false text e r = rw e refl
 on_line_kept n k vars v true text e r =
@@ -175,7 +177,7 @@ on_line_kept n k vars v true text e r =
     let b : on_line n k vars text ≡ Some s.0 = rw e s.1 in
     a ∙ sym b
 
-pub transitions_kept : (n k : ℕ) (vars : List Var) (v : Var) (ts : List Numbered) → All (IsRead n k vars) ts
+pub transitions_kept : (n k : ℕ) (vars : List Var) (v : Var) (ts : List NumberedLine) → All (IsRead n k vars) ts
     → (transitions_written n k (vars ++ v ∷ []) ts ≡ transitions_written n k vars ts) × All (IsRead n k (vars ++ v ∷ [])) ts
 transitions_kept n k vars v [] h = (refl, All-nil (IsRead n k (vars ++ v ∷ [])))
 transitions_kept n k vars v (t ∷ ts) h =
@@ -188,37 +190,39 @@ transitions_kept n k vars v (t ∷ ts) h =
 
 -- 5. Before all settings are given
 
-abbrev pub AreDescriptors : List Numbered → Type 0
-AreDescriptors ts = All (λ (t : Numbered). is_descriptor t.1 ≡ true) ts
+abbrev pub AreDescriptors : List NumberedLine → Type 0
+AreDescriptors ts = All (λ (t : NumberedLine). is_descriptor t.1 ≡ true) ts
 
 written_none : (n : ℕ) (vars : List Var) (text : List ℕ) → is_descriptor text ≡ true → written n vars text ≡ []
 written_none n vars text e = ap (λ (b : Bool). if b then option_to_list (variable_of n vars text) else [])
     (and_right (is_variable_line text) (not (is_descriptor text)) (ap not e))
 
-no_variables_from : (n : ℕ) (ts : List Numbered) → AreDescriptors ts → fold (λ (vars : List Var) (text : List ℕ). vars ++ written n vars text) [] (texts_of ts)
+no_variables_from : (n : ℕ) (ts : List NumberedLine) → AreDescriptors ts
+    → fold (λ (vars : List Var) (text : List ℕ). vars ++ written n vars text) [] (texts_of_lines ts)
     ≡ []
 no_variables_from n [] h = refl
 no_variables_from n (t ∷ ts) h =
-    let first : [] ++ written n [] t.1 ≡ [] = written_none n [] t.1 (All-head (λ (u : Numbered). is_descriptor u.1 ≡ true) t ts h) in
-    ap (λ (vars : List Var). fold (λ (vs : List Var) (text : List ℕ). vs ++ written n vs text) vars (texts_of ts)) first
-    ∙ no_variables_from n ts (All-tail (λ (u : Numbered). is_descriptor u.1 ≡ true) t ts h)
+    let first : [] ++ written n [] t.1 ≡ [] = written_none n [] t.1 (All-head (λ (u : NumberedLine). is_descriptor u.1 ≡ true) t ts h) in
+    ap (λ (vars : List Var). fold (λ (vs : List Var) (text : List ℕ). vs ++ written n vs text) vars (texts_of_lines ts)) first
+    ∙ no_variables_from n ts (All-tail (λ (u : NumberedLine). is_descriptor u.1 ≡ true) t ts h)
 
-pub no_variables : (on : Option ℕ) (ts : List Numbered) → AreDescriptors ts → variables_in on (texts_of ts) ≡ []
+pub no_variables : (on : Option ℕ) (ts : List NumberedLine) → AreDescriptors ts → variables_in on (texts_of_lines ts) ≡ []
 no_variables None ts h = refl
 no_variables (Some n) ts h = no_variables_from n ts h
 
-no_transitions_written : (n k : ℕ) (vars : List Var) (ts : List Numbered) → AreDescriptors ts → transitions_written n k vars ts ≡ []
+no_transitions_written : (n k : ℕ) (vars : List Var) (ts : List NumberedLine) → AreDescriptors ts → transitions_written n k vars ts ≡ []
 no_transitions_written n k vars [] h = refl
 no_transitions_written n k vars (t ∷ ts) h =
-    let d = All-head (λ (u : Numbered). is_descriptor u.1 ≡ true) t ts h in
+    let d = All-head (λ (u : NumberedLine). is_descriptor u.1 ≡ true) t ts h in
     ap (λ (b : Bool). cons_option (if not b && not (is_variable_line t.1) then transition_of n k vars t.0 t.1 else None) (transitions_written n k vars ts)) d
-    ∙ no_transitions_written n k vars ts (All-tail (λ (u : Numbered). is_descriptor u.1 ≡ true) t ts h)
+    ∙ no_transitions_written n k vars ts (All-tail (λ (u : NumberedLine). is_descriptor u.1 ≡ true) t ts h)
 
-pub no_transitions : (on : Option ℕ) (oh : Option Neighborhood) (vars : List Var) (ts : List Numbered) → AreDescriptors ts → transitions_in on oh vars ts ≡ []
+pub no_transitions : (on : Option ℕ) (oh : Option Neighborhood) (vars : List Var) (ts : List NumberedLine) → AreDescriptors ts → transitions_in on oh vars ts
+    ≡ []
 no_transitions None oh vars ts h = refl
 no_transitions (Some n) None vars ts h = refl
 no_transitions (Some n) (Some h) vars ts d = no_transitions_written n (neighbour_count h) vars ts d
 
-pub none_to_read : (n k : ℕ) (vars : List Var) (ts : List Numbered) → AreDescriptors ts → All (IsRead n k vars) ts
-none_to_read n k vars = All-weaker (λ (t : Numbered). is_descriptor t.1 ≡ true) (IsRead n k vars) (λ t d is. absurd (
+pub none_to_read : (n k : ℕ) (vars : List Var) (ts : List NumberedLine) → AreDescriptors ts → All (IsRead n k vars) ts
+none_to_read n k vars = All-weaker (λ (t : NumberedLine). is_descriptor t.1 ≡ true) (IsRead n k vars) (λ t d is. absurd (
     let e : false ≡ true = sym (ap (λ (b : Bool). not b && not (is_variable_line t.1)) d) ∙ is in let z : ⊥ = cc in z))

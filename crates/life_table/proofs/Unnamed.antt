@@ -2,7 +2,7 @@
 use Rattle.std.proofs.Common.{◌≡◌, ℕ, List, sym, subst, ◌∙◌, inl, inr, None, Result, Ok}
 use Rattle.life_base.specs.Refusal.{Answers}
 use Rattle.life_base.specs.declared.kind.Kind.{Kind}
-use Rattle.life_table.specs.Reading.{parse_line, variable_named, content}
+use Rattle.life_table.specs.Reading.{parse_line, variable_named, line_content}
 use Rattle.life_table.specs.declared.directive.Parsed.{Parsed}
 use Rattle.life_table.specs.declared.directive.Directive.{Directive}
 use Rattle.life_table.specs.declared.directive.Directive.TheVariants.{Nothing, RuleName, TableOpens, TableEnds, States, Neighbors, Orders, Variable, Line}
@@ -32,7 +32,7 @@ unnamed_case parsed number line directive (ahead s name n p is) var v = absurd (
 unnamed_case parsed number line directive (opens s name n p is) var v = absurd (let z : TableOpens ≡ Variable var = sym is ∙ v in let w : ⊥ = cc in w)
 unnamed_case parsed number line directive (ends s l d is) var v = absurd (let z : TableEnds ≡ Variable var = sym is ∙ v in let w : ⊥ = cc in w)
 unnamed_case parsed number line directive (silent s l e is) var v = absurd (let z : Nothing ≡ Variable var = sym is ∙ v in let w : ⊥ = cc in w)
-unnamed_case parsed number line directive (says s l e more) var v = unnamed_text parsed number (content line) directive more var v
+unnamed_case parsed number line directive (says s l e more) var v = unnamed_text parsed number (line_content line) directive more var v
 unnamed_case parsed number line directive (behind s is) var v = absurd (let z : Nothing ≡ Variable var = sym is ∙ v in let w : ⊥ = cc in w)
 
 pub unnamed : (parsed : Parsed) (number : ℕ) (line : List ℕ) (result : Result Directive Kind) (directive : Directive)

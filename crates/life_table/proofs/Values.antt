@@ -10,7 +10,7 @@ use Rattle.std.proofs.lemmas.Nat.Bits.{bit_at_or, bit_at-pow_same, bit_at-pow_ot
 use Rattle.std.proofs.lemmas.List.{get_or_past}
 use Rattle.life_base.specs.Text.{is_digit_text, value_of, trim}
 use Rattle.life_table.specs.Valid.{IsEntry, IsTransition, IsVariable, is_variable}
-use Rattle.life_table.specs.Reading.{entry_of, number_below, variable_named, entries_of, all_some, transition_words, transition_of, transition_from, is_bound, single, union, union_of, states_of_entry, states_listed, between_commas, variable_states, variable_of, is_variable_name, is_list, within_braces, name_text, list_text}
+use Rattle.life_table.specs.Reading.{entry_of, number_below, variable_named, entries_of, all_some, transition_words, transition_of, transition_from, is_bound, single, union, union_of, states_of_entry, states_listed, between_commas, variable_states, variable_of, is_variable_name, is_list, within_braces, variable_name, list_text}
 use Rattle.life_table.specs.declared.table.Var.{Var}
 use Rattle.life_table.specs.declared.table.Entry.{Entry}
 use Rattle.life_table.specs.declared.table.Entry.TheVariants as entries
@@ -295,16 +295,18 @@ states_case n vars name list states h =
 pub is_new_name : (n : ℕ) (vars : List Var) (text : List ℕ) (var : Var) → variable_of n vars text ≡ Some var → variable_named vars var.name ≡ None
 unfolding variable_of
 is_new_name n vars text var h =
-    let m = mapped (λ (states : List ℕ). record { name = name_text text; states = states }) (variable_states n vars (name_text text) (list_text text)) var h in
-    ap (λ (v : Var). variable_named vars v.name) m.2 ∙ (states_case n vars (name_text text) (list_text text) m.0 m.1).0
+    let m = mapped (λ (states : List ℕ). record { name = variable_name text; states = states }) (variable_states n vars (variable_name text) (list_text text))
+    var h in
+    ap (λ (v : Var). variable_named vars v.name) m.2 ∙ (states_case n vars (variable_name text) (list_text text) m.0 m.1).0
 
 -- a variable that a line writes has states below the number of states, and a new name
 pub is_variable_written : (n : ℕ) → n ≤ 256 → (vars : List Var) → All (IsVariable n) vars → (text : List ℕ) (var : Var) → variable_of n vars text ≡ Some var
     → IsVariable n var × (variable_named vars var.name ≡ None)
 unfolding variable_of
 is_variable_written n most vars all text var h =
-    let m = mapped (λ (states : List ℕ). record { name = name_text text; states = states }) (variable_states n vars (name_text text) (list_text text)) var h in
-    let s = states_case n vars (name_text text) (list_text text) m.0 m.1 in (
-      subst (IsVariable n) (sym m.2) (set_variable n (name_text text) m.0 (listed_set n most vars all (within_braces (list_text text)) m.0 s.1)),
+    let m = mapped (λ (states : List ℕ). record { name = variable_name text; states = states }) (variable_states n vars (variable_name text) (list_text text))
+    var h in
+    let s = states_case n vars (variable_name text) (list_text text) m.0 m.1 in (
+      subst (IsVariable n) (sym m.2) (set_variable n (variable_name text) m.0 (listed_set n most vars all (within_braces (list_text text)) m.0 s.1)),
       is_new_name n vars text var h,
     )

@@ -8,15 +8,15 @@ use Rattle.life_table.specs.declared.found.Found.{Found}
 use Rattle.life_table.specs.declared.found.Found.TheVariants.{Nothing, One, Two}
 
 -- nothing is given, or one state, or two different ones
-abbrev pub Tells : (ℕ → Type 0) → Found → Type 0
-Tells Given Nothing = (s : ℕ) → ¬ (Given s)
-Tells Given (One a) = Given a × ((s : ℕ) → Given s → s ≡ a)
-Tells Given Two = (s : ℕ) × (t : ℕ) × (s ≢ t) × Given s × Given t
+abbrev pub IsFoundOf : (ℕ → Type 0) → Found → Type 0
+IsFoundOf Given Nothing = (s : ℕ) → ¬ (Given s)
+IsFoundOf Given (One a) = Given a × ((s : ℕ) → Given s → s ≡ a)
+IsFoundOf Given Two = (s : ℕ) × (t : ℕ) × (s ≢ t) × Given s × Given t
 
 -- new tells of what old tells of and the given states together
 abbrev pub Adds : (ℕ → Type 0) → Found → Found → Type 0
-Adds Given Nothing new = Tells Given new
-Adds Given (One a) new = Tells (λ s. (s ≡ a) ⊎ Given s) new
+Adds Given Nothing new = IsFoundOf Given new
+Adds Given (One a) new = IsFoundOf (λ s. (s ≡ a) ⊎ Given s) new
 Adds Given Two new = new ≡ Two
 
 -- some choice makes these entries these states

@@ -5,8 +5,8 @@ use Rattle.std.specs.Prelude.{◌≡◌, ◌↔◌, ◌⊎◌, ◌≢◌, ℕ, �
 use Rattle.std.specs.List.{AllZip}
 use Rattle.life_base.specs.Text.{is_digit_text, value_of}
 use Rattle.life_table.specs.Valid.{neighbour_count, is_quiet}
-use Rattle.life_table.specs.Reader.{after, nothing_parsed}
-use Rattle.life_table.specs.Reading.{AreTable, Describes, agree, content, entry_of, is_bound, is_descriptor, is_list, is_passed_over, is_section_line, is_table_line, is_variable_line, is_variable_name, key_of, list_text, name_on, name_text, setting_of, states_listed, transition_words, variable_named, within_braces}
+use Rattle.life_table.specs.Reader.{parsed_after, nothing_parsed}
+use Rattle.life_table.specs.Reading.{AreTable, Describes, agree, line_content, entry_of, is_bound, is_descriptor, is_list, is_passed_over, is_section_line, is_table_line, is_variable_line, is_variable_name, key_of, list_text, name_on, variable_name, setting_of, states_listed, transition_words, variable_named, within_braces}
 use Rattle.life_table.specs.declared.directive.Parsed.{Parsed}
 use Rattle.life_table.specs.declared.directive.Section.TheVariants.{Ahead, Open, Behind}
 use Rattle.life_table.specs.declared.directive.Directive.{Directive}
@@ -61,7 +61,7 @@ pub record IsNeighborhood (text : List ℕ) (neighborhood : Neighborhood) : Type
 pub record IsVariableLine (n_states : ℕ) (vars : List Var) (text : List ℕ) (var : Var) : Type 0 where
   pub colon : is_descriptor text ≡ false
   pub begins : is_variable_line text ≡ true
-  pub name : var.name ≡ name_text text
+  pub name : var.name ≡ variable_name text
   pub form : is_variable_name var.name ≡ true
   pub new : variable_named vars var.name ≡ None
   pub braces : is_list (list_text text) ≡ true
@@ -110,8 +110,8 @@ pub data LineSays (parsed : Parsed) (number : ℕ) (line : List ℕ) (directive 
   table_line : (name : List ℕ) → parsed.section ≡ Ahead → parsed.name ≡ Some name → is_table_line line ≡ true → directive ≡ TableOpens
       → LineSays parsed number line directive
   -- in the table: a blank line or a comment, or one that says something
-  blank : parsed.section ≡ Open → is_section_line line ≡ false → content line ≡ [] → directive ≡ Nothing → LineSays parsed number line directive
-  says : parsed.section ≡ Open → is_section_line line ≡ false → content line ≢ [] → TextSays parsed number (content line) directive
+  blank : parsed.section ≡ Open → is_section_line line ≡ false → line_content line ≡ [] → directive ≡ Nothing → LineSays parsed number line directive
+  says : parsed.section ≡ Open → is_section_line line ≡ false → line_content line ≢ [] → TextSays parsed number (line_content line) directive
       → LineSays parsed number line directive
   -- the next section, and whatever comes behind its first line
   section_line : (n : ℕ) (h : Neighborhood) (y : Symmetry) → parsed.section ≡ Open → is_section_line line ≡ true → AreGiven parsed n h y → directive ≡ TableEnds
@@ -124,16 +124,17 @@ pub data LineSays (parsed : Parsed) (number : ℕ) (line : List ℕ) (directive 
 abbrev pub Lead : Parsed → ℕ → List (List ℕ) → Parsed → Type 0
 Lead parsed number [] end = parsed ≡ end
 Lead parsed number (line ∷ lines) end =
-    (directive : Directive) × (length line ≤ 2 ^ 20) × LineSays parsed number line directive × Lead (after parsed directive) (min (number + 1) (2 ^ 64 - 1))
+    (directive : Directive) × (length line ≤ 2 ^ 20) × LineSays parsed number line directive
+    × Lead (parsed_after parsed directive) (min (number + 1) (2 ^ 64 - 1))
     lines end
 
 -- The lines are a file that writes this table: from nothing they lead to its parts, and a table line was among them.
-pub record IsFile (lines : List (List ℕ)) (table : Table) : Type 0 where
+pub record IsPlainTable (lines : List (List ℕ)) (table : Table) : Type 0 where
   pub parsed : Parsed
   pub leads : Lead nothing_parsed 1 lines parsed
   pub came : parsed.section ≢ Ahead
   pub describes : Describes parsed table
 
 -- Lines are such a file exactly if no line breaks a rule and nothing is lacking, and then they write the same table.
-abbrev pub GrammarsAgree : Type 0
-GrammarsAgree = (lines : List (List ℕ)) (table : Table) → IsFile lines table ↔ AreTable lines table
+abbrev pub TableGrammarsAgree : Type 0
+TableGrammarsAgree = (lines : List (List ℕ)) (table : Table) → IsPlainTable lines table ↔ AreTable lines table

@@ -36,14 +36,14 @@ abbrev pub IsApart : List Entry → ℕ → ℕ → List ℕ → Type 0
 IsApart inputs p k apart = (q : ℕ) → q < p → entry_at inputs p ≢ entry_at inputs q → bit_at (slice_index apart (9 * p + q)) k ≡ 1
 
 -- a block has a line: in the set of each state that one of its inputs may be, and of each two places with different inputs
-pub record HasLine (vars : List Var) (inputs : List Entry) (k : ℕ) (block : Block) : Type 0 where
+pub record BlockHasLine (vars : List Var) (inputs : List Entry) (k : ℕ) (block : Block) : Type 0 where
   pub states : (p : ℕ) → p < length inputs → InSets vars (entry_at inputs p) p k block.sets
   pub apart : (p : ℕ) → p < length inputs → IsApart inputs p k block.apart
 
 -- so are up to 64 lines, from a number on
 abbrev pub HasLines : List Var → List Transition → ℕ → Block → Type 0
 HasLines vars lines from block = (k : ℕ) (d : Transition) → k < 64 → from + k < length lines
-    → HasLine vars (slice_index_or lines (from + k) d).inputs k block
+    → BlockHasLine vars (slice_index_or lines (from + k) d).inputs k block
 
 -- the blocks have the first lines, 64 each
 abbrev pub AreBlocks : List Var → List Transition → List Block → Type 0
@@ -59,12 +59,12 @@ abbrev pub is_among : List ℕ → ℕ → Bool
 is_among states s = list_any (λ t. nat_eq t s) states
 
 -- a line is in the sets of these states, one for each input behind the centre's
-abbrev pub MayBeBehind : Block → List ℕ → ℕ → Type 0
-MayBeBehind block v k = (p : ℕ) → p < length v → slice_index v p < 256 → bit_at (slice_index block.sets (256 * (p + 1) + slice_index v p)) k ≡ 1
+abbrev pub MayComeAfter : Block → List ℕ → ℕ → Type 0
+MayComeAfter block v k = (p : ℕ) → p < length v → slice_index v p < 256 → bit_at (slice_index block.sets (256 * (p + 1) + slice_index v p)) k ≡ 1
 
 -- the lines that may be behind the centre's input in some order of the neighbours stay
 abbrev pub KeepsOrders : Block → List ℕ → ℕ → ℕ → Type 0
-KeepsOrders block others lines rest = (k : ℕ) (v : List ℕ) → k < 64 → Contains (orders others) v → MayBeBehind block v k → bit_at lines k ≡ 1
+KeepsOrders block others lines rest = (k : ℕ) (v : List ℕ) → k < 64 → Contains (orders others) v → MayComeAfter block v k → bit_at lines k ≡ 1
     → bit_at rest k ≡ 1
 
 -- a line may fit some order of the neighbours

@@ -25,16 +25,16 @@ abbrev pub AreEntriesOf : ℕ → List Var → List (List ℕ) → Option (Vec E
 AreEntriesOf n_states vars words found = option_map (λ entries. entries.items) found ≡ all_some (map (entry_of n_states vars) words)
 
 -- what lines say together with one more
-abbrev pub after : Parsed → Directive → Parsed
-after parsed Nothing = parsed
-after parsed (RuleName name) = record parsed { name = Some name }
-after parsed TableOpens = record parsed { section = Open }
-after parsed TableEnds = record parsed { section = Behind }
-after parsed (States n_states) = record parsed { n_states = Some n_states }
-after parsed (Neighbors neighborhood) = record parsed { neighborhood = Some neighborhood }
-after parsed (Orders symmetry) = record parsed { symmetry = Some symmetry }
-after parsed (Variable var) = record parsed { vars = parsed.vars ++ var ∷ [] }
-after parsed (Line line) = record parsed { lines = parsed.lines ++ line ∷ [] }
+abbrev pub parsed_after : Parsed → Directive → Parsed
+parsed_after parsed Nothing = parsed
+parsed_after parsed (RuleName name) = record parsed { name = Some name }
+parsed_after parsed TableOpens = record parsed { section = Open }
+parsed_after parsed TableEnds = record parsed { section = Behind }
+parsed_after parsed (States n_states) = record parsed { n_states = Some n_states }
+parsed_after parsed (Neighbors neighborhood) = record parsed { neighborhood = Some neighborhood }
+parsed_after parsed (Orders symmetry) = record parsed { symmetry = Some symmetry }
+parsed_after parsed (Variable var) = record parsed { vars = parsed.vars ++ var ∷ [] }
+parsed_after parsed (Line line) = record parsed { lines = parsed.lines ++ line ∷ [] }
 
 -- nothing was said
 abbrev pub nothing_parsed : Parsed
@@ -46,7 +46,7 @@ fits_after fits vars (Line line) = fits || fits_zero vars line
 fits_after fits vars _ = fits
 
 -- there are at most 256 states, the transitions so far are quiet, and it is known whether one fits the all-zero neighbourhood
-pub record IsKept (parsed : Parsed) (fit : Bool) : Type 0 where
+pub record IsKeptParse (parsed : Parsed) (fit : Bool) : Type 0 where
   pub most : IfSome parsed.n_states (λ n. n ≤ 256)
   pub fits : fit ≡ list_any (fits_zero parsed.vars) parsed.lines
   pub quiet : is_quiet parsed.vars parsed.lines ≡ true

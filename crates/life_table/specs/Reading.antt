@@ -54,11 +54,11 @@ abbrev pub is_table_line : List ℕ → Bool
 is_table_line line = begins_with line (codes "@TABLE") && is_blank (take 1 (drop 6 line))
 
 -- a line with its number in the file
-abbrev pub Numbered : Type 0
-Numbered = ℕ × List ℕ
+abbrev pub NumberedLine : Type 0
+NumberedLine = ℕ × List ℕ
 
-abbrev pub texts_of : List Numbered → List (List ℕ)
-texts_of lines = map (λ line. line.1) lines
+abbrev pub texts_of_lines : List NumberedLine → List (List ℕ)
+texts_of_lines lines = map (λ line. line.1) lines
 
 -- the elements from the first one on that passes the test
 abbrev pub from_first : {X : Type 0} → (X → Bool) → List X → List X
@@ -77,35 +77,35 @@ first_some (None ∷ options) = first_some options
 first_some (Some x ∷ options) = Some x
 
 -- the first line that isn't passed over, and all behind it
-abbrev pub from_rule : List Numbered → List Numbered
+abbrev pub from_rule : List NumberedLine → List NumberedLine
 from_rule lines = from_first (λ line. not (is_passed_over line.1)) lines
 
 -- the first table line behind the rule line, and all behind it
-abbrev pub from_table : List Numbered → List Numbered
+abbrev pub from_table : List NumberedLine → List NumberedLine
 from_table lines = from_first (λ line. is_table_line line.1) (drop 1 (from_rule lines))
 
 -- the lines of the table: behind the table line, up to the next section
-abbrev pub table_lines : List Numbered → List Numbered
+abbrev pub table_lines : List NumberedLine → List NumberedLine
 table_lines lines = up_to (λ line. is_section_line line.1) (drop 1 (from_table lines))
 
 -- a line of the table, without its comment and the whitespace at its ends
-abbrev pub content : List ℕ → List ℕ
-content line = trim (before_first (λ b. b == byte "#") line)
+abbrev pub line_content : List ℕ → List ℕ
+line_content line = trim (before_first (λ b. b == byte "#") line)
 
 -- the lines of the table that say something
-abbrev pub contents : List Numbered → List Numbered
-contents lines = filter (λ line. not (is_empty line.1)) (map (λ line. (line.0, content line.1)) lines)
+abbrev pub contents : List NumberedLine → List NumberedLine
+contents lines = filter (λ line. not (is_empty line.1)) (map (λ line. (line.0, line_content line.1)) lines)
 
 -- what the table's lines say, each with the number of its line
-unfoldable pub table_texts : List Numbered → List Numbered
+unfoldable pub table_texts : List NumberedLine → List NumberedLine
 table_texts lines = contents (table_lines lines)
 
 -- the name on the rule line
-unfoldable pub name_of : List Numbered → Option (List ℕ)
+unfoldable pub name_of : List NumberedLine → Option (List ℕ)
 name_of lines = option_and_then (λ line. name_on line.1) (slice_get (from_rule lines) 0)
 
 -- no table line came, or one, or one and a further section behind it
-unfoldable pub section_of : List Numbered → Section
+unfoldable pub section_of : List NumberedLine → Section
 section_of lines =
     if is_empty (from_table lines) then Ahead
     else (if list_any (λ line. is_section_line line.1) (drop 1 (from_table lines)) then Behind else Open)
@@ -216,8 +216,8 @@ abbrev pub is_variable_name : List ℕ → Bool
 is_variable_name word = not (is_empty word) && list_all is_name_byte word && not (list_any is_ascii_digit (take 1 word))
 
 -- the name before the equals sign, and what stands behind it
-abbrev pub name_text : List ℕ → List ℕ
-name_text text = trim (before_first (λ b. b == byte "=") (drop 3 text))
+abbrev pub variable_name : List ℕ → List ℕ
+variable_name text = trim (before_first (λ b. b == byte "=") (drop 3 text))
 
 abbrev pub list_text : List ℕ → List ℕ
 list_text text = trim (after_first (λ b. b == byte "=") (drop 3 text))
@@ -260,7 +260,7 @@ variable_states n_states vars name list =
 -- the variable that a line writes behind these variables, if it writes one
 unfoldable pub variable_of : ℕ → List Var → List ℕ → Option Var
 variable_of n_states vars text =
-    option_map (λ states. record { name = name_text text; states = states }) (variable_states n_states vars (name_text text) (list_text text))
+    option_map (λ states. record { name = variable_name text; states = states }) (variable_states n_states vars (variable_name text) (list_text text))
 
 -- the variables that these lines write, in their order
 abbrev pub variables_written : ℕ → List (List ℕ) → List Var
@@ -304,12 +304,12 @@ abbrev pub is_transition_line : List ℕ → Bool
 is_transition_line text = not (is_descriptor text) && not (is_variable_line text)
 
 -- the transitions that these lines write, in their order
-abbrev pub transitions_written : ℕ → ℕ → List Var → List Numbered → List Transition
+abbrev pub transitions_written : ℕ → ℕ → List Var → List NumberedLine → List Transition
 transitions_written n_states neighbours vars texts =
     filter_map (λ text. if is_transition_line text.1 then transition_of n_states neighbours vars text.0 text.1 else None) texts
 
 -- the same where the number of states and the neighbourhood are described
-abbrev pub transitions_in : Option ℕ → Option Neighborhood → List Var → List Numbered → List Transition
+abbrev pub transitions_in : Option ℕ → Option Neighborhood → List Var → List NumberedLine → List Transition
 transitions_in (Some n_states) (Some neighborhood) vars texts = transitions_written n_states (neighbour_count neighborhood) vars texts
 transitions_in _ _ vars texts = []
 
@@ -321,23 +321,23 @@ is_bound inputs (entries.Var i) = list_any (is_variable i) inputs
 -- 6. What lines say
 
 -- what the table's texts say, behind this name and in this section
-abbrev pub parsed_in : Option (List ℕ) → Section → List Numbered → Parsed
+abbrev pub parsed_in : Option (List ℕ) → Section → List NumberedLine → Parsed
 parsed_in name section texts =
-    let n_states = states_of (texts_of texts) in
-    let neighborhood = neighborhood_of (texts_of texts) in
-    let vars = variables_in n_states (texts_of texts) in
+    let n_states = states_of (texts_of_lines texts) in
+    let neighborhood = neighborhood_of (texts_of_lines texts) in
+    let vars = variables_in n_states (texts_of_lines texts) in
     record {
       name = name;
       section = section;
       n_states = n_states;
       neighborhood = neighborhood;
-      symmetry = symmetry_of (texts_of texts);
+      symmetry = symmetry_of (texts_of_lines texts);
       vars = vars;
       lines = transitions_in n_states neighborhood vars texts;
     }
 
 -- what these lines say
-abbrev pub parsed_by : List Numbered → Parsed
+abbrev pub parsed_by : List NumberedLine → Parsed
 parsed_by lines = parsed_in (name_of lines) (section_of lines) (table_texts lines)
 
 -- 7. What one more line says, or which rule it breaks
@@ -401,9 +401,9 @@ is_described parsed = is_some parsed.n_states && is_some parsed.neighborhood && 
 abbrev pub parse_in_table : Parsed → ℕ → List ℕ → Result Directive Kind
 parse_in_table parsed number line =
     if is_section_line line then (if is_described parsed then Ok TableEnds else Err BadDescriptor)
-    else (if is_empty (content line) then Ok Nothing
-    else (if is_descriptor (content line) then parse_descriptor parsed.n_states parsed.neighborhood parsed.symmetry (content line)
-    else parse_rest parsed.n_states parsed.neighborhood parsed.symmetry parsed.vars parsed.lines number (content line)))
+    else (if is_empty (line_content line) then Ok Nothing
+    else (if is_descriptor (line_content line) then parse_descriptor parsed.n_states parsed.neighborhood parsed.symmetry (line_content line)
+    else parse_rest parsed.n_states parsed.neighborhood parsed.symmetry parsed.vars parsed.lines number (line_content line)))
 
 abbrev pub parse_in_section : Section → Parsed → ℕ → List ℕ → Result Directive Kind
 parse_in_section Ahead parsed number line = parse_ahead parsed.name line
@@ -421,27 +421,27 @@ fault_in (Err kind) = Some kind
 -- 8. The whole file
 
 -- the number of the line behind these, as far as numbers go
-abbrev pub number_behind : List (List ℕ) → ℕ
-number_behind before = min (length before + 1) (2 ^ 64 - 1)
+abbrev pub number_after : List (List ℕ) → ℕ
+number_after before = min (length before + 1) (2 ^ 64 - 1)
 
 -- the first rule of the format that a line breaks behind these lines, if it breaks one
-unfoldable pub broken : List (List ℕ) → List ℕ → Option Kind
-broken before line = fault_in (parse_line (parsed_by (numbered_from 1 before)) (number_behind before) line)
+unfoldable pub broken_table_rule : List (List ℕ) → List ℕ → Option Kind
+broken_table_rule before line = fault_in (parse_line (parsed_by (numbered_from 1 before)) (number_after before) line)
 
 abbrev pub is_ahead : Section → Bool
 is_ahead Ahead = true
 is_ahead _ = false
 
 -- what a file that says this lacks, if it lacks something
-abbrev pub lacking : Parsed → Option Kind
-lacking parsed =
+abbrev pub missing_part_of : Parsed → Option Kind
+missing_part_of parsed =
     if is_none parsed.name then Some NoRuleLine
     else (if is_ahead parsed.section then Some NoTable
     else (if is_described parsed then None else Some BadDescriptor))
 
 -- what a file of these lines lacks, if it lacks something
-unfoldable pub missing : List (List ℕ) → Option Kind
-missing lines = lacking (parsed_by (numbered_from 1 lines))
+unfoldable pub missing_table_part : List (List ℕ) → Option Kind
+missing_table_part lines = missing_part_of (parsed_by (numbered_from 1 lines))
 
 -- the kinds with which a rule table is refused
 abbrev pub is_table_kind : Kind → Bool
@@ -459,8 +459,8 @@ is_table_kind _ = false
 
 -- the lines are a rule table's file: no line breaks a rule, and nothing is lacking
 pub record IsTableFile (lines : List (List ℕ)) : Type 0 where
-  pub unbroken : (k : ℕ) → k < length lines → broken (take k lines) (slice_index_or lines k []) ≡ None
-  pub whole : missing lines ≡ None
+  pub unbroken : (k : ℕ) → k < length lines → broken_table_rule (take k lines) (slice_index_or lines k []) ≡ None
+  pub whole : missing_table_part lines ≡ None
 
 -- what is said is this table
 pub record Describes (parsed : Parsed) (table : Table) : Type 0 where
@@ -477,5 +477,5 @@ pub record AreTable (file_lines : List (List ℕ)) (table : Table) : Type 0 wher
   pub says : Describes (parsed_by (numbered_from 1 file_lines)) table
 
 -- why the lines are no file of a table
-abbrev pub Refuses : List (List ℕ) → Fault → Type 0
-Refuses lines fault = IsRefusal IsTableFile (BreaksBy broken) missing lines fault
+abbrev pub RefusesTable : List (List ℕ) → Fault → Type 0
+RefusesTable lines fault = IsRefusal IsTableFile (BreaksBy broken_table_rule) missing_table_part lines fault

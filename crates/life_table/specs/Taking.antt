@@ -26,13 +26,13 @@ can_be_state vars (entries.Fixed fixed) s = nat_eq fixed s
 can_be_state vars (entries.Var i) s = option_map_or (λ var. has_state var s) (slice_get vars i) false
 
 -- the state of an input that is settled where the centre's input has the centre's state
-abbrev pub settled : Entry → ℕ → Entry → Option ℕ
-settled first centre (entries.Fixed s) = Some s
-settled first centre (entries.Var i) = if is_variable i first then Some centre else None
+abbrev pub settled_state : Entry → ℕ → Entry → Option ℕ
+settled_state first centre (entries.Fixed s) = Some s
+settled_state first centre (entries.Var i) = if is_variable i first then Some centre else None
 
 -- how many of the inputs are settled to the state t
 abbrev pub settled_count : Entry → ℕ → ℕ → List Entry → ℕ
-settled_count first centre t inputs = sum_by (λ entry. option_map_or (λ s. of_state t s 1) (settled first centre entry) 0) inputs
+settled_count first centre t inputs = sum_by (λ entry. option_map_or (λ s. of_state t s 1) (settled_state first centre entry) 0) inputs
 
 -- 1 for an input that the centre doesn't settle and a choice makes the state t, else 0
 abbrev pub open_state : Entry → (ℕ → ℕ) → ℕ → Entry → ℕ
@@ -40,8 +40,8 @@ open_state first choice t (entries.Fixed s) = 0
 open_state first choice t (entries.Var i) = if is_variable i first then 0 else of_state t (choice i) 1
 
 -- how many inputs of these groups a choice makes the state t
-abbrev pub wanted : (ℕ → ℕ) → List Group → ℕ → ℕ
-wanted choice groups t = sum_by (λ group. of_state t (choice group.variable) group.times) groups
+abbrev pub wanted_inputs : (ℕ → ℕ) → List Group → ℕ → ℕ
+wanted_inputs choice groups t = sum_by (λ group. of_state t (choice group.variable) group.times) groups
 
 -- the groups when one more input is this variable
 abbrev pub add_to : ℕ → List Group → List Group
@@ -64,7 +64,7 @@ first_variable (g ∷ groups) = g.variable
 
 -- the groups of the inputs that the centre doesn't settle. An open output's is the first
 pub record IsGrouped (first output : Entry) (inputs : List Entry) (groups : List Group) : Type 0 where
-  pub counts : (choice : ℕ → ℕ) (t : ℕ) → wanted choice groups t ≡ sum_by (open_state first choice t) inputs
+  pub counts : (choice : ℕ → ℕ) (t : ℕ) → wanted_inputs choice groups t ≡ sum_by (open_state first choice t) inputs
   pub distinct : IsDistinct groups
   pub unsettled : All (λ g. is_variable g.variable first ≡ false) groups
   pub stands : All (λ g. IsTrue (list_any (is_variable g.variable) inputs) ⊎ (output ≡ entries.Var g.variable)) groups
@@ -88,7 +88,7 @@ pub record IsSearch (vars : List Var) (groups : List Group) (states : List ℕ) 
 pub record Completes (vars : List Var) (groups : List Group) (states : List ℕ) (free : ℕ) : Type 0 where
   pub choice : ℕ → ℕ
   pub is_choice : IsChoice vars choice
-  pub counts : (t : ℕ) → wanted choice groups t ≡ free_count t free states
+  pub counts : (t : ℕ) → wanted_inputs choice groups t ≡ free_count t free states
 
 -- the same, where the first group's variable is the state s
 pub record CompletesWith (vars : List Var) (groups : List Group) (states : List ℕ) (free s : ℕ) : Type 0 where
@@ -100,7 +100,7 @@ abbrev pub AreFailed : List Var → List Group → List ℕ → List ℕ → Typ
 AreFailed vars groups states marks = (free k : ℕ) → slice_index marks free ≡ k + 1 → ¬ (Completes vars (drop k groups) states free)
 
 -- a group can take free places with the state of this one, which is free, and this is what stays free
-pub record Takes (vars : List Var) (group : Group) (states : List ℕ) (place free rest : ℕ) : Type 0 where
+pub record GroupTakes (vars : List Var) (group : Group) (states : List ℕ) (place free rest : ℕ) : Type 0 where
   pub is_free : bit_at free place ≡ 1
   pub less : rest ≤ free
   pub can_be : IfSome (slice_get vars group.variable) (λ var. HasState var (slice_index states place))

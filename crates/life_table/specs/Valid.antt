@@ -67,7 +67,7 @@ is_quiet vars [] = true
 is_quiet vars (line ∷ lines) = if fits_zero vars line then is_quiet_output line.output else is_quiet vars lines
 
 -- the parts of a rule table agree
-pub record IsSound (n_states : ℕ) (neighborhood : Neighborhood) (symmetry : Symmetry) (vars : List Var) (lines : List Transition) : Type 0 where
+pub record IsSoundTable (n_states : ℕ) (neighborhood : Neighborhood) (symmetry : Symmetry) (vars : List Var) (lines : List Transition) : Type 0 where
   pub least : 2 ≤ n_states
   pub most : n_states ≤ 256
   pub listed : IsTrue (is_listed neighborhood symmetry)

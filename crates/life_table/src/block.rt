@@ -1,6 +1,6 @@
 //! 64 lines of a table as sets: which of them an input may be a state in, and which have two different inputs at two places.
 ghost use Rattle.std.specs.Prelude.{◌≡◌, ◌≢◌, ℕ, ◌+◌, ◌*◌, ◌<◌, ◌≤◌, ◌↔◌, [], take, length, slice_index, slice_index_or, All, IsTrue};
-ghost use Rattle.life_table.specs.Words.{bit_at, has_state, IsEntry, Stay, entry_at, InSets, IsApart, HasLine, HasLines, MayFit};
+ghost use Rattle.life_table.specs.Words.{bit_at, has_state, IsEntry, Stay, entry_at, InSets, IsApart, BlockHasLine, HasLines, MayFit};
 
 use crate::choose::has_state;
 use crate::image_list::Images;
@@ -150,7 +150,7 @@ impl Block {
         requires entries { All (λ (line : Transition). All (IsEntry 256 vars.now) line.inputs)
             lines.now }
         ensures { (k : ℕ) (d : Transition) → k < length lines.now
-            → HasLine vars.now (slice_index_or lines.now k d).inputs k result }
+            → BlockHasLine vars.now (slice_index_or lines.now k d).inputs k result }
     {
         let mut block = Block {
             sets: [0; 2304],

@@ -1,6 +1,6 @@
 //! One line at one cell: which states it gives.
 ghost use Rattle.std.specs.Prelude.{◌≡◌, ℕ, ◌+◌, ◌<◌, ◌↔◌, ◌++◌, ◌∷◌, [], take, length, List, All, IsTrue};
-ghost use Rattle.life_table.specs.Words.{list_any, Adds, Consistent, Tells, IsChoice, state_of, has_state, GivesAs, GivesByCounts, IsSite, IsLineAt, centre_of, others_of, can_be_state, IsEntry, is_variable};
+ghost use Rattle.life_table.specs.Words.{list_any, Adds, Consistent, IsFoundOf, IsChoice, state_of, has_state, GivesAs, GivesByCounts, IsSite, IsLineAt, centre_of, others_of, can_be_state, IsEntry, is_variable};
 
 use crate::complete::{can_complete, first_states};
 use crate::found::Found;
@@ -103,7 +103,7 @@ pub(crate) fn can_be(vars: &[Var], entry: Entry, s: State) -> bool
 pub(crate) fn by_counts(site: &Site, line: &Transition) -> Found
     requires site { IsSite site.now }
     requires line { IsLineAt site.now line.now }
-    ensures { Tells
+    ensures { IsFoundOf
         (GivesByCounts site.now.vars.now line.now (centre_of site.now) (others_of site.now))
         result }
 {

@@ -1,6 +1,6 @@
 //! The search for states of the open variables.
 ghost use Rattle.std.specs.Prelude.{◌≡◌, ◌^◌, ◌<◌, ◌≤◌, ◌↔◌, slice_get, length, drop, slice_index, IfSome, IsTrue};
-ghost use Rattle.life_table.specs.Words.{bit_at, HasState, Tells, free_count, Takes, IsSearch, Completes, CompletesWith, AreFailed};
+ghost use Rattle.life_table.specs.Words.{bit_at, HasState, IsFoundOf, free_count, GroupTakes, IsSearch, Completes, CompletesWith, AreFailed};
 
 use crate::choose::{has_state, with_state};
 use crate::found::Found;
@@ -14,7 +14,7 @@ fn with_place(vars: &[Var], group: Group, states: &[State], free: u8, place: usi
     requires size { length states.now ≤ 8 }
     requires place { place < length states.now }
     requires variable { group.variable < length vars.now }
-    ensures some { IfSome result (λ rest. Takes vars.now group states.now place free rest) }
+    ensures some { IfSome result (λ rest. GroupTakes vars.now group states.now place free rest) }
     ensures none { result ≡ None → bit_at free place ≡ 1
         → IfSome (slice_get vars.now group.variable)
         (λ var. HasState var (slice_index states.now place))
@@ -81,7 +81,7 @@ pub(crate) fn first_states(vars: &[Var], groups: &[Group], states: &[State], fre
     requires search { IsSearch vars.now groups.now states.now }
     requires free { free < 2 ^ length states.now }
     requires some { 0 < length groups.now }
-    ensures { Tells (CompletesWith vars.now groups.now states.now free) result }
+    ensures { IsFoundOf (CompletesWith vars.now groups.now states.now free) result }
 {
     let mut failed = [0; 256];
     let mut found = Found::Nothing;

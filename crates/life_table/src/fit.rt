@@ -1,6 +1,6 @@
 //! One line at the images of a cell's neighbours.
 ghost use Rattle.std.specs.Prelude.{◌≡◌, ℕ, ◌+◌, ◌-◌, ◌<◌, ◌≤◌, ◌∷◌, map, length, slice_index_or, if◌then◌else◌};
-ghost use Rattle.life_table.specs.Words.{bit_at, Adds, Tells, SomeGives, turns, reflected_turns, family, places, IsSite, IsLineAt, GoesRound, centre_of, others_of};
+ghost use Rattle.life_table.specs.Words.{bit_at, Adds, IsFoundOf, SomeGives, turns, reflected_turns, family, places, IsSite, IsLineAt, GoesRound, centre_of, others_of};
 
 use crate::choose::with_image;
 use crate::found::Found;
@@ -55,7 +55,7 @@ pub(crate) fn by_images(site: &Site, line: &Transition) -> Found
     requires site { IsSite site.now }
     requires line { IsLineAt site.now line.now }
     requires turns { GoesRound site.now }
-    ensures { Tells (SomeGives site.now.vars.now line.now
+    ensures { IsFoundOf (SomeGives site.now.vars.now line.now
         (map (λ v. centre_of site.now ∷ v)
         (family site.now.ways.reflect site.now.ways.step (others_of site.now)))) result }
 {

@@ -1,6 +1,6 @@
 //! What a line asks of the neighbours once its centre is known: settled inputs are one state, and the others are grouped by their variable.
 ghost use Rattle.std.specs.Prelude.{◌≡◌, ℕ, ◌+◌, ◌^◌, ◌<◌, ◌≤◌, length, take, All, IfSome};
-ghost use Rattle.life_table.specs.Words.{IsPermutation, count_of, free_count, settled, settled_count, add_to, IsGrouped};
+ghost use Rattle.life_table.specs.Words.{IsPermutation, count_of, free_count, settled_state, settled_count, add_to, IsGrouped};
 
 use crate::places::{all_free, without_one};
 use crate::table::Entry;
@@ -16,7 +16,7 @@ pub(crate) struct Group {
 
 /// The state of an entry, where the centre's input and its state settle it.
 pub(crate) fn settled_state(first: Entry, centre: State, entry: Entry) -> Option<State>
-    ensures { result ≡ settled first centre entry }
+    ensures { result ≡ settled_state first centre entry }
 {
     match entry {
         Entry::Fixed(s) => Some(s),

@@ -1,6 +1,6 @@
 //! A table with an index of its lines.
 ghost use Rattle.std.specs.Prelude.{◌≡◌, ℕ, ◌+◌, ◌*◌, ◌<◌, ◌≤◌, ◌∷◌, List, Contains, length, take, All, Option};
-ghost use Rattle.life_table.specs.Words.{bit_at, GivesNothing, neighbour_count, cells_of, images, AnswersAmong, AnswersNext, MayGive, MayFit, AreBlocks, IsQuery, Asks, IsSite, IsLineAt, GoesRound, TurnsAreImages, centre_of, others_of};
+ghost use Rattle.life_table.specs.Words.{bit_at, GivesNothing, neighbour_count, states_of_neighbours, images, AnswersAmong, AnswersNext, MayGive, MayFit, AreBlocks, IsQuery, Asks, IsSite, IsLineAt, GoesRound, TurnsAreImages, centre_of, others_of};
 
 use crate::block::{Block, LINES};
 use crate::found::Found;
@@ -147,10 +147,10 @@ fn answer_by_blocks(
 
 /// The next state of a cell by a table and blocks of its lines.
 fn next_by_blocks(table: &Table, blocks: &[Block], around: &Neighbours) -> Result<State, Fault>
-    requires neighbours { length (cells_of around.now)
+    requires neighbours { length (states_of_neighbours around.now)
         ≡ neighbour_count table.now.neighborhood + 1 }
     requires blocks { AreBlocks table.now.vars table.now.lines blocks.now }
-    ensures { AnswersNext table.now (cells_of around.now) result }
+    ensures { AnswersNext table.now (states_of_neighbours around.now) result }
 {
     let cells = around.as_slice();
     let vars = table.vars.as_slice();
@@ -213,10 +213,10 @@ impl<'a> Index<'a> {
     ///
     /// `Ambiguous`, as there.
     pub fn next(&self, around: &Neighbours) -> Result<State, Fault>
-        requires neighbours { length (cells_of around.now)
+        requires neighbours { length (states_of_neighbours around.now)
             ≡ neighbour_count self.now.neighborhood + 1 }
-        requires states { All (λ s. s < self.now.n_states) (cells_of around.now) }
-        ensures { AnswersNext self.now (cells_of around.now) result }
+        requires states { All (λ s. s < self.now.n_states) (states_of_neighbours around.now) }
+        ensures { AnswersNext self.now (states_of_neighbours around.now) result }
     {
         if self.blocks.is_empty() {
             return self.table.next(around);

@@ -1,7 +1,7 @@
 //! What one line of a rule table's file says.
 
 ghost use Rattle.std.specs.Prelude.{◌≡◌, ◌≤◌, Ok, MatchOption, drop, true, false};
-ghost use Rattle.life_table.specs.Words.{Answers, rule_of, begins_rule_line, name_in, name_on, if_named, parse_line, parse_settled, parse_ahead, parse_in_table, parse_rest, is_described, IsKept};
+ghost use Rattle.life_table.specs.Words.{Answers, rule_of, begins_rule_line, name_in, name_on, if_named, parse_line, parse_settled, parse_ahead, parse_in_table, parse_rest, is_described, IsKeptParse};
 
 use crate::descriptors::parse_descriptor;
 use crate::directive::{Directive, Parsed, Section};
@@ -87,7 +87,7 @@ impl TableLines {
         text: &[u8],
     ) -> Result<Directive, Kind>
         requires most { n_states ≤ 256 }
-        requires kept { IsKept self.now.parsed self.now.fits }
+        requires kept { IsKeptParse self.now.parsed self.now.fits }
         ensures { Answers result (parse_settled n_states neighborhood self.now.parsed.vars
             self.now.parsed.lines number text.now) }
     {
@@ -106,7 +106,7 @@ impl TableLines {
 
     /// What a variable or a transition says.
     fn parse_rest(&self, alloc: Global, number: u64, text: &[u8]) -> Result<Directive, Kind>
-        requires kept { IsKept self.now.parsed self.now.fits }
+        requires kept { IsKeptParse self.now.parsed self.now.fits }
         ensures { Answers result (parse_rest self.now.parsed.n_states
             self.now.parsed.neighborhood self.now.parsed.symmetry self.now.parsed.vars
             self.now.parsed.lines number text.now) }
@@ -126,7 +126,7 @@ impl TableLines {
 
     /// What a line of the table says.
     fn parse_in_table(&self, alloc: Global, number: u64, line: &[u8]) -> Result<Directive, Kind>
-        requires kept { IsKept self.now.parsed self.now.fits }
+        requires kept { IsKeptParse self.now.parsed self.now.fits }
         ensures { Answers result (parse_in_table self.now.parsed number line.now) }
     {
         if is_section_line(line) {
@@ -154,7 +154,7 @@ impl TableLines {
         number: u64,
         line: &[u8],
     ) -> Result<Directive, Kind>
-        requires kept { IsKept self.now.parsed self.now.fits }
+        requires kept { IsKeptParse self.now.parsed self.now.fits }
         ensures { Answers result (parse_line self.now.parsed number line.now) }
     {
         if is_too_long(line) {

@@ -1,7 +1,7 @@
 //! The lines of a rule table's file, one after another.
 
 ghost use Rattle.std.specs.Prelude.{◌≡◌, OnOk, IfErr, None, Ok, Err, false};
-ghost use Rattle.life_table.specs.Words.{OrMemory, variable_named, parse_line, IsKept, after, fits_after, nothing_parsed, IsMemory};
+ghost use Rattle.life_table.specs.Words.{OrMemory, variable_named, parse_line, IsKeptParse, parsed_after, fits_after, nothing_parsed, IsMemory};
 
 use crate::by_name::Variables;
 use crate::directive::{Directive, Parsed, Section};
@@ -43,7 +43,7 @@ impl TableLines {
     fn keep(&mut self, directive: Directive) -> Result<(), Kind>
         requires unnamed { (var : Var) → directive ≡ Directive.Variable var
             → variable_named self.old.parsed.vars var.name ≡ None }
-        ensures parsed { OnOk result (self.new.parsed ≡ after self.old.parsed directive) }
+        ensures parsed { OnOk result (self.new.parsed ≡ parsed_after self.old.parsed directive) }
         ensures fits { OnOk result
             (self.new.fits ≡ fits_after self.old.fits self.old.parsed.vars directive) }
         ensures err { IfErr result IsMemory }
@@ -68,10 +68,10 @@ impl TableLines {
     /// Takes the next line.
     #[tactic(auto, using(crate::proofs::Unnamed::unnamed))]
     pub(crate) fn line(&mut self, alloc: Global, number: u64, line: &[u8]) -> Result<(), Fault>
-        requires kept { IsKept self.old.parsed self.old.fits }
+        requires kept { IsKeptParse self.old.parsed self.old.fits }
         ensures ok { OnOk result ((directive : Directive)
             × (parse_line self.old.parsed number line.now ≡ Ok directive)
-            × (self.new.parsed ≡ after self.old.parsed directive)
+            × (self.new.parsed ≡ parsed_after self.old.parsed directive)
             × (self.new.fits ≡ fits_after self.old.fits self.old.parsed.vars directive)) }
         ensures err { IfErr result (λ fault. OrMemory fault
             ((parse_line self.old.parsed number line.now ≡ Err fault.kind)

@@ -1,6 +1,6 @@
 //! What a table makes of a cell and its neighbours.
 ghost use Rattle.std.specs.Prelude.{◌≡◌, ◌+◌, ◌<◌, length, All};
-ghost use Rattle.life_table.specs.Words.{Tells, AnswersNext, Gives, neighbour_count, cells_of, IsSite, IsLineAt, GoesRound, TurnsAreImages, centre_of, others_of};
+ghost use Rattle.life_table.specs.Words.{IsFoundOf, AnswersNext, Gives, neighbour_count, states_of_neighbours, IsSite, IsLineAt, GoesRound, TurnsAreImages, centre_of, others_of};
 
 use crate::choose::{by_counts, can_be};
 use crate::fit::by_images;
@@ -21,7 +21,7 @@ pub enum Neighbours {
 impl Neighbours {
     /// The states, the centre's first.
     pub(crate) fn as_slice(&self) -> &[State]
-        ensures { result.now ≡ cells_of self.now }
+        ensures { result.now ≡ states_of_neighbours self.now }
     {
         match self {
             Neighbours::Four(cells) => cells,
@@ -37,7 +37,7 @@ pub(crate) fn given_by(symmetry: Symmetry, site: &Site, line: &Transition) -> Fo
     requires line { IsLineAt site.now line.now }
     requires turns { GoesRound site.now }
     requires images { TurnsAreImages symmetry site.now }
-    ensures { Tells
+    ensures { IsFoundOf
         (Gives symmetry site.now.vars.now line.now (centre_of site.now) (others_of site.now))
         result }
 {
@@ -57,10 +57,10 @@ impl Table {
     ///
     /// `Ambiguous` where that line gives two states, with the number of the line in the table's file.
     pub fn next(&self, around: &Neighbours) -> Result<State, Fault>
-        requires neighbours { length (cells_of around.now)
+        requires neighbours { length (states_of_neighbours around.now)
             ≡ neighbour_count self.now.neighborhood + 1 }
-        requires states { All (λ s. s < self.now.n_states) (cells_of around.now) }
-        ensures { AnswersNext self.now (cells_of around.now) result }
+        requires states { All (λ s. s < self.now.n_states) (states_of_neighbours around.now) }
+        ensures { AnswersNext self.now (states_of_neighbours around.now) result }
     {
         let cells = around.as_slice();
         let vars = self.vars.as_slice();

@@ -1,7 +1,7 @@
 //! Rule tables, read.
 
 ghost use Rattle.std.specs.Prelude.{◌≡◌, IfOk, IfErr, Some, None, true};
-ghost use Rattle.life_table.specs.Words.{OrMemory, lines_of, IsFile, lacking, is_table_kind, Refuses, Describes, IsGood};
+ghost use Rattle.life_table.specs.Words.{OrMemory, lines_of, IsPlainTable, missing_part_of, is_table_kind, RefusesTable, Describes, IsGood};
 
 use crate::directive::{Parsed, Section};
 use crate::lines::TableLines;
@@ -13,9 +13,10 @@ use std::alloc::Global;
 /// The table that lines describe, or what they lack where they end.
 fn table_of(alloc: Global, parsed: Parsed, end: u64) -> Result<Table, Fault>
     requires good { IsGood parsed }
-    ensures ok { IfOk result (λ table. (lacking parsed ≡ None) × Describes parsed table) }
+    ensures ok { IfOk result (λ table. (missing_part_of parsed ≡ None) × Describes parsed table) }
     ensures err { IfErr result
-        (λ fault. OrMemory fault ((lacking parsed ≡ Some fault.kind) × (fault.place.line ≡ end))) }
+        (λ fault. OrMemory fault ((missing_part_of parsed ≡ Some fault.kind)
+        × (fault.place.line ≡ end))) }
 {
     let Parsed {
         name,
@@ -56,8 +57,8 @@ fn table_of(alloc: Global, parsed: Parsed, end: u64) -> Result<Table, Fault>
 /// end before they have one, and the kind is that of the first rule which that line breaks, or of what is missing. Where a growth of memory
 /// is refused the fault is `Memory`, which names no line.
 pub fn read_table_seeded(alloc: Global, seed: NameSeed, bytes: &[u8]) -> Result<Table, Fault>
-    ensures ok { IfOk result (λ table. IsFile (lines_of bytes.now) table) }
-    ensures err { IfErr result (λ fault. OrMemory fault (Refuses (lines_of bytes.now) fault)) }
+    ensures ok { IfOk result (λ table. IsPlainTable (lines_of bytes.now) table) }
+    ensures err { IfErr result (λ fault. OrMemory fault (RefusesTable (lines_of bytes.now) fault)) }
     ensures kinds { IfErr result (λ fault. OrMemory fault (is_table_kind fault.kind ≡ true)) }
 {
     let mut reader = TableLines::new(alloc, seed);
@@ -76,8 +77,8 @@ pub fn read_table_seeded(alloc: Global, seed: NameSeed, bytes: &[u8]) -> Result<
 ///
 /// Those of `read_table_seeded`.
 pub fn read_table(alloc: Global, bytes: &[u8]) -> Result<Table, Fault>
-    ensures ok { IfOk result (λ table. IsFile (lines_of bytes.now) table) }
-    ensures err { IfErr result (λ fault. OrMemory fault (Refuses (lines_of bytes.now) fault)) }
+    ensures ok { IfOk result (λ table. IsPlainTable (lines_of bytes.now) table) }
+    ensures err { IfErr result (λ fault. OrMemory fault (RefusesTable (lines_of bytes.now) fault)) }
     ensures kinds { IfErr result (λ fault. OrMemory fault (is_table_kind fault.kind ≡ true)) }
 {
     read_table_seeded(alloc, NameSeed::fixed(), bytes)

@@ -1,7 +1,7 @@
 //! The lines of a block that may give something in some order of the neighbours. However many of them have one of some states, as many inputs
 //! must be able to be one of these.
 ghost use Rattle.std.specs.Prelude.{◌≡◌, ℕ, ◌+◌, ◌*◌, ◌<◌, ◌≤◌, ◌∷◌, List, Contains, count_by, drop, length, slice_index};
-ghost use Rattle.life_table.specs.Words.{bit_at, orders, Stay, is_among, AreCounts, KeepsOrders, MayBeBehind, MayFit, MayFitInSomeOrder};
+ghost use Rattle.life_table.specs.Words.{bit_at, orders, Stay, is_among, AreCounts, KeepsOrders, MayComeAfter, MayFit, MayFitInSomeOrder};
 
 use crate::block::Block;
 use life_base::State;
@@ -102,7 +102,7 @@ impl Block {
     fn with_inputs_among(&self, n: usize, states: &[State], times: usize) -> u64
         requires room { n ≤ 8 }
         requires few { times ≤ n }
-        ensures { (k : ℕ) (v : List ℕ) → k < 64 → length v ≡ n → MayBeBehind self.now v k
+        ensures { (k : ℕ) (v : List ℕ) → k < 64 → length v ≡ n → MayComeAfter self.now v k
             → times ≤ count_by (is_among states.now) v → bit_at result k ≡ 1 }
     {
         let mut reached = [0; 9];
@@ -118,7 +118,7 @@ impl Block {
     fn with_enough_among(&self, others: &[State], states: &[State]) -> u64
         requires { length others.now ≤ 8 }
         ensures { (k : ℕ) (v : List ℕ) → k < 64 → Contains (orders others.now) v
-            → MayBeBehind self.now v k → bit_at result k ≡ 1 }
+            → MayComeAfter self.now v k → bit_at result k ≡ 1 }
     {
         let times = count_among(others, states);
         self.with_inputs_among(others.len(), states, times)

@@ -1,6 +1,6 @@
 //! The values of a rule table.
 ghost use Rattle.std.proofs.Props.{props};
-ghost use Rattle.life_table.specs.Valid.{IsSound};
+ghost use Rattle.life_table.specs.Valid.{IsSoundTable};
 
 use life_base::{Items, Name, State};
 
@@ -54,5 +54,5 @@ pub struct Table {
     pub symmetry: Symmetry,
     pub vars: Items<Var>,
     pub lines: Items<Transition>,
-    pub ghost sound: { IsSound n_states neighborhood symmetry vars lines } by { Prim.hlevel props },
+    pub ghost sound: { IsSoundTable n_states neighborhood symmetry vars lines } by { Prim.hlevel props },
 }

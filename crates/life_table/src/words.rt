@@ -1,7 +1,7 @@
 //! Parts of a line.
 
 ghost use Rattle.std.specs.Prelude.{◌≡◌, ◌<◌, ◌==◌, ◌∷◌, position, length, IfSome, bytes_eq};
-ghost use Rattle.life_table.specs.Words.{list_any, before_first, after_first, slice_split, byte, content, is_section_line, is_table_line, is_passed_over, number_below, parts_left};
+ghost use Rattle.life_table.specs.Words.{list_any, before_first, after_first, slice_split, byte, line_content, is_section_line, is_table_line, is_passed_over, number_below, parts_left};
 
 use life_base::{begins_with, is_blank, is_whitespace, read_u64, trimmed};
 
@@ -60,7 +60,7 @@ pub(crate) fn first_part(text: &[u8]) -> (&[u8], Option<&[u8]>)
 
 /// What a line of a table says: the line without its comment and the whitespace at its ends.
 pub(crate) fn content(line: &[u8]) -> &[u8]
-    ensures { result.now ≡ content line.now }
+    ensures { result.now ≡ line_content line.now }
 {
     trimmed(split_at_byte(line, b'#').0)
 }

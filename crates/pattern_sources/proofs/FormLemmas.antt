@@ -39,7 +39,7 @@ module _ (fit : PatternsFit MAX_LEVEL) (store : Nodes) (pattern : Pattern) where
   -- so is one of a pattern whose form is small
   pub said_text : {X : Type 0} (form : Form) (is_text : Universe → List ℕ → Type 0) (items : X → List ℕ) (r : Result X Fault)
       → IfOk r (λ x. is_text (universe_in store pattern) (items x))
-      → OnOk r ((bytes : List ℕ) → IsRead MAX_LEVEL bytes store pattern → ¬ files.HasLargeForm form MAX_LEVEL bytes)
+      → OnOk r ((bytes : List ℕ) → IsRead MAX_LEVEL bytes store pattern → ¬ files.FileHasLargeForm form MAX_LEVEL bytes)
       → IfOk r (λ x. (bytes : List ℕ) → IsRead MAX_LEVEL bytes store pattern → SaysText form is_text MAX_LEVEL bytes (items x))
   said_text form is_text items (Ok x) h small =
       λ bytes read. record {
@@ -52,12 +52,12 @@ module _ (fit : PatternsFit MAX_LEVEL) (store : Nodes) (pattern : Pattern) where
 
   -- a pattern with a large form is that of a file with one
   pub large_file : store.limit ≡ 2 ^ 31 → (bytes : List ℕ) → IsRead MAX_LEVEL bytes store pattern → HasLargeForm store pattern
-      → files.HasLargeForm Moved MAX_LEVEL bytes
+      → files.FileHasLargeForm Moved MAX_LEVEL bytes
   large_file limit bytes read large =
       (read.universe, read.reads, subst₂ (λ (n : ℕ) (u : Universe). HasLargerForm n u) (form_limit store.limit limit) (sym (said bytes read)) large)
 
   pub large_image : store.limit ≡ 2 ^ 31 → (bytes : List ℕ) → IsRead MAX_LEVEL bytes store pattern → HasLargeImage store pattern
-      → files.HasLargeForm Turned MAX_LEVEL bytes
+      → files.FileHasLargeForm Turned MAX_LEVEL bytes
   large_image limit bytes read large = (
     read.universe,
     read.reads,
@@ -70,13 +70,13 @@ module _ (fit : PatternsFit MAX_LEVEL) (store : Nodes) (pattern : Pattern) where
 
   -- a file with a large form is one of a pattern with a large form
   pub large_pattern : FilesAreUnique MAX_LEVEL → store.limit ≡ 2 ^ 31 → (bytes : List ℕ) → IsRead MAX_LEVEL bytes store pattern
-      → files.HasLargeForm Moved MAX_LEVEL bytes → HasLargeForm store pattern
+      → files.FileHasLargeForm Moved MAX_LEVEL bytes → HasLargeForm store pattern
   large_pattern unique limit bytes read large =
       let same = unique (lines_of bytes) large.0 read.universe large.1 read.reads ∙ said bytes read in
       subst₂ (λ (n : ℕ) (u : Universe). HasLargerForm n u) (sym (form_limit store.limit limit)) same large.2
 
   pub large_turn : FilesAreUnique MAX_LEVEL → store.limit ≡ 2 ^ 31 → (bytes : List ℕ) → IsRead MAX_LEVEL bytes store pattern
-      → files.HasLargeForm Turned MAX_LEVEL bytes → HasLargeImage store pattern
+      → files.FileHasLargeForm Turned MAX_LEVEL bytes → HasLargeImage store pattern
   large_turn unique limit bytes read large =
       let same = unique (lines_of bytes) large.0 read.universe large.1 read.reads ∙ said bytes read in (
         large.2.0,
@@ -84,12 +84,12 @@ module _ (fit : PatternsFit MAX_LEVEL) (store : Nodes) (pattern : Pattern) where
       )
 
   pub small_file : {X : Type 0} (r : Result X Fault) → FilesAreUnique MAX_LEVEL → store.limit ≡ 2 ^ 31 → OnOk r (¬ HasLargeForm store pattern)
-      → OnOk r ((bytes : List ℕ) → IsRead MAX_LEVEL bytes store pattern → ¬ files.HasLargeForm Moved MAX_LEVEL bytes)
+      → OnOk r ((bytes : List ℕ) → IsRead MAX_LEVEL bytes store pattern → ¬ files.FileHasLargeForm Moved MAX_LEVEL bytes)
   small_file (Ok x) unique limit small = λ bytes read large. small (large_pattern unique limit bytes read large)
   small_file (Err fault) unique limit small = tt
 
   pub small_images : {X : Type 0} (r : Result X Fault) → FilesAreUnique MAX_LEVEL → store.limit ≡ 2 ^ 31 → OnOk r (¬ HasLargeImage store pattern)
-      → OnOk r ((bytes : List ℕ) → IsRead MAX_LEVEL bytes store pattern → ¬ files.HasLargeForm Turned MAX_LEVEL bytes)
+      → OnOk r ((bytes : List ℕ) → IsRead MAX_LEVEL bytes store pattern → ¬ files.FileHasLargeForm Turned MAX_LEVEL bytes)
   small_images (Ok x) unique limit small = λ bytes read large. small (large_turn unique limit bytes read large)
   small_images (Err fault) unique limit small = tt
 

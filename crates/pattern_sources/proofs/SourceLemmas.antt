@@ -9,7 +9,7 @@ use Rattle.life_base.specs.declared.kind.Kind.{Kind}
 use Rattle.life_base.specs.declared.kind.Kind.TheVariants as kinds
 use Rattle.life_base.specs.declared.kind.Kind.TheVariants.{Full, Memory, TooManyCells, ReadFault, InputTooLong, WriteFault}
 use Rattle.life_quad.specs.Keeping.{AddsOnly}
-use Rattle.life_quad.specs.Store.{Nodes, held}
+use Rattle.life_quad.specs.Store.{Nodes, stored_squares}
 use Rattle.life_canon.specs.Files.{Refuses}
 use Rattle.life_canon.specs.ReadWhole.{ReadsWhole}
 use Rattle.life_canon.specs.Room.{AddsFile, room_for}
@@ -22,8 +22,8 @@ use Rattle.pattern_sources.specs.Faults.{status_of}
 use Rattle.pattern_sources.specs.Sources.{by_length, by_source, HasNoText, by_input, by_file, by_want, RefusesInForm, AreOfInput, HoldsNoneBut, HoldsOneFile, IsTooSmallFor, HasText, ComesOf}
 
 -- which squares a call leaves in the store that reads an input into it
-pub squares_of_input : (old new : Nodes) (input : Option (List ℕ)) → AddsForRead input old new → AllPairs ◌≢◌ (held new)
-    → ((t : Tree) → Contains (held new) t → is_blank_tree t ≡ false) → AreOfInput (held old) input (held new)
+pub squares_of_input : (old new : Nodes) (input : Option (List ℕ)) → AddsForRead input old new → AllPairs ◌≢◌ (stored_squares new)
+    → ((t : Tree) → Contains (stored_squares new) t → is_blank_tree t ≡ false) → AreOfInput (stored_squares old) input (stored_squares new)
 squares_of_input old new input adds distinct not_blank = record {
   bytes = adds.bytes;
   left = adds.left;
@@ -35,7 +35,7 @@ squares_of_input old new input adds distinct not_blank = record {
 
 -- a store that got full is too small for the input
 pub too_small : {X : Type 0} (old new : Nodes) (source : SourceRun) (result : Result X Fault) → ReadsSource (2 ^ 30) old new source result
-    → AreOfInput (held old) source.before (held new) → result ≡ Err (fault_of Full) → IsTooSmallFor (held old) source new
+    → AreOfInput (stored_squares old) source.before (stored_squares new) → result ≡ Err (fault_of Full) → IsTooSmallFor (stored_squares old) source new
 too_small old new source result reads squares full =
     let room = reads.room full in
     record {
@@ -43,11 +43,11 @@ too_small old new source result reads squares full =
       lacks = reads.needed full;
       read = room.bytes;
       came = room.came;
-      tight = subst (λ limit. limit < length (held old) + room_for (length room.bytes)) (sym reads.keeps.limit) room.tight;
+      tight = subst (λ limit. limit < length (stored_squares old) + room_for (length room.bytes)) (sym reads.keeps.limit) room.tight;
     }
 
 pub too_small_alone : {X : Type 0} (old new : Nodes) (source : SourceRun) (result : Result X Fault) → ReadsSource (2 ^ 30) old new source result
-    → AreOfInput (held old) source.before (held new) → held old ≡ [] → result ≡ Err (fault_of Full) → IsTooSmallFor [] source new
+    → AreOfInput (stored_squares old) source.before (stored_squares new) → stored_squares old ≡ [] → result ≡ Err (fault_of Full) → IsTooSmallFor [] source new
 too_small_alone old new source result reads squares empty full =
     subst (λ base. IsTooSmallFor base source new) empty (too_small old new source result reads squares full)
 
@@ -61,17 +61,17 @@ no_pattern refuses source store fault limit f (reading.by_length is came) lacks 
 no_pattern refuses source store fault limit f (reading.by_source is failed) lacks = by_input (by_source is failed)
 
 -- a store that held no square holds those that calls have added
-none_held : (old : Nodes) → held old ≡ [] → (t : Tree) → Contains (held old) t → ⊥
+none_held : (old : Nodes) → stored_squares old ≡ [] → (t : Tree) → Contains (stored_squares old) t → ⊥
 none_held old none t there =
     let it : Contains [] t = subst (λ (squares : List Tree). Contains squares t) none there in
     omega (arith, it.1)
 
-pub holds_one : (bytes : List ℕ) (old new : Nodes) → held old ≡ [] → AddsFile bytes old new → HoldsOneFile bytes new
+pub holds_one : (bytes : List ℕ) (old new : Nodes) → stored_squares old ≡ [] → AddsFile bytes old new → HoldsOneFile bytes new
 holds_one bytes old new none adds t there = elim (adds.each t there) [ inl before ↦ absurd (none_held old none t before) | inr own ↦ own ]
 
 -- what a store holds to which a call added squares that its answer needs
 pub holds_more : (IsToRead : Tree → Type 0) (Added ToMake : (Tree → Type 0) → Type 0) (old new : Nodes) → HoldsNoneBut IsToRead old
-    → ((P : Tree → Type 0) → Added P → ToMake P) → AddsOnly held Added old new → HoldsNoneBut (λ t. IsToRead t ⊎ ToMake (λ u. u ≡ t)) new
+    → ((P : Tree → Type 0) → Added P → ToMake P) → AddsOnly stored_squares Added old new → HoldsNoneBut (λ t. IsToRead t ⊎ ToMake (λ u. u ≡ t)) new
 holds_more IsToRead Added ToMake old new only f adds t there = elim (adds.each t there) [
   | inl before ↦ inl (only t before)
   | inr made ↦ inr (f (λ u. u ≡ t) made)
@@ -99,7 +99,7 @@ text_of_pattern gives items source store pattern (Err fault) has is = tt
 
 -- nothing comes of a file whose pattern wasn't read
 pub nothing_comes : {X : Type 0} (items : X → List ℕ) (gives : List ℕ → List ℕ → Type 0) (refuses : List ℕ → Fault → Type 0) (source : SourceRun)
-    (old new : Nodes) (fault : Fault) → old.limit ≡ 2 ^ 31 → held old ≡ [] → AreOfInput (held old) source.before (held new) →
+    (old new : Nodes) (fault : Fault) → old.limit ≡ 2 ^ 31 → stored_squares old ≡ [] → AreOfInput (stored_squares old) source.before (stored_squares new) →
     ((bytes : List ℕ) → Refuses MAX_LEVEL bytes fault → refuses bytes fault)
     → ReadsPattern (2 ^ 30) old new source (Err fault) → ComesOf items gives refuses source (Err fault)
 nothing_comes items gives refuses source old new fault limit empty squares f read = record {

@@ -43,6 +43,6 @@ status_of kinds.Memory = 4
 status_of _ = 2
 
 -- the text was written, or a prefix of it where the sink failed or took no bytes
-abbrev pub Tells : SinkRun → List ℕ → Type 0
-Tells output text = Appends output.before output.after text
+abbrev pub Reports : SinkRun → List ℕ → Type 0
+Reports output text = Appends output.before output.after text
     ⊎ (WritesPrefix output.before output.after text × ((output.failures ≡ 1) ⊎ (output.stalled ≡ true)))

@@ -18,16 +18,16 @@ pub record IsMovedText (top : ℕ) (u : Universe) (text : List ℕ) : Type 0 whe
   pub is : text ≡ canon_text top form
 
 -- the bytes are a file, and the moved form of what it says has more than 2^21 different squares; turned, that of one of its eight images
-abbrev pub HasLargeForm : Form → ℕ → List ℕ → Type 0
-HasLargeForm Placed top bytes = ⊥
-HasLargeForm Moved top bytes = (u : Universe) × Reads top bytes u × HasLargerForm (2 ^ 21) u
-HasLargeForm Turned top bytes = (u : Universe) × Reads top bytes u × ((turn : Turn) × HasLargerForm (2 ^ 21) (image turn u))
+abbrev pub FileHasLargeForm : Form → ℕ → List ℕ → Type 0
+FileHasLargeForm Placed top bytes = ⊥
+FileHasLargeForm Moved top bytes = (u : Universe) × Reads top bytes u × HasLargerForm (2 ^ 21) u
+FileHasLargeForm Turned top bytes = (u : Universe) × Reads top bytes u × ((turn : Turn) × HasLargerForm (2 ^ 21) (image turn u))
 
 -- the bytes are a file whose form is not too large, and this is a text of what it says
 pub record SaysText (form : Form) (is_text : Universe → List ℕ → Type 0) (top : ℕ) (bytes text : List ℕ) : Type 0 where
   pub universe : Universe
   pub reads : Reads top bytes universe
-  pub small : ¬ HasLargeForm form top bytes
+  pub small : ¬ FileHasLargeForm form top bytes
   pub is : is_text universe text
 
 -- the bytes are a file, and this is the text of its pattern in the form

@@ -1,7 +1,7 @@
 //! The pattern of a source, in a store.
 
 ghost use Rattle.std.specs.Prelude.{◌≡◌, ◌≢◌, ◌^◌, IfOk, IfErr, OnOk, true};
-ghost use Rattle.pattern_sources.specs.Words.{source_run, sink_run, held, AreWorking, ReadsPattern, ReadsWhole, RunsCanon, AreOfInput};
+ghost use Rattle.pattern_sources.specs.Words.{source_run, sink_run, stored_squares, AreWorking, ReadsPattern, ReadsWhole, RunsCanon, AreOfInput};
 
 use life_base::{Fault, Kind, Sink, Source};
 use life_canon::{Pattern, read_from, run_canon};
@@ -27,7 +27,8 @@ pub fn pattern_of<A: Source>(
         (source_run A.remaining A.failures source.old source.new) result }
     ensures only { IfOk result (ReadsWhole (2 ^ 30) store.old store.new
         (source_run A.remaining A.failures source.old source.new)) }
-    ensures squares { AreOfInput (held store.old) (A.remaining source.old) (held store.new) }
+    ensures squares { AreOfInput (stored_squares store.old) (A.remaining source.old)
+        (stored_squares store.new) }
 {
     let pattern = read_from(alloc, store, source);
     // Its contract says that a store holds each square once, and none that is blank.
@@ -50,7 +51,8 @@ pub fn write_canonical<A: Source, O: Sink>(
     ensures runs { RunsCanon (2 ^ 30) store.old store.new
         (source_run A.remaining A.failures source.old source.new)
         (sink_run O.contents O.failures O.stalled out.old out.new) result }
-    ensures squares { AreOfInput (held store.old) (A.remaining source.old) (held store.new) }
+    ensures squares { AreOfInput (stored_squares store.old) (A.remaining source.old)
+        (stored_squares store.new) }
     ensures flushed { OnOk result (O.flushed out.new ≡ true) }
     ensures unwritten { IfErr result
         (λ fault. fault.kind ≢ Kind.WriteFault → out.new ≡ out.old) }

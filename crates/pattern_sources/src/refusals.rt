@@ -1,7 +1,7 @@
 //! Fault lines and statuses.
 
 ghost use Rattle.std.specs.Prelude.{◌≡◌, ◌⊎◌, true, IfErr, OnErr};
-ghost use Rattle.pattern_sources.specs.Words.{sink_run, WritesText, fault_line, fault_of, is_of_table, line_word, refusal_of, status_of, Tells};
+ghost use Rattle.pattern_sources.specs.Words.{sink_run, WritesText, fault_line, fault_of, is_of_table, line_word, refusal_of, status_of, Reports};
 
 use itoa::Buffer;
 use life_base::{Fault, Kind, Sink, write_texts};
@@ -78,7 +78,7 @@ fn write_refusal<E: Sink>(err: &mut E, refusal: &Refusal) -> Result<(), Kind>
 /// Writes the line of a fault, as far as the sink takes it. It takes no memory.
 pub fn tell<E: Sink>(err: &mut E, refusal: &Refusal)
     requires { E.failures err.old ≡ 0 }
-    ensures { Tells (sink_run E.contents E.failures E.stalled err.old err.new)
+    ensures { Reports (sink_run E.contents E.failures E.stalled err.old err.new)
         (fault_line refusal.now) }
 {
     let _ = write_refusal(err, refusal);
@@ -98,7 +98,7 @@ pub fn status(kind: Kind) -> u8
 /// Writes the line of a fault that is none of a file's text, and returns its status.
 pub fn refuse<E: Sink>(err: &mut E, kind: Kind) -> u8
     requires { E.failures err.old ≡ 0 }
-    ensures told { Tells (sink_run E.contents E.failures E.stalled err.old err.new)
+    ensures told { Reports (sink_run E.contents E.failures E.stalled err.old err.new)
         (fault_line (refusal_of (fault_of kind))) }
     ensures status { result ≡ status_of kind }
 {

@@ -8,19 +8,19 @@ use Rattle.life_mc.specs.Reading.{IsMacrocell}
 use Rattle.life_canon.specs.Files.{Accepted}
 use Rattle.life_canon.specs.Least.{IsLeastText}
 use Rattle.life_canon.specs.Listing.{canon_text, canonical_file}
-use Rattle.life_canon.specs.Texts.{IsCanonical, IsShown as LayerShown}
+use Rattle.life_canon.specs.Texts.{IsCanonical, IsShownText as LayerShown}
 use Rattle.pattern_sources.specs.Forms.{IsTextIn as LayerTextIn}
-use Rattle.life_cli.specs.Jobs.{Compares, Writes, HasAnswer}
+use Rattle.life_cli.specs.Jobs.{Compares, TaskWrites, HasAnswer}
 use Rattle.command_line.specs.Plans.{HasSecond as LayerSecond}
 use Rattle.command_line.specs.declared.plans.Form.{Form}
 use Rattle.command_line.specs.declared.plans.Form.TheVariants.{Placed, Moved, Turned}
 use Rattle.command_line.specs.declared.plans.Task.{Task}
 use Rattle.command_line.specs.declared.plans.Task.TheVariants as tasks
 use Rattle.command_line.specs.declared.plans.Target.TheVariants.{Rle, Mc}
-use Rattle.claims.specs.Counting.{node_lines, IsCanonicalText}
-use Rattle.claims.specs.Files.{pattern_of, Same}
+use Rattle.claims.specs.Counting.{claimed_node_lines, IsCanonicalText}
+use Rattle.claims.specs.Files.{pattern_of, SayOnePattern}
 use Rattle.claims.specs.Pattern.{Pattern}
-use Rattle.claims.specs.Shown.{IsShown}
+use Rattle.claims.specs.Shown.{IsClaimedShown}
 use Rattle.theorems.proofs.CellsLaw.{few_cells}
 use Rattle.theorems.proofs.CanonicalLaw.{canonical_so}
 use Rattle.theorems.proofs.FileLaw.{files_agree, texts_are_exact, same_to, rle_format}
@@ -30,26 +30,26 @@ use Rattle.theorems.proofs.TextLaw.{rle_of_file}
 use Rattle.theorems.proofs.StreamLaw.{all_read, appended, at_end}
 use Rattle.step_theorems.proofs.StepLaw.{stepped_is}
 use Rattle.step_theorems.proofs.StepBy.{stepped_text}
-use Rattle.program_theorems.specs.Jobs.{HasSecond, WritesCanonical, IsOutcome, IsShort}
-use Rattle.program_theorems.specs.Forms.{SameIn, IsTextIn}
+use Rattle.program_theorems.specs.Jobs.{HasClaimedSecond, WritesCanonical, IsOutcome, IsShortFile}
+use Rattle.program_theorems.specs.Forms.{SameIn, IsClaimedTextIn}
 use Rattle.program_theorems.specs.Layers.{LayersAgree}
 use Rattle.program_theorems.proofs.FormTexts.{moved_exact, turned_exact}
 use Rattle.program_theorems.proofs.FormLaw.{moved_text_is, own_moved, own_text_of, own_turned, same_in_from, same_in_to, texts_tell_in, turned_text_is}
 
 -- ---- second files
 
-to_layer : (task : Task) → HasSecond task → LayerSecond task
+to_layer : (task : Task) → HasClaimedSecond task → LayerSecond task
 to_layer (tasks.Same form) h = tt
 to_layer tasks.StepTable h = tt
 to_layer _ h = h
 
-from_layer : (task : Task) → LayerSecond task → HasSecond task
+from_layer : (task : Task) → LayerSecond task → HasClaimedSecond task
 from_layer (tasks.Same form) h = tt
 from_layer tasks.StepTable h = tt
 from_layer _ h = h
 
 -- a second file is given where the task has one
-pub given_second : {P : Type 0} (task : Task) → P ↔ HasSecond task → P ↔ LayerSecond task
+pub given_second : {P : Type 0} (task : Task) → P ↔ HasClaimedSecond task → P ↔ LayerSecond task
 given_second task given = (λ is. to_layer task (given.0 is), λ has. given.1 (from_layer task has))
 
 pub second_before : {B : Type 0} (remaining : B → Option (List ℕ)) (old : Option B) (other : List ℕ) → IfSome old (λ b. remaining b ≡ Some other) → IsSome old
@@ -86,7 +86,7 @@ compares : LayersAgree → (form : Form) (a b : List ℕ) (status : ℕ) (text :
 compares laws form a b status text p q (inl h) = inl (h.0, same_in_to form a b h.1, h.2)
 compares laws form a b status text p q (inr h) = inr (h.0, (λ s. h.1 (same_in_from laws.on_plane form a b p.0 q.0 p.1 q.1 s)), h.2)
 
-text_in : LayersAgree → (form : Form) (file text : List ℕ) → LayerTextIn form 62 file text → IsTextIn form file text
+text_in : LayersAgree → (form : Form) (file text : List ℕ) → LayerTextIn form 62 file text → IsClaimedTextIn form file text
 text_in laws Placed file text h = canonical laws file text h
 text_in laws Moved file text h =
     let is = moved_text_is laws file text h in
@@ -97,7 +97,7 @@ text_in laws Turned file text h =
     let p = files_agree file h.universe h.reads in
     (is, canonical laws text text (own_turned laws file text h), (p.pattern, p.is, turned_exact laws file text h))
 
-answers : LayersAgree → (task : Task) (file second : List ℕ) (status : ℕ) (text : List ℕ) → Writes task file second status text
+answers : LayersAgree → (task : Task) (file second : List ℕ) (status : ℕ) (text : List ℕ) → TaskWrites task file second status text
     → IsOutcome task file second status text
 answers laws (tasks.Canon form) file second status text h = (h.0, text_in laws form file text h.1)
 answers laws (tasks.Convert Rle) file second status text h =
@@ -115,7 +115,7 @@ answers laws tasks.StepTable file second status text h =
     (h.0, stepped_text laws.on_plane laws.read laws.decide second file text h.1.0 ((laws.grammars (lines_of second) h.1.0).0 h.1.1) h.1.2)
 
 -- a task without a second file asks for nothing of one
-second_free : (task : Task) (file a b : List ℕ) (status : ℕ) (text : List ℕ) → (HasSecond task → a ≡ b) → IsOutcome task file a status text
+second_free : (task : Task) (file a b : List ℕ) (status : ℕ) (text : List ℕ) → (HasClaimedSecond task → a ≡ b) → IsOutcome task file a status text
     → IsOutcome task file b status text
 second_free (tasks.Canon form) file a b status text e h = h
 second_free (tasks.Convert Rle) file a b status text e h = h
@@ -127,7 +127,7 @@ second_free tasks.StepTable file a b status text e h = subst (λ (s : List ℕ).
 
 module _ (laws : LayersAgree) (task : Task) (first second : SourceRun) (status : ℕ) (text : List ℕ) (h : HasAnswer task first second status text) where
   -- what was made of the files is what their bytes ask for
-  pub answered : (file other : List ℕ) → first.before ≡ Some file → (HasSecond task → second.before ≡ Some other) → IsOutcome task file other status text
+  pub answered : (file other : List ℕ) → first.before ≡ Some file → (HasClaimedSecond task → second.before ≡ Some other) → IsOutcome task file other status text
   answered file other e f =
       let one = all_read (2 ^ 30) first.before first.after file h.first_bytes h.first_read e in
       let given = answers laws task h.first_bytes h.second_bytes status text h.writes in
@@ -136,19 +136,19 @@ module _ (laws : LayersAgree) (task : Task) (first second : SourceRun) (status :
       (subst (λ (b : List ℕ). IsOutcome task b h.second_bytes status text) one given)
 
 ended : (source : SourceRun) (bytes read : List ℕ) → ReadAll (2 ^ 30) source.before source.after read → source.before ≡ Some bytes
-    → (source.after ≡ Some []) × IsShort bytes
+    → (source.after ≡ Some []) × IsShortFile bytes
 ended source bytes read r e = (
   at_end source.before source.after bytes read r.taken r.ended e,
-  subst IsShort (all_read (2 ^ 30) source.before source.after bytes read r e) r.within,
+  subst IsShortFile (all_read (2 ^ 30) source.before source.after bytes read r e) r.within,
 )
 
 -- each file was read to its end
 pub first_ended : (task : Task) (first second : SourceRun) (status : ℕ) (text : List ℕ) → HasAnswer task first second status text → (file : List ℕ)
-    → first.before ≡ Some file → (first.after ≡ Some []) × IsShort file
+    → first.before ≡ Some file → (first.after ≡ Some []) × IsShortFile file
 first_ended task first second status text h file e = ended first file h.first_bytes h.first_read e
 
 pub second_ended : (task : Task) (first second : SourceRun) (status : ℕ) (text : List ℕ) → HasAnswer task first second status text → (other : List ℕ)
-    → HasSecond task → second.before ≡ Some other → (second.after ≡ Some []) × IsShort other
+    → HasClaimedSecond task → second.before ≡ Some other → (second.after ≡ Some []) × IsShortFile other
 second_ended task first second status text h other has e = ended second other h.second_bytes (h.second_read (to_layer task has)) e
 
 -- ---- the texts of two runs
@@ -164,7 +164,7 @@ two_written old new other_old other_new held kept text other one two e f related
 own_canonical : LayersAgree → (bytes text : List ℕ) → IsCanonical 62 bytes text → IsCanonical 62 text text
 own_canonical laws bytes text c = own_text_of laws c.universe text (laws.on_plane bytes c.universe c.reads) c.is
 
-own_text : LayersAgree → (task : Task) (file second : List ℕ) (status : ℕ) (text : List ℕ) → WritesCanonical task → Writes task file second status text
+own_text : LayersAgree → (task : Task) (file second : List ℕ) (status : ℕ) (text : List ℕ) → WritesCanonical task → TaskWrites task file second status text
     → IsCanonical 62 text text
 own_text laws (tasks.Canon Placed) file second status text w h = own_canonical laws file text h.1
 own_text laws (tasks.Canon Moved) file second status text w h = own_moved laws file text h.1
@@ -178,7 +178,7 @@ own_text laws tasks.StepTable file second status text w h = let t = h.1.2.3 in r
 
 pub equal_outputs : LayersAgree → (task other_task : Task) (first second other_first other_second : SourceRun) (status other_status : ℕ) (text other : List ℕ)
     → HasAnswer task first second status text → HasAnswer other_task other_first other_second other_status other
-    → WritesCanonical task → WritesCanonical other_task → (text ≡ other) ↔ Same text other
+    → WritesCanonical task → WritesCanonical other_task → (text ≡ other) ↔ SayOnePattern text other
 equal_outputs laws task other_task first second other_first other_second status other_status text other h k w v =
     texts_are_exact laws.tell laws.on_plane text other text other (own_text laws task h.first_bytes h.second_bytes status text w h.writes)
     (own_text laws other_task k.first_bytes k.second_bytes other_status other v k.writes)
@@ -194,11 +194,11 @@ form_outputs laws form task other_task first second other_first other_second sta
     (subst (λ (b : List ℕ). LayerTextIn form 62 b other)
     (all_read (2 ^ 30) other_first.before other_first.after other_file k.first_bytes k.first_read f) two.1)
   where
-    one : Writes (tasks.Canon form) h.first_bytes h.second_bytes status text
-    one = subst (λ (j : Task). Writes j h.first_bytes h.second_bytes status text) is h.writes
+    one : TaskWrites (tasks.Canon form) h.first_bytes h.second_bytes status text
+    one = subst (λ (j : Task). TaskWrites j h.first_bytes h.second_bytes status text) is h.writes
 
-    two : Writes (tasks.Canon form) k.first_bytes k.second_bytes other_status other
-    two = subst (λ (j : Task). Writes j k.first_bytes k.second_bytes other_status other) other_is k.writes
+    two : TaskWrites (tasks.Canon form) k.first_bytes k.second_bytes other_status other
+    two = subst (λ (j : Task). TaskWrites j k.first_bytes k.second_bytes other_status other) other_is k.writes
 
 -- what `show` and `canon` write of the same bytes
 pub shown_outputs : LayersAgree → (task other_task : Task) (first second other_first other_second : SourceRun) (status other_status : ℕ)
@@ -206,17 +206,17 @@ pub shown_outputs : LayersAgree → (task other_task : Task) (first second other
     → HasAnswer task first second status text → HasAnswer other_task other_first other_second other_status lines → task ≡ tasks.Canon Placed
     → other_task ≡ tasks.Show
     → first.before ≡ Some file → other_first.before ≡ Some file
-    → (pattern : Pattern) × (pattern_of file ≡ Ok pattern) × IsShown pattern (node_lines text) lines
+    → (pattern : Pattern) × (pattern_of file ≡ Ok pattern) × IsClaimedShown pattern (claimed_node_lines text) lines
 shown_outputs laws task other_task first second other_first other_second status other_status text lines file h k is other_is e f =
     shown_is laws.on_plane laws.unique laws.files file lines text
     (subst (λ (b : List ℕ). LayerShown 62 b lines) (all_read (2 ^ 30) other_first.before other_first.after file k.first_bytes k.first_read f) shown.1)
     (subst (λ (b : List ℕ). IsCanonical 62 b text) (all_read (2 ^ 30) first.before first.after file h.first_bytes h.first_read e) canonical.1)
   where
-    canonical : Writes (tasks.Canon Placed) h.first_bytes h.second_bytes status text
-    canonical = subst (λ (j : Task). Writes j h.first_bytes h.second_bytes status text) is h.writes
+    canonical : TaskWrites (tasks.Canon Placed) h.first_bytes h.second_bytes status text
+    canonical = subst (λ (j : Task). TaskWrites j h.first_bytes h.second_bytes status text) is h.writes
 
-    shown : Writes tasks.Show k.first_bytes k.second_bytes other_status lines
-    shown = subst (λ (j : Task). Writes j k.first_bytes k.second_bytes other_status lines) other_is k.writes
+    shown : TaskWrites tasks.Show k.first_bytes k.second_bytes other_status lines
+    shown = subst (λ (j : Task). TaskWrites j k.first_bytes k.second_bytes other_status lines) other_is k.writes
 
 -- what a task for the canonical text of a file writes is that of the file's bytes
 pub written_canonical : (task : Task) (first second : SourceRun) (status : ℕ) (text file : List ℕ) → HasAnswer task first second status text
@@ -225,5 +225,5 @@ written_canonical task first second status text file h e is =
     subst (λ (b : List ℕ). IsCanonical 62 b text) (all_read (2 ^ 30) first.before first.after file h.first_bytes h.first_read e) (of_job is)
   where
     of_job : (task ≡ tasks.Canon Placed) ⊎ (task ≡ tasks.Convert Mc) → IsCanonical 62 h.first_bytes text
-    of_job (inl canon) = (subst (λ (j : Task). Writes j h.first_bytes h.second_bytes status text) canon h.writes).1
-    of_job (inr convert) = (subst (λ (j : Task). Writes j h.first_bytes h.second_bytes status text) convert h.writes).1
+    of_job (inl canon) = (subst (λ (j : Task). TaskWrites j h.first_bytes h.second_bytes status text) canon h.writes).1
+    of_job (inr convert) = (subst (λ (j : Task). TaskWrites j h.first_bytes h.second_bytes status text) convert h.writes).1

@@ -20,7 +20,7 @@ use Rattle.claims.specs.Pattern.{Pattern}
 use Rattle.claims.proofs.RuleLaw.{rule_in}
 use Rattle.claims.proofs.RuleBack.{rules_are}
 use Rattle.theorems.proofs.FileLaw.{Agrees, files_agree, ok_of, same_from, same_to, texts_are_exact}
-use Rattle.program_theorems.specs.Forms.{AreRelated, IsShift, IsTurnedShift, SameIn, mirrored, image}
+use Rattle.program_theorems.specs.Forms.{AreRelated, IsClaimedShift, IsClaimedTurnedShift, SameIn, claimed_coordinate, claimed_image}
 use Rattle.program_theorems.specs.Layers.{LayersAgree}
 
 -- ---- patterns
@@ -34,28 +34,28 @@ pub record Says (p : Pattern) (u : Universe) : Type 0 where
 pub said : (bytes : List ℕ) (u : Universe) (p : Agrees bytes u) → Says p.pattern u
 said bytes u p = record { rule = p.rule; generation = p.generation; cells = p.cells }
 
-counted_is : (b : Bool) (x : ℤ) → mirrored b x ≡ layer.counted b x
+counted_is : (b : Bool) (x : ℤ) → claimed_coordinate b x ≡ layer.counted_coordinate b x
 counted_is true (pos n) = refl
 counted_is true (negsuc n) = refl
 counted_is false x = refl
 
-pub image_says : (p : Pattern) (u : Universe) (turn : Turn) → Says p u → Says (image turn.exchange turn.columns turn.rows p) (layer.image turn u)
+pub image_says : (p : Pattern) (u : Universe) (turn : Turn) → Says p u → Says (claimed_image turn.exchange turn.columns turn.rows p) (layer.image turn u)
 image_says p u turn s = record {
   rule = s.rule;
   generation = s.generation;
   cells = λ x y.
       ap₂ p.cell (counted_is turn.columns (if turn.exchange then y else x)) (counted_is turn.rows (if turn.exchange then x else y))
-      ∙ s.cells (layer.column_of turn x y) (layer.row_of turn x y);
+      ∙ s.cells (layer.turned_column turn x y) (layer.turned_row turn x y);
 }
 
-pub shift_to : (p q : Pattern) (u v : Universe) → Says p u → Says q v → LayerShift u v → IsShift p q
+pub shift_to : (p q : Pattern) (u v : Universe) → Says p u → Says q v → LayerShift u v → IsClaimedShift p q
 shift_to p q u v a b s = (
   a.rule ∙ ap rule_in s.rule ∙ sym b.rule,
   a.generation ∙ s.generation ∙ sym b.generation,
   (s.columns, s.rows, λ x y. b.cells (x +ℤ s.columns) (y +ℤ s.rows) ∙ s.cells x y ∙ sym (a.cells x y)),
 )
 
-shift_from : (p q : Pattern) (u v : Universe) → IsRule u.rule → IsRule v.rule → Says p u → Says q v → IsShift p q → LayerShift u v
+shift_from : (p q : Pattern) (u v : Universe) → IsRule u.rule → IsRule v.rule → Says p u → Says q v → IsClaimedShift p q → LayerShift u v
 shift_from p q u v one two a b (rule, generation, (columns, rows, cells)) = record {
   rule = rules_are u.rule v.rule one two (sym a.rule ∙ rule ∙ b.rule);
   generation = sym a.generation ∙ generation ∙ b.generation;
@@ -64,19 +64,19 @@ shift_from p q u v one two a b (rule, generation, (columns, rows, cells)) = reco
   cells = λ x y. sym (b.cells (x +ℤ columns) (y +ℤ rows)) ∙ cells x y ∙ a.cells x y;
 }
 
-turned_to : (p q : Pattern) (u v : Universe) → Says p u → Says q v → LayerTurnedShift u v → IsTurnedShift p q
+turned_to : (p q : Pattern) (u v : Universe) → Says p u → Says q v → LayerTurnedShift u v → IsClaimedTurnedShift p q
 turned_to p q u v a b s =
     let t = s.turn in (
       t.exchange,
       t.columns,
       t.rows,
-      shift_to (image t.exchange t.columns t.rows p) q (layer.image t u) v (image_says p u t a) b s.shift,
+      shift_to (claimed_image t.exchange t.columns t.rows p) q (layer.image t u) v (image_says p u t a) b s.shift,
     )
 
-turned_from : (p q : Pattern) (u v : Universe) → IsRule u.rule → IsRule v.rule → Says p u → Says q v → IsTurnedShift p q → LayerTurnedShift u v
+turned_from : (p q : Pattern) (u v : Universe) → IsRule u.rule → IsRule v.rule → Says p u → Says q v → IsClaimedTurnedShift p q → LayerTurnedShift u v
 turned_from p q u v one two a b s =
     let t = turn_of s.0 s.1 s.2 in
-    record { turn = t; shift = shift_from (image s.0 s.1 s.2 p) q (layer.image t u) v one two (image_says p u t a) b s.3 }
+    record { turn = t; shift = shift_from (claimed_image s.0 s.1 s.2 p) q (layer.image t u) v one two (image_says p u t a) b s.3 }
 
 -- ---- files
 

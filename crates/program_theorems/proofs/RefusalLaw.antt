@@ -16,9 +16,9 @@ use Rattle.life_table.specs.declared.table.Table.{Table as LayerTable}
 use Rattle.life_canon.specs.Files.{Accepted, Refuses as LayerRefuses, is_file_kind}
 use Rattle.life_canon.specs.Running.{RunRefuses, ReadRefuses}
 use Rattle.life_canon.specs.Running as running
-use Rattle.life_canon.specs.Texts.{IsCanonical, IsRleOf, IsShown as LayerShown}
+use Rattle.life_canon.specs.Texts.{IsCanonical, IsRleOf, IsShownText as LayerShown}
 use Rattle.life_step.specs.Stepped.{IsStepped as LayerStepped}
-use Rattle.pattern_sources.specs.Faults.{is_of_table, place_text, Tells, fault_line as layer_line, status_of as layer_status}
+use Rattle.pattern_sources.specs.Faults.{is_of_table, place_text, Reports, fault_line as layer_line, status_of as layer_status}
 use Rattle.life_cli.specs.Jobs as layer
 use Rattle.pattern_sources.specs.Sources as sources
 use Rattle.command_line.specs.Plans.{HasSecond as LayerSecond}
@@ -30,7 +30,7 @@ use Rattle.command_line.specs.declared.plans.Task.TheVariants as tasks
 use Rattle.command_line.specs.declared.plans.Target.TheVariants.{Rle, Mc}
 use Rattle.pattern_sources.specs.declared.refusals.Refusal.{Refusal}
 use Rattle.claims.specs.Pattern.{Pattern}
-use Rattle.claims.specs.Files.{pattern_of, fault_of, IsWant}
+use Rattle.claims.specs.Files.{pattern_of, claimed_fault_of, IsShortage}
 use Rattle.claims.specs.Generation.{SaysMoreCells, IsUnstepped, IsFirstReason}
 use Rattle.claims.specs.Generation as steps
 use Rattle.claims.specs.Table.{Table, table_of}
@@ -42,9 +42,9 @@ use Rattle.theorems.proofs.StreamLaw.{all_read, appended, beyond}
 use Rattle.step_theorems.proofs.StepBy as by_table
 use Rattle.table_laws.specs.Tables.{IsTable}
 use Rattle.step_theorems.proofs.StepLaw.{unstepped_is}
-use Rattle.program_theorems.specs.Jobs.{HasSecond, IsShort, Refuses, RefusesMany, IsReason, of_files, of_want, of_length, of_source, of_sink, Holds}
+use Rattle.program_theorems.specs.Jobs.{HasClaimedSecond, IsShortFile, RefusesTask, RefusesClaimedMany, IsReason, of_files, of_want, of_length, of_source, of_sink, DeviceHolds}
 use Rattle.program_theorems.specs.Layers.{LayersAgree}
-use Rattle.program_theorems.specs.Faults.{fault_line, status_of}
+use Rattle.program_theorems.specs.Faults.{claimed_fault_line, claimed_status_of}
 
 -- ---- kinds
 
@@ -69,7 +69,7 @@ table_line _ h = h
 no_write_in : (p : Kind → Bool) (k : Kind) → p kinds.WriteFault ≡ false → p k ≡ true → k ≡ kinds.WriteFault → ⊥
 no_write_in p k other h e = let n : true ≡ false = sym h ∙ ap p e ∙ other in cc
 
-other_kind : (fault : Fault) (k : Kind) → fault ≡ fault_of k → (k ≡ kinds.WriteFault → ⊥) → fault.kind ≡ kinds.WriteFault → ⊥
+other_kind : (fault : Fault) (k : Kind) → fault ≡ claimed_fault_of k → (k ≡ kinds.WriteFault → ⊥) → fault.kind ≡ kinds.WriteFault → ⊥
 other_kind fault k is other e = other (sym (ap (λ (f : Fault). f.kind) is) ∙ e)
 
 -- a fault of no line, whose kind isn't that of a sink
@@ -99,10 +99,10 @@ table_reason table now _ (table_steps.leaves_plane r g m s a l) = record { line 
 -- ---- lines
 
 line_of : (refusal : Refusal) (of_table : Bool) → is_of_table refusal.in_table refusal.fault.kind ≡ of_table
-    → layer_line refusal ≡ fault_line of_table refusal.fault
-line_of refusal of_table e = ap (λ (v : Bool). fault_line v refusal.fault) e
+    → layer_line refusal ≡ claimed_fault_line of_table refusal.fault
+line_of refusal of_table e = ap (λ (v : Bool). claimed_fault_line v refusal.fault) e
 
-line_of_none : (refusal : Refusal) (of_table : Bool) → refusal.fault.place.line ≡ 0 → layer_line refusal ≡ fault_line of_table refusal.fault
+line_of_none : (refusal : Refusal) (of_table : Bool) → refusal.fault.place.line ≡ 0 → layer_line refusal ≡ claimed_fault_line of_table refusal.fault
 line_of_none refusal of_table e =
     ap (λ (t : List ℕ). t ++ kind_name refusal.fault.kind ++ codes "\n")
     (same_place (is_of_table refusal.in_table refusal.fault.kind) of_table refusal.fault.place.line e)
@@ -114,29 +114,30 @@ line_of_none refusal of_table e =
 
 pub data Origin (task : Task) (first second : SourceRun) (output : SinkRun) (refusal : Refusal) : Type 0 where
   from_files : (of_table : Bool)
-      → ((file other : List ℕ) → first.before ≡ Some file → (HasSecond task → second.before ≡ Some other) → Refuses task file other of_table refusal.fault)
-      → (refusal.fault.kind ≡ kinds.WriteFault → ⊥) → layer_line refusal ≡ fault_line of_table refusal.fault → Origin task first second output refusal
-  from_want : IsWant refusal.fault → Origin task first second output refusal
-  from_length : refusal.fault ≡ fault_of kinds.InputTooLong
-      → CameBeyond (2 ^ 30) first.before first.after ⊎ (HasSecond task × CameBeyond (2 ^ 30) second.before second.after)
+      → ((file other : List ℕ) → first.before ≡ Some file → (HasClaimedSecond task → second.before ≡ Some other)
+      → RefusesTask task file other of_table refusal.fault)
+      → (refusal.fault.kind ≡ kinds.WriteFault → ⊥) → layer_line refusal ≡ claimed_fault_line of_table refusal.fault → Origin task first second output refusal
+  from_want : IsShortage refusal.fault → Origin task first second output refusal
+  from_length : refusal.fault ≡ claimed_fault_of kinds.InputTooLong
+      → CameBeyond (2 ^ 30) first.before first.after ⊎ (HasClaimedSecond task × CameBeyond (2 ^ 30) second.before second.after)
       → Origin task first second output refusal
-  from_source : refusal.fault ≡ fault_of kinds.ReadFault → (first.failures ≡ 1) ⊎ (second.failures ≡ 1) → Origin task first second output refusal
-  from_sink : refusal.fault ≡ fault_of kinds.WriteFault → (status : ℕ) (text : List ℕ) → layer.HasAnswer task first second status text
+  from_source : refusal.fault ≡ claimed_fault_of kinds.ReadFault → (first.failures ≡ 1) ⊎ (second.failures ≡ 1) → Origin task first second output refusal
+  from_sink : refusal.fault ≡ claimed_fault_of kinds.WriteFault → (status : ℕ) (text : List ℕ) → layer.HasAnswer task first second status text
       → WritesPrefix output.before output.after text → (output.failures ≡ 1) ⊎ (output.stalled ≡ true) → Origin task first second output refusal
 
-wanted : (base : List Tree) (source : SourceRun) (fault : Fault) → sources.Wants base source fault → IsWant fault
+wanted : (base : List Tree) (source : SourceRun) (fault : Fault) → sources.IsSourceShortage base source fault → IsShortage fault
 wanted base source fault (inl e) = inr e
 wanted base source fault (inr h) = want_as h.0 fault h.2.0
 
 -- bytes that were read are those of the file, and so is why they are none
 read_as : (before after : Option (List ℕ)) (bytes file : List ℕ) (fault : Fault) → ReadAll (2 ^ 30) before after bytes → before ≡ Some file
-    → LayerRefuses 62 bytes fault → IsShort file × (pattern_of file ≡ Err fault)
+    → LayerRefuses 62 bytes fault → IsShortFile file × (pattern_of file ≡ Err fault)
 read_as before after bytes file fault read e h =
     let same = all_read (2 ^ 30) before after file bytes read e in
-    (subst IsShort same read.within, subst (λ (b : List ℕ). pattern_of b ≡ Err fault) same (refuses_agree bytes fault h))
+    (subst IsShortFile same read.within, subst (λ (b : List ℕ). pattern_of b ≡ Err fault) same (refuses_agree bytes fault h))
 
-short : (before after : Option (List ℕ)) (bytes file : List ℕ) → ReadAll (2 ^ 30) before after bytes → before ≡ Some file → IsShort file
-short before after bytes file read e = subst IsShort (all_read (2 ^ 30) before after file bytes read e) read.within
+short : (before after : Option (List ℕ)) (bytes file : List ℕ) → ReadAll (2 ^ 30) before after bytes → before ≡ Some file → IsShortFile file
+short before after bytes file read e = subst IsShortFile (all_read (2 ^ 30) before after file bytes read e) read.within
 
 module _ (laws : LayersAgree) (task : Task) (first second : SourceRun) (output : SinkRun) (refusal : Refusal) where
   abbrev Comes : Type 0
@@ -144,13 +145,14 @@ module _ (laws : LayersAgree) (task : Task) (first second : SourceRun) (output :
 
   abbrev Told : Bool → Type 0
   Told of_table =
-      (file other : List ℕ) → first.before ≡ Some file → (HasSecond task → second.before ≡ Some other) → Refuses task file other of_table refusal.fault
+      (file other : List ℕ) → first.before ≡ Some file → (HasClaimedSecond task → second.before ≡ Some other)
+      → RefusesTask task file other of_table refusal.fault
 
   of_first_input : sources.InputRefuses first refusal.fault → Comes
   of_first_input (sources.by_length is came) = from_length is (inl came)
   of_first_input (sources.by_source is failed) = from_source is (inl failed)
 
-  of_second_input : HasSecond task → sources.InputRefuses second refusal.fault → Comes
+  of_second_input : HasClaimedSecond task → sources.InputRefuses second refusal.fault → Comes
   of_second_input has (sources.by_length is came) = from_length is (inr (has, came))
   of_second_input has (sources.by_source is failed) = from_source is (inr failed)
 
@@ -166,9 +168,9 @@ module _ (laws : LayersAgree) (task : Task) (first second : SourceRun) (output :
   of_none of_table none told = from_files of_table told none.kind (line_of_none refusal of_table none.line)
 
   -- the canonical text of a file
-  module _ (writes : (bytes other text : List ℕ) → IsCanonical 62 bytes text → layer.Writes task bytes other 0 text) (alone : LayerSecond task → ⊥)
+  module _ (writes : (bytes other text : List ℕ) → IsCanonical 62 bytes text → layer.TaskWrites task bytes other 0 text) (alone : LayerSecond task → ⊥)
       (e : refusal.in_table ≡ false)
-      (told : (file other : List ℕ) → IsShort file × (pattern_of file ≡ Err refusal.fault) → Refuses task file other false refusal.fault)
+      (told : (file other : List ℕ) → IsShortFile file × (pattern_of file ≡ Err refusal.fault) → RefusesTask task file other false refusal.fault)
       (store : Nodes) where
     of_reading : ReadRefuses 62 (2 ^ 30) store first refusal.fault → Comes
     of_reading (running.by_file bytes read h) = of_pattern e bytes h (λ file other f g. told file other (read_as _ _ bytes file _ read f h))
@@ -191,7 +193,7 @@ module _ (laws : LayersAgree) (task : Task) (first second : SourceRun) (output :
 
   -- another text of a file
   module _ (gives : List ℕ → List ℕ → Type 0) (refuses : List ℕ → Fault → Type 0)
-      (writes : (bytes other text : List ℕ) → gives bytes text → layer.Writes task bytes other 0 text) (alone : LayerSecond task → ⊥)
+      (writes : (bytes other text : List ℕ) → gives bytes text → layer.TaskWrites task bytes other 0 text) (alone : LayerSecond task → ⊥)
       (by : (bytes : List ℕ) → ReadAll (2 ^ 30) first.before first.after bytes → refuses bytes refusal.fault → Comes) where
     of_no_text : sources.HasNoText refuses first refusal.fault → Comes
     of_no_text (sources.by_input h) = of_first_input h
@@ -214,11 +216,11 @@ module _ (laws : LayersAgree) (task : Task) (first second : SourceRun) (output :
 -- ---- each task
 
 module _ (laws : LayersAgree) (first second : SourceRun) (output : SinkRun) (refusal : Refusal) where
-  too_many : refusal.fault ≡ fault_of kinds.TooManyCells → IsPlaceless refusal.fault
+  too_many : refusal.fault ≡ claimed_fault_of kinds.TooManyCells → IsPlaceless refusal.fault
   too_many is = record { line = ap (λ (f : Fault). f.place.line) is; kind = other_kind refusal.fault kinds.TooManyCells is (λ n. cc) }
 
   -- a file whose cells are listed
-  of_many : (task : Task) → ((file other : List ℕ) → RefusesMany file false refusal.fault → Refuses task file other false refusal.fault)
+  of_many : (task : Task) → ((file other : List ℕ) → RefusesClaimedMany file false refusal.fault → RefusesTask task file other false refusal.fault)
       → refusal.in_table ≡ false → (bytes : List ℕ) → ReadAll (2 ^ 30) first.before first.after bytes → sources.RefusesMany bytes refusal.fault
       → Origin task first second output refusal
   of_many task to e bytes read (inl h) =
@@ -234,14 +236,14 @@ module _ (laws : LayersAgree) (first second : SourceRun) (output : SinkRun) (ref
 
   -- a file whose pattern is taken in a form
   of_form_text : (form : Form) (task : Task)
-      → ((file other : List ℕ) → IsShort file × (pattern_of file ≡ Err refusal.fault) → Refuses task file other false refusal.fault)
+      → ((file other : List ℕ) → IsShortFile file × (pattern_of file ≡ Err refusal.fault) → RefusesTask task file other false refusal.fault)
       → refusal.in_table ≡ false → (bytes : List ℕ) → ReadAll (2 ^ 30) first.before first.after bytes → sources.RefusesInForm form bytes refusal.fault
       → Origin task first second output refusal
   of_form_text form task to e bytes read (inl h) =
       of_pattern laws task first second output refusal e bytes h (λ file other f g. to file other (read_as _ _ bytes file _ read f h))
   of_form_text form task to e bytes read (inr large) = from_want (inl large.0)
 
-  of_step : refusal.in_table ≡ false → (bytes : List ℕ) → ReadAll (2 ^ 30) first.before first.after bytes → layer.RefusesStep bytes refusal.fault
+  of_step : refusal.in_table ≡ false → (bytes : List ℕ) → ReadAll (2 ^ 30) first.before first.after bytes → layer.RefusesLifeStep bytes refusal.fault
       → Origin tasks.Step first second output refusal
   of_step e bytes read (inl h) =
       of_pattern laws tasks.Step first second output refusal e bytes h
@@ -382,7 +384,7 @@ origin_of laws tasks.Show first second output refusal h =
     (λ bytes read r. of_pattern laws tasks.Show first second output refusal h.0 bytes r
     (λ file other f g. let k = read_as _ _ bytes file _ read f r in (k.0, refl, k.1))) h.1
 origin_of laws tasks.Step first second output refusal h =
-    of_file laws tasks.Step first second output refusal LayerStepped layer.RefusesStep (λ bytes other text is. (refl, is)) (λ has. has)
+    of_file laws tasks.Step first second output refusal LayerStepped layer.RefusesLifeStep (λ bytes other text is. (refl, is)) (λ has. has)
     (of_step laws first second output refusal h.0) h.1
 origin_of laws tasks.StepTable first second output refusal h = of_table_task laws first second output refusal h
 
@@ -392,10 +394,10 @@ origin_of laws tasks.StepTable first second output refusal h = of_table_task law
 pub record Reason (task : Task) (file other : List ℕ) (is_unread is_unwritten : Type 0) (refusal : Refusal) : Type 0 where
   pub of_table : Bool
   pub reason : IsReason task file other is_unread is_unwritten of_table refusal.fault
-  pub line : layer_line refusal ≡ fault_line of_table refusal.fault
+  pub line : layer_line refusal ≡ claimed_fault_line of_table refusal.fault
 
 module _ (task : Task) (first second : SourceRun) (output : SinkRun) (refusal : Refusal) (file other : List ℕ) (e : first.before ≡ Some file)
-    (f : HasSecond task → second.before ≡ Some other) (is_unread : Type 0) (unread : (first.failures ≡ 1) ⊎ (second.failures ≡ 1) → is_unread) where
+    (f : HasClaimedSecond task → second.before ≡ Some other) (is_unread : Type 0) (unread : (first.failures ≡ 1) ⊎ (second.failures ≡ 1) → is_unread) where
   abbrev Unwritten : Type 0
   Unwritten = (output.failures ≡ 1) ⊎ (output.stalled ≡ true)
 
@@ -407,7 +409,7 @@ module _ (task : Task) (first second : SourceRun) (output : SinkRun) (refusal : 
     line = line_of_none refusal false (ap (λ (f : Fault). f.place.line) is ∙ line);
   }
 
-  want_line : (fault : Fault) → IsWant fault → fault.place.line ≡ 0
+  want_line : (fault : Fault) → IsShortage fault → fault.place.line ≡ 0
   want_line fault (inl is) = ap (λ (f : Fault). f.place.line) is
   want_line fault (inr is) = ap (λ (f : Fault). f.place.line) is
 
@@ -415,11 +417,11 @@ module _ (task : Task) (first second : SourceRun) (output : SinkRun) (refusal : 
   reason_of (from_files of_table told kind line) = record { of_table = of_table; reason = of_files of_table refusal.fault (told file other e f); line = line }
   reason_of (from_want want) = of_no_file refusal.fault refl (want_line refusal.fault want) (of_want refusal.fault want)
   reason_of (from_length is (inl came)) =
-      of_no_file (fault_of kinds.InputTooLong) is refl (of_length (inl (beyond (2 ^ 30) first.before first.after file came e)))
+      of_no_file (claimed_fault_of kinds.InputTooLong) is refl (of_length (inl (beyond (2 ^ 30) first.before first.after file came e)))
   reason_of (from_length is (inr h)) =
-      of_no_file (fault_of kinds.InputTooLong) is refl (of_length (inr (h.0, beyond (2 ^ 30) second.before second.after other h.1 (f h.0))))
-  reason_of (from_source is failed) = of_no_file (fault_of kinds.ReadFault) is refl (of_source (unread failed))
-  reason_of (from_sink is status text answer written cause) = of_no_file (fault_of kinds.WriteFault) is refl (of_sink cause)
+      of_no_file (claimed_fault_of kinds.InputTooLong) is refl (of_length (inr (h.0, beyond (2 ^ 30) second.before second.after other h.1 (f h.0))))
+  reason_of (from_source is failed) = of_no_file (claimed_fault_of kinds.ReadFault) is refl (of_source (unread failed))
+  reason_of (from_sink is status text answer written cause) = of_no_file (claimed_fault_of kinds.WriteFault) is refl (of_sink cause)
 
 -- the only refusal whose kind is that of a sink comes from one
 pub record IsCut (task : Task) (first second : SourceRun) (output : SinkRun) : Type 0 where
@@ -429,7 +431,7 @@ pub record IsCut (task : Task) (first second : SourceRun) (output : SinkRun) : T
   pub written : WritesPrefix output.before output.after text
   pub cause : (output.failures ≡ 1) ⊎ (output.stalled ≡ true)
 
-no_want : (fault : Fault) → IsWant fault → fault.kind ≡ kinds.WriteFault → ⊥
+no_want : (fault : Fault) → IsShortage fault → fault.kind ≡ kinds.WriteFault → ⊥
 no_want fault (inl is) e = other_kind fault kinds.Full is (λ n. cc) e
 no_want fault (inr is) e = other_kind fault kinds.Memory is (λ n. cc) e
 
@@ -450,8 +452,8 @@ no_cause failures stalled (inr h) e f = cc
 -- ---- devices
 
 -- what was told stands behind what the device held
-pub held_by : (output : SinkRun) (heard text : List ℕ) → Tells output text → output.before ≡ Some heard
-    → Holds heard text ((output.failures ≡ 1) ⊎ (output.stalled ≡ true)) output.after
+pub held_by : (output : SinkRun) (heard text : List ℕ) → Reports output text → output.before ≡ Some heard
+    → DeviceHolds heard text ((output.failures ≡ 1) ⊎ (output.stalled ≡ true)) output.after
 held_by output heard text (inl h) e = inl (appended output.before output.after heard text h e)
 held_by output heard text (inr h) e = inr (h.1, (h.0.count, appended output.before output.after heard (take h.0.count text) h.0.written e))
 
@@ -464,7 +466,7 @@ pub told_of_some : {B : Type 0} (failures : B → ℕ) (new : Option B) (P : Typ
 told_of_some failures None P h is = absurd is
 told_of_some failures (Some b) P h is = h is
 
-pub same_status : (k : Kind) → status_of k ≡ layer_status k
+pub same_status : (k : Kind) → claimed_status_of k ≡ layer_status k
 same_status kinds.ReadFault = refl
 same_status kinds.WriteFault = refl
 same_status kinds.Full = refl

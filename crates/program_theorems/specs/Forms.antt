@@ -7,32 +7,32 @@ use Rattle.command_line.specs.declared.plans.Form.{Form}
 use Rattle.command_line.specs.declared.plans.Form.TheVariants.{Placed, Moved, Turned}
 use Rattle.claims.specs.Canonical.{IsTextOfPattern}
 use Rattle.claims.specs.Counting.{IsCanonicalText}
-use Rattle.claims.specs.Files.{pattern_of, Same}
+use Rattle.claims.specs.Files.{pattern_of, SayOnePattern}
 use Rattle.claims.specs.Pattern.{Pattern, coordinate_bound}
-use Rattle.claims.specs.Shown.{IsLeastBox}
+use Rattle.claims.specs.Shown.{IsClaimedBoundingBox}
 
 -- the second is the first, with each cell so many columns further east and rows further south
-abbrev pub IsShift : Pattern → Pattern → Type 0
-IsShift p q = (p.rule ≡ q.rule) × (p.generation ≡ q.generation)
+abbrev pub IsClaimedShift : Pattern → Pattern → Type 0
+IsClaimedShift p q = (p.rule ≡ q.rule) × (p.generation ≡ q.generation)
     × ((columns : ℤ) × (rows : ℤ) × ((x y : ℤ) → q.cell (x +ℤ columns) (y +ℤ rows) ≡ p.cell x y))
 
 -- a column or row counted from the other side of the plane, -1 - x, or not
-abbrev pub mirrored : Bool → ℤ → ℤ
-mirrored true (pos n) = negsuc n
-mirrored true (negsuc n) = pos n
-mirrored false x = x
+abbrev pub claimed_coordinate : Bool → ℤ → ℤ
+claimed_coordinate true (pos n) = negsuc n
+claimed_coordinate true (negsuc n) = pos n
+claimed_coordinate false x = x
 
 -- one of the eight turns and reflections of a pattern: its columns and rows exchanged or not, and each counted from the other side or not
-abbrev pub image : (exchange columns rows : Bool) → Pattern → Pattern
-image exchange columns rows p = record {
+abbrev pub claimed_image : (exchange columns rows : Bool) → Pattern → Pattern
+claimed_image exchange columns rows p = record {
   rule = p.rule;
   generation = p.generation;
-  cell = λ x y. p.cell (mirrored columns (if exchange then y else x)) (mirrored rows (if exchange then x else y));
+  cell = λ x y. p.cell (claimed_coordinate columns (if exchange then y else x)) (claimed_coordinate rows (if exchange then x else y));
 }
 
 -- a shift behind one of the eight takes the first to the second
-abbrev pub IsTurnedShift : Pattern → Pattern → Type 0
-IsTurnedShift p q = (exchange : Bool) × (columns : Bool) × (rows : Bool) × IsShift (image exchange columns rows p) q
+abbrev pub IsClaimedTurnedShift : Pattern → Pattern → Type 0
+IsClaimedTurnedShift p q = (exchange : Bool) × (columns : Bool) × (rows : Bool) × IsClaimedShift (claimed_image exchange columns rows p) q
 
 -- both are files, and what the first says is related to what the second says
 pub record AreRelated (relates : Pattern → Pattern → Type 0) (a b : List ℕ) : Type 0 where
@@ -44,41 +44,42 @@ pub record AreRelated (relates : Pattern → Pattern → Type 0) (a b : List ℕ
 
 -- both are files of one pattern, or of one that a shift takes to the other, or a shift behind a turn
 abbrev pub SameIn : Form → List ℕ → List ℕ → Type 0
-SameIn Placed a b = Same a b
-SameIn Moved a b = AreRelated IsShift a b
-SameIn Turned a b = AreRelated IsTurnedShift a b
+SameIn Placed a b = SayOnePattern a b
+SameIn Moved a b = AreRelated IsClaimedShift a b
+SameIn Turned a b = AreRelated IsClaimedTurnedShift a b
 
 -- the columns or the rows of a box begin with 0; but those that would leave the plane so end with the plane
-abbrev pub IsInPlace : (first last : ℤ) → Type 0
-IsInPlace first last = ((first ≡ pos 0) × (last <ℤ coordinate_bound)) ⊎ ((first <ℤ pos 0) × (last +ℤ pos 1 ≡ coordinate_bound))
+abbrev pub IsInClaimedPlace : (first last : ℤ) → Type 0
+IsInClaimedPlace first last = ((first ≡ pos 0) × (last <ℤ coordinate_bound)) ⊎ ((first <ℤ pos 0) × (last +ℤ pos 1 ≡ coordinate_bound))
 
 -- the text is the canonical text of the pattern, shifted so that the least box around its nonzero cells is in its place
-pub record IsMovedText (pattern : Pattern) (text : List ℕ) : Type 0 where
+pub record IsClaimedMovedText (pattern : Pattern) (text : List ℕ) : Type 0 where
   pub moved : Pattern
-  pub shift : IsShift pattern moved
-  pub in_place : (box : Bounds) → IsLeastBox moved.cell box → IsInPlace box.left box.right × IsInPlace box.top box.bottom
+  pub shift : IsClaimedShift pattern moved
+  pub in_place : (box : Bounds) → IsClaimedBoundingBox moved.cell box → IsInClaimedPlace box.left box.right × IsInClaimedPlace box.top box.bottom
   pub is : IsTextOfPattern moved text
 
 -- the first of two texts isn't greater, byte by byte
-abbrev pub IsUpTo : List ℕ → List ℕ → Type 0
-IsUpTo first second = is_gt (slice_cmp nat_cmp first second) ≡ false
+abbrev pub IsNoGreaterText : List ℕ → List ℕ → Type 0
+IsNoGreaterText first second = is_gt (slice_cmp nat_cmp first second) ≡ false
 
 -- the text is the least of those of the eight turns and reflections of a pattern, each moved
-pub record IsTurnedText (pattern : Pattern) (text : List ℕ) : Type 0 where
+pub record IsClaimedTurnedText (pattern : Pattern) (text : List ℕ) : Type 0 where
   pub exchange : Bool
   pub columns : Bool
   pub rows : Bool
-  pub is : IsMovedText (image exchange columns rows pattern) text
-  pub least : (exchange columns rows : Bool) (other : List ℕ) → IsMovedText (image exchange columns rows pattern) other → IsUpTo text other
+  pub is : IsClaimedMovedText (claimed_image exchange columns rows pattern) text
+  pub least : (exchange columns rows : Bool) (other : List ℕ) → IsClaimedMovedText (claimed_image exchange columns rows pattern) other
+      → IsNoGreaterText text other
 
 -- the text of a pattern in a form
 abbrev pub IsTextOfForm : Form → Pattern → List ℕ → Type 0
 IsTextOfForm Placed pattern text = IsTextOfPattern pattern text
-IsTextOfForm Moved pattern text = IsMovedText pattern text
-IsTextOfForm Turned pattern text = IsTurnedText pattern text
+IsTextOfForm Moved pattern text = IsClaimedMovedText pattern text
+IsTextOfForm Turned pattern text = IsClaimedTurnedText pattern text
 
 -- the text is that of the file's pattern in the form, and the canonical text of a pattern that is the same in the form
-abbrev pub IsTextIn : Form → List ℕ → List ℕ → Type 0
-IsTextIn Placed file text = IsCanonicalText file text
-IsTextIn form file text = SameIn form file text × IsCanonicalText text text
+abbrev pub IsClaimedTextIn : Form → List ℕ → List ℕ → Type 0
+IsClaimedTextIn Placed file text = IsCanonicalText file text
+IsClaimedTextIn form file text = SameIn form file text × IsCanonicalText text text
     × ((pattern : Pattern) × (pattern_of file ≡ Ok pattern) × IsTextOfForm form pattern text)

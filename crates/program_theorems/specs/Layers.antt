@@ -3,8 +3,8 @@ use Rattle.life_canon.specs.Laws.{FilesAreOnPlane, FilesAreUnique, TextsAreFiles
 use Rattle.life_canon.specs.Listing.{canon_text}
 use Rattle.life_forms.specs.Laws.{ImagesStayOnPlane, MovedFormsAreOnPlane, MovedTextsAreFiles, MovedTextsTellFiles}
 use Rattle.life_forms.specs.Laws.{TurnedFormsAreOnPlane, TurnedTextsAreFiles, TurnedTextsTellFiles}
-use Rattle.life_table.specs.Grammar.{GrammarsAgree}
-use Rattle.life_table.specs.Laws.{RefusalsHaveKinds as TableRefusalsHaveKinds}
+use Rattle.life_table.specs.Grammar.{TableGrammarsAgree}
+use Rattle.life_table.specs.Laws.{TableRefusalsHaveKinds}
 use Rattle.table_laws.specs.Laws.{TablesRead, TablesRefuse, TablesDecide}
 
 pub record LayersAgree : Type 0 where
@@ -24,7 +24,7 @@ pub record LayersAgree : Type 0 where
   pub turned_on_plane : TurnedFormsAreOnPlane 62 (canon_text 62)
   pub turned_files : TurnedTextsAreFiles 62
   pub turned_tell : TurnedTextsTellFiles 62
-  pub grammars : GrammarsAgree
+  pub grammars : TableGrammarsAgree
   pub table_kinds : TableRefusalsHaveKinds
   pub read : TablesRead
   pub refuse : TablesRefuse

@@ -1,7 +1,7 @@
 //! The work of a task.
 
 ghost use Rattle.std.specs.Prelude.{◌≡◌, ◌⊎◌, ◌<◌, ◌++◌, ℕ, List, [], take, true, false, Some, IfSome, IsSomeAnd};
-ghost use Rattle.program_theorems.specs.Words.{HasSecond, IsGiven, IsOutcome, IsShort, IsRefused, Holds};
+ghost use Rattle.program_theorems.specs.Words.{HasClaimedSecond, IsGiven, IsOutcome, IsShortFile, IsRefused, DeviceHolds};
 
 use crate::laws::layers_agree;
 use crate::runs::Run;
@@ -27,17 +27,17 @@ pub fn does_its_job<A: Source, B: Source, O: Sink, E: Sink>(
     ensures flushed { result < 2 → O.flushed run.new.out ≡ true }
     ensures quiet { result < 2 → run.new.err ≡ run.old.err }
     ensures whole { (file : List ℕ) → A.remaining run.old.first ≡ Some file → result < 2
-        → (A.remaining run.new.first ≡ Some []) × IsShort file }
-    ensures second_whole { (other : List ℕ) → HasSecond run.old.task
+        → (A.remaining run.new.first ≡ Some []) × IsShortFile file }
+    ensures second_whole { (other : List ℕ) → HasClaimedSecond run.old.task
         → IfSome run.old.second (λ b. B.remaining b ≡ Some other) → result < 2
-        → IsSomeAnd run.new.second (λ b. B.remaining b ≡ Some []) × IsShort other }
+        → IsSomeAnd run.new.second (λ b. B.remaining b ≡ Some []) × IsShortFile other }
     ensures refused { (file other : List ℕ) → A.remaining run.old.first ≡ Some file
         → IfSome run.old.second (λ b. B.remaining b ≡ Some other) → 1 < result
         → (line : List ℕ) × IsRefused run.old.task file other
         ((A.failures run.new.first ≡ 1) ⊎ IsSomeAnd run.new.second (λ b. B.failures b ≡ 1))
         ((O.failures run.new.out ≡ 1) ⊎ (O.stalled run.new.out ≡ true)) result line
         × ((heard : List ℕ) → E.contents run.old.err ≡ Some heard
-        → Holds heard line ((E.failures run.new.err ≡ 1) ⊎ (E.stalled run.new.err ≡ true))
+        → DeviceHolds heard line ((E.failures run.new.err ≡ 1) ⊎ (E.stalled run.new.err ≡ true))
         (E.contents run.new.err)) }
     ensures unwritten { 1 < result → O.failures run.new.out ≡ 0 → O.stalled run.new.out ≡ false
         → run.new.out ≡ run.old.out }

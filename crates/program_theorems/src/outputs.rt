@@ -1,7 +1,7 @@
 //! What runs write.
 
 ghost use Rattle.std.specs.Prelude.{◌≡◌, ◌⊎◌, ◌↔◌, ◌<◌, ◌≤◌, ◌^◌, ◌++◌, ℕ, List, Some, Ok, IfOk};
-ghost use Rattle.program_theorems.specs.Words.{node_lines, Same, pattern_of, Pattern, IsShown, IsGiven, WritesCanonical, FormValue, SameIn};
+ghost use Rattle.program_theorems.specs.Words.{claimed_node_lines, SayOnePattern, pattern_of, Pattern, IsClaimedShown, IsGiven, WritesCanonical, FormValue, SameIn};
 
 use crate::laws::layers_agree;
 use crate::runs::Run;
@@ -55,7 +55,8 @@ pub fn outputs_of_two_runs<A: Source, B: Source, O: Sink, E: Sink>(
         → O.contents two.old.out ≡ Some kept → result.0 < 2 → result.1 < 2
         → WritesCanonical one.old.task → WritesCanonical two.old.task
         → (text : List ℕ) × (other : List ℕ) × (O.contents one.new.out ≡ Some (held ++ text))
-        × (O.contents two.new.out ≡ Some (kept ++ other)) × ((text ≡ other) ↔ Same text other) }
+        × (O.contents two.new.out ≡ Some (kept ++ other))
+        × ((text ≡ other) ↔ SayOnePattern text other) }
     ensures forms { (form : FormValue) (file other_file held kept : List ℕ)
         → O.contents one.old.out ≡ Some held → O.contents two.old.out ≡ Some kept → result.0 < 2
         → result.1 < 2 → one.old.task ≡ Task.Canon form → two.old.task ≡ Task.Canon form
@@ -70,7 +71,7 @@ pub fn outputs_of_two_runs<A: Source, B: Source, O: Sink, E: Sink>(
         → (text : List ℕ) × (lines : List ℕ) × (O.contents one.new.out ≡ Some (held ++ text))
         × (O.contents two.new.out ≡ Some (kept ++ lines))
         × ((pattern : Pattern) × (pattern_of file ≡ Ok pattern)
-        × IsShown pattern (node_lines text) lines) }
+        × IsClaimedShown pattern (claimed_node_lines text) lines) }
 {
     layers_agree();
     let (first, second) = (&mut one.first, &mut one.second);

@@ -1,7 +1,7 @@
 //! Calls of `life_table`.
 
 ghost use Rattle.std.specs.Prelude.{◌≡◌, ◌+◌, ◌<◌, length, All};
-ghost use Rattle.life_table.specs.Words.{neighbour_count, cells_of};
+ghost use Rattle.life_table.specs.Words.{neighbour_count, states_of_neighbours};
 
 use life_base::{Fault, State, StepFault};
 use life_table::{Neighbours, Table, read_table};
@@ -12,9 +12,9 @@ pub fn table_read(alloc: Global, bytes: &[u8]) -> Result<Table, Fault> {
 }
 
 pub fn table_next(table: &Table, around: &Neighbours) -> Result<State, StepFault>
-    requires neighbours { length (cells_of around.now)
+    requires neighbours { length (states_of_neighbours around.now)
         ≡ neighbour_count table.now.neighborhood + 1 }
-    requires states { All (λ s. s < table.now.n_states) (cells_of around.now) }
+    requires states { All (λ s. s < table.now.n_states) (states_of_neighbours around.now) }
 {
     table.next(around)
 }

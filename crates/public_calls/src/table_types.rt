@@ -1,6 +1,6 @@
 //! Types of `life_table`.
 
-ghost use Rattle.life_table.specs.Valid.{IsSound};
+ghost use Rattle.life_table.specs.Valid.{IsSoundTable};
 
 use life_base::{Items, Name, State};
 use life_table::{Entry, Neighborhood, Neighbours, Symmetry, Table, Transition, Var};
@@ -35,7 +35,7 @@ pub fn table_made(
     vars: Vec<Var>,
     lines: Vec<Transition>,
 ) -> Table
-    requires { IsSound n_states neighborhood symmetry vars.items lines.items }
+    requires { IsSoundTable n_states neighborhood symmetry vars.items lines.items }
 {
     Table {
         name,

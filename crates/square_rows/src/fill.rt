@@ -2,9 +2,9 @@
 
 ghost use Rattle.std.specs.Prelude.{◌≡◌, ◌<◌, ◌≤◌, ◌-◌, ◌^◌, ◌+ℤ◌, pos, IfOk, IfSome, IsTrue, OnOk, ℤ};
 ghost use Rattle.life_base.specs.Tree.{depth};
-ghost use Rattle.life_quad.specs.Grows.{Keeps};
+ghost use Rattle.life_quad.specs.Grows.{KeepsStore};
 ghost use Rattle.life_strip.specs.Filling.{IsFilling};
-ghost use Rattle.life_strip.specs.Given.{IsBehind, IsNext, IsOnPlane};
+ghost use Rattle.life_strip.specs.Given.{IsAfterRun, IsNextRunStart, IsRunOnPlane};
 
 use crate::answer::Unanswered;
 use crate::step::numbers_of;
@@ -34,7 +34,7 @@ pub(crate) fn put<S: Squares>(
 ) -> Result<Id, Kind>
     requires { S.knows squares.old root }
     ensures known { IfOk result (S.knows squares.new) }
-    ensures keeps { Keeps S.Squares squares.old squares.new }
+    ensures keeps { KeepsStore S.Squares squares.old squares.new }
 {
     let level = squares.level(root);
     if level == 0 || len == 0 {
@@ -64,7 +64,7 @@ fn run_of(text: &[u8]) -> Result<Run, Unanswered> {
 /// A builder without runs.
 fn begun<S: Squares>(alloc: Global, squares: &S) -> Builder
     ensures filling { IsFilling (S.knows squares.now) (S.content squares.now) result }
-    ensures next { (x y : ℤ) → IsNext result.runs x y }
+    ensures next { (x y : ℤ) → IsNextRunStart result.runs x y }
 {
     let _ = squares;
     laws::empty_builder_fills::<S>();
@@ -74,7 +74,7 @@ fn begun<S: Squares>(alloc: Global, squares: &S) -> Builder
 /// Whether a run has cells, all of them on the plane.
 fn is_on_plane(x: i64, y: i64, len: u64) -> bool
     ensures positive { IsTrue result → 1 ≤ len }
-    ensures inside { IsTrue result → IsOnPlane x y len }
+    ensures inside { IsTrue result → IsRunOnPlane x y len }
 {
     let half = half_side(MAX_LEVEL) as i64;
     if len == 0 || x < -half || half <= x || y < -half || half <= y {
@@ -98,7 +98,7 @@ fn end_of(x: i64, len: u64) -> Option<i64>
 
 /// Whether a run begins after another one.
 fn is_after(last: Run, run: Run) -> bool
-    ensures { IsTrue result → IsBehind last run.x run.y }
+    ensures { IsTrue result → IsAfterRun last run.x run.y }
 {
     if last.y < run.y {
         return true;
@@ -120,12 +120,12 @@ fn add<S: Squares>(
     run: Run,
 ) -> Result<(), Unanswered>
     requires filling { IsFilling (S.knows squares.old) (S.content squares.old) builder.old }
-    requires next { (x y : ℤ) → IsBehind last x y → IsNext builder.old.runs x y }
+    requires next { (x y : ℤ) → IsAfterRun last x y → IsNextRunStart builder.old.runs x y }
     ensures filling { OnOk result
         (IsFilling (S.knows squares.new) (S.content squares.new) builder.new) }
     ensures next { OnOk result
-        ((x y : ℤ) → IsBehind run x y → IsNext builder.new.runs x y) }
-    ensures keeps { Keeps S.Squares squares.old squares.new }
+        ((x y : ℤ) → IsAfterRun run x y → IsNextRunStart builder.new.runs x y) }
+    ensures keeps { KeepsStore S.Squares squares.old squares.new }
 {
     if !is_on_plane(run.x, run.y, run.len) || !is_after(last, run) {
         return Err(Unanswered::BadRow);
@@ -150,7 +150,7 @@ const RUNS: u8 = 100;
 /// A builder with the runs of a text, each of which comes after the one before it.
 fn built<S: Squares>(alloc: Global, squares: &mut S, runs: &[u8]) -> Result<Builder, Unanswered>
     ensures filling { IfOk result (λ b. IsFilling (S.knows squares.new) (S.content squares.new) b) }
-    ensures keeps { Keeps S.Squares squares.old squares.new }
+    ensures keeps { KeepsStore S.Squares squares.old squares.new }
 {
     let mut builder = begun(alloc, squares);
     let mut last = FIRST;
@@ -175,7 +175,7 @@ pub(crate) fn filled<S: Squares>(
     runs: &[u8],
 ) -> Result<Id, Unanswered>
     ensures known { IfOk result (S.knows squares.new) }
-    ensures keeps { Keeps S.Squares squares.old squares.new }
+    ensures keeps { KeepsStore S.Squares squares.old squares.new }
 {
     let builder = built(alloc, squares, runs)?;
     match builder.finish(squares) {
@@ -190,7 +190,7 @@ pub(crate) fn unfinished<S: Squares>(
     squares: &mut S,
     runs: &[u8],
 ) -> Result<(), Unanswered>
-    ensures keeps { Keeps S.Squares squares.old squares.new }
+    ensures keeps { KeepsStore S.Squares squares.old squares.new }
 {
     match built(alloc, squares, runs) {
         Ok(_) => Ok(()),

@@ -2,7 +2,7 @@
 
 ghost use Rattle.std.specs.Prelude.{◌≡◌, ◌≤◌, ◌<◌, All, IfOk};
 ghost use Rattle.life_base.specs.Tree.{depth};
-ghost use Rattle.life_quad.specs.Grows.{Keeps};
+ghost use Rattle.life_quad.specs.Grows.{KeepsStore};
 
 use crate::answer::Unanswered;
 use crate::fill::{filled, put, run_at};
@@ -49,7 +49,7 @@ fn cell<S: Squares>(squares: &S, state: i64) -> Result<Id, Unanswered>
 /// The square of level 2 with these cells.
 fn small<S: Squares>(squares: &mut S, cells: i64) -> Result<Id, Unanswered>
     ensures known { IfOk result (S.knows squares.new) }
-    ensures keeps { Keeps S.Squares squares.old squares.new }
+    ensures keeps { KeepsStore S.Squares squares.old squares.new }
 {
     let Ok(cells) = u16::try_from(cells) else {
         return Err(Unanswered::BadRow);
@@ -60,7 +60,7 @@ fn small<S: Squares>(squares: &mut S, cells: i64) -> Result<Id, Unanswered>
 /// The square of level 1 with these four cells.
 fn quarter<S: Squares>(squares: &mut S, cells: i64) -> Result<Id, Unanswered>
     ensures known { IfOk result (S.knows squares.new) }
-    ensures keeps { Keeps S.Squares squares.old squares.new }
+    ensures keeps { KeepsStore S.Squares squares.old squares.new }
 {
     if cells < 0 || cells >= 16 {
         return Err(Unanswered::BadRow);
@@ -72,7 +72,7 @@ fn quarter<S: Squares>(squares: &mut S, cells: i64) -> Result<Id, Unanswered>
 fn joined<S: Squares>(squares: &mut S, parts: [Id; 4]) -> Result<Id, Unanswered>
     requires { All (S.knows squares.old) parts }
     ensures known { IfOk result (S.knows squares.new) }
-    ensures keeps { Keeps S.Squares squares.old squares.new }
+    ensures keeps { KeepsStore S.Squares squares.old squares.new }
 {
     let [nw, ne, sw, se] = parts;
     let level = squares.level(nw);
@@ -102,7 +102,7 @@ fn four<S: Squares>(squares: &S, ids: &[Id], places: [i64; 4]) -> Result<[Id; 4]
 fn larger<S: Squares>(squares: &mut S, id: Id) -> Result<Id, Unanswered>
     requires { S.knows squares.old id }
     ensures known { IfOk result (S.knows squares.new) }
-    ensures keeps { Keeps S.Squares squares.old squares.new }
+    ensures keeps { KeepsStore S.Squares squares.old squares.new }
 {
     let level = squares.level(id);
     if level == 0 || level == MAX_LEVEL {
@@ -115,7 +115,7 @@ fn larger<S: Squares>(squares: &mut S, id: Id) -> Result<Id, Unanswered>
 fn least<S: Squares>(squares: &mut S, id: Id, level: i64) -> Result<Id, Unanswered>
     requires { S.knows squares.old id }
     ensures known { IfOk result (S.knows squares.new) }
-    ensures keeps { Keeps S.Squares squares.old squares.new }
+    ensures keeps { KeepsStore S.Squares squares.old squares.new }
 {
     match u8::try_from(level) {
         Ok(level) if level > 0 => Ok(trim(squares, id, level)?),
@@ -127,7 +127,7 @@ fn least<S: Squares>(squares: &mut S, id: Id, level: i64) -> Result<Id, Unanswer
 fn with_run<S: Squares>(squares: &mut S, id: Id, run: Run) -> Result<Id, Unanswered>
     requires { S.knows squares.old id }
     ensures known { IfOk result (S.knows squares.new) }
-    ensures keeps { Keeps S.Squares squares.old squares.new }
+    ensures keeps { KeepsStore S.Squares squares.old squares.new }
 {
     let Run { x, y, len, state } = run;
     Ok(put(squares, id, x, y, len, state)?)
@@ -142,7 +142,7 @@ fn changed<S: Squares>(
 ) -> Result<Id, Unanswered>
     requires { All (S.knows squares.old) ids.now }
     ensures known { IfOk result (S.knows squares.new) }
-    ensures keeps { Keeps S.Squares squares.old squares.new }
+    ensures keeps { KeepsStore S.Squares squares.old squares.new }
 {
     let [first, second, third, fourth, fifth] = numbers;
     let id = square_at(squares, ids, first)?;
@@ -162,7 +162,7 @@ fn begun<S: Squares>(
     step: &Step,
 ) -> Result<Id, Unanswered>
     ensures known { IfOk result (S.knows squares.new) }
-    ensures keeps { Keeps S.Squares squares.old squares.new }
+    ensures keeps { KeepsStore S.Squares squares.old squares.new }
 {
     match new {
         New::Empty => blank(squares, step.numbers[0]),
@@ -183,7 +183,7 @@ pub(crate) fn made<S: Squares>(
 ) -> Result<Id, Unanswered>
     requires { All (S.knows squares.old) ids.now }
     ensures known { IfOk result (S.knows squares.new) }
-    ensures keeps { Keeps S.Squares squares.old squares.new }
+    ensures keeps { KeepsStore S.Squares squares.old squares.new }
 {
     match make {
         Make::New(new) => begun(alloc, squares, new, step),

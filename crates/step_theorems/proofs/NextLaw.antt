@@ -11,8 +11,8 @@ use Rattle.life_base.specs.Sets.{OuterTotalistic}
 use Rattle.life_base.specs.declared.rule.Near.{Near}
 use Rattle.life_base.specs.declared.rule.Near.TheVariants.{Moore, VonNeumann}
 use Rattle.life_table.specs.Meaning.{count_of}
-use Rattle.life_sweep.specs.Generation.{next_by_count, neighbours_at, neighborhood_of, next_life as layer_next, eight_around as layer_eight, four_around as layer_four}
-use Rattle.claims.specs.Generation.{next_life}
+use Rattle.life_sweep.specs.Generation.{next_by_count, neighbours_at, neighborhood_of_rule, next_life as layer_next, eight_around as layer_eight, four_around as layer_four}
+use Rattle.claims.specs.Generation.{claimed_next_life}
 
 -- a count is in a set exactly if it is in the list of the set
 abbrev in_list : ℕ → ℕ → Bool
@@ -59,13 +59,13 @@ few_ones around h = let l = count_by-le-length (λ state. state == 1) around in 
 
 -- the next state of a cell
 pub next_is : (rule : OuterTotalistic) → IsLifeRule rule → (cell : ℤ → ℤ → ℕ) (x y : ℤ)
-    → next_life (most_neighbours rule.near) (filter (has_digit rule.sets.births) counts) (filter (has_digit rule.sets.survivals) counts) cell x y
+    → claimed_next_life (most_neighbours rule.near) (filter (has_digit rule.sets.births) counts) (filter (has_digit rule.sets.survivals) counts) cell x y
     ≡ layer_next rule cell x y
 next_is rule valid cell x y = by rule.near (set_below_512 rule.near rule.sets.births valid.births) (set_below_512 rule.near rule.sets.survivals valid.survivals)
   where
     by : (near : Near) → rule.sets.births < 512 → rule.sets.survivals < 512
-        → next_life (most_neighbours near) (filter (has_digit rule.sets.births) counts) (filter (has_digit rule.sets.survivals) counts) cell x y
-        ≡ next_by_count rule.sets (cell x y) (count_of 1 (neighbours_at (neighborhood_of near) cell x y))
+        → claimed_next_life (most_neighbours near) (filter (has_digit rule.sets.births) counts) (filter (has_digit rule.sets.survivals) counts) cell x y
+        ≡ next_by_count rule.sets (cell x y) (count_of 1 (neighbours_at (neighborhood_of_rule near) cell x y))
     by Moore h l =
         by_count rule.sets.births rule.sets.survivals (cell x y) _ h l (few_ones (layer_eight cell x y) (omega arith))
         ∙ ap (next_by_count rule.sets (cell x y)) (ones_are (layer_eight cell x y))

@@ -20,18 +20,18 @@ use Rattle.life_base.specs.Text.{lines_of}
 use Rattle.life_table.specs.Reading.{AreTable}
 use Rattle.life_quad.specs.Store.{Nodes}
 use Rattle.life_canon.specs.Files.{Reads, Refuses}
-use Rattle.life_canon.specs.Store.{IsWant}
+use Rattle.life_canon.specs.Store.{IsShortageOf}
 use Rattle.life_canon.specs.Laws.{FilesAreOnPlane, FilesAreUnique}
 use Rattle.life_canon.specs.Listing.{canon_text}
 use Rattle.life_canon.specs.Texts.{IsCanonical}
 use Rattle.life_canon.specs.Universe.{Universe}
 use Rattle.life_step.specs.Stepped.{IsSteppedBy as LayerSteppedBy}
-use Rattle.life_step.specs.Refusals.{TableRefusal, HasMoreCells as LayerMoreCells, LeavesPlane as LayerLeaves, SomeAmbiguous, IsFirstAmbiguous as LayerFirst}
-use Rattle.claims.specs.ByTable.{IsSteppedBy, HasStateBeyond, IsFirstAmbiguous, LeavesPlaneBy, IsFirstReasonBy, rule_differs, last_generation, many_cells, state_beyond, two_states, leaves_plane, IsUnsteppedBy}
-use Rattle.claims.specs.Generation.{four_around, eight_around, HasMoreCells, decided_at}
+use Rattle.life_step.specs.Refusals.{TableRefusal, PatternHasMoreCells as LayerMoreCells, LeavesPlane as LayerLeaves, SomeAmbiguousCell, IsFirstAmbiguousCell as LayerFirst}
+use Rattle.claims.specs.ByTable.{IsClaimedStepBy, HasStateBeyond, IsFirstClaimedAmbiguous, LeavesPlaneBy, IsFirstReasonBy, rule_differs, last_generation, many_cells, state_beyond, two_states, leaves_plane, IsUnsteppedBy}
+use Rattle.claims.specs.Generation.{claimed_four_around, claimed_eight_around, HasMoreClaimedCells, decided_at}
 use Rattle.claims.specs.Rules.{named}
-use Rattle.claims.specs.Table.{Table, becomes, decided, table_of}
-use Rattle.claims.specs.Files.{pattern_of, IsWant as IsUnmet}
+use Rattle.claims.specs.Table.{Table, becomes, claimed_decision, table_of}
+use Rattle.claims.specs.Files.{pattern_of, IsShortage as IsUnmet}
 use Rattle.claims.proofs.RuleLaw.{rule_in}
 use Rattle.theorems.proofs.FileLaw.{Agrees, files_agree}
 use Rattle.theorems.proofs.RefusalLaw.{refuses_agree, want_as}
@@ -58,7 +58,7 @@ named_so (Named other) name h = by (bytes_eq other name) refl
 -- ---- what a table decides
 
 around_is : (h : Neighborhood) (cell : ℤ → ℤ → ℕ) (x y : ℤ)
-    → cond (neighbour_count h == 4) (four_around cell x y) (eight_around cell x y) ≡ neighbours_at h cell x y
+    → cond (neighbour_count h == 4) (claimed_four_around cell x y) (claimed_eight_around cell x y) ≡ neighbours_at h cell x y
 around_is VonNeumann cell x y = refl
 around_is Moore cell x y = refl
 
@@ -67,10 +67,12 @@ around_length VonNeumann cell x y = refl
 around_length Moore cell x y = refl
 
 module _ (decide : TablesDecide) (layer : LayerTable) (table : Table) (is : IsTable layer table) where
-  decided_is : (cell : ℤ → ℤ → ℕ) (x y : ℤ) → decided_at table cell x y ≡ decided table (cell x y) (neighbours_at layer.neighborhood cell x y) table.transitions
+  decided_is : (cell : ℤ → ℤ → ℕ) (x y : ℤ) → decided_at table cell x y
+      ≡ claimed_decision table (cell x y) (neighbours_at layer.neighborhood cell x y) table.transitions
   decided_is cell x y =
-      ap (λ (o : Option ℕ). decided table (cell x y) (cond (unwrap_or o 0 == 4) (four_around cell x y) (eight_around cell x y)) table.transitions) is.neighbours
-      ∙ ap (λ (v : List ℕ). decided table (cell x y) v table.transitions) (around_is layer.neighborhood cell x y)
+      ap (λ (o : Option ℕ). claimed_decision table (cell x y) (cond (unwrap_or o 0 == 4) (claimed_four_around cell x y) (claimed_eight_around cell x y))
+      table.transitions) is.neighbours
+      ∙ ap (λ (v : List ℕ). claimed_decision table (cell x y) v table.transitions) (around_is layer.neighborhood cell x y)
 
   answers_is : (cell : ℤ → ℤ → ℕ) (x y : ℤ) (answer : LayerAnswer) → AnswersAt layer cell x y answer ↔ (decided_at table cell x y ≡ answer_in answer)
   answers_is cell x y answer =
@@ -79,7 +81,7 @@ module _ (decide : TablesDecide) (layer : LayerTable) (table : Table) (is : IsTa
 
   -- ---- a step
 
-  pub stepped_is : FilesAreOnPlane 62 → (bytes text : List ℕ) → LayerSteppedBy layer bytes text → IsSteppedBy table bytes text
+  pub stepped_is : FilesAreOnPlane 62 → (bytes text : List ℕ) → LayerSteppedBy layer bytes text → IsClaimedStepBy table bytes text
   stepped_is on_plane bytes text h =
       let u = h.0 in
       let t = h.3 in
@@ -159,10 +161,10 @@ module _ (decide : TablesDecide) (layer : LayerTable) (table : Table) (is : IsTa
           (subst (λ (o : Option ℕ). unwrap_or o 0 ≤ p.pattern.cell h.0 h.1) is.n_states h.2),
     )
 
-    more_cells : HasMoreCells (2 ^ 20) p.pattern.cell → LayerMoreCells (2 ^ 20) u
+    more_cells : HasMoreClaimedCells (2 ^ 20) p.pattern.cell → LayerMoreCells (2 ^ 20) u
     more_cells m = (m.0, same_cells p.pattern.cell u.cell m.0 cells m.1, m.2)
 
-    first_is : (line : ℕ) → LayerFirst (AnswersAt layer u.cell) line → IsFirstAmbiguous table p.pattern.cell line
+    first_is : (line : ℕ) → LayerFirst (AnswersAt layer u.cell) line → IsFirstClaimedAmbiguous table p.pattern.cell line
     first_is line f = record {
       x = f.x;
       y = f.y;
@@ -174,9 +176,9 @@ module _ (decide : TablesDecide) (layer : LayerTable) (table : Table) (is : IsTa
     leaves_is l = (l.0, l.1, l.2, outside_is l.0 l.1 l.3, l.4, decides_here l.0 l.1 (Becomes l.2) l.5)
 
     module _ (rule : p.pattern.rule ≡ named table.name) where
-      module _ (room : p.pattern.generation ≢ 2 ^ 64 - 1) (few : HasMoreCells (2 ^ 20) p.pattern.cell → ⊥) where
+      module _ (room : p.pattern.generation ≢ 2 ^ 64 - 1) (few : HasMoreClaimedCells (2 ^ 20) p.pattern.cell → ⊥) where
         behind_states : (HasStateBeyond table p.pattern.cell → ⊥)
-            → IfElse (SomeAmbiguous (AnswersAt layer u.cell)) ((line : ℕ) × LayerFirst (AnswersAt layer u.cell) line × (Some fault ≡ Some (fault_on line)))
+            → IfElse (SomeAmbiguousCell (AnswersAt layer u.cell)) ((line : ℕ) × LayerFirst (AnswersAt layer u.cell) line × (Some fault ≡ Some (fault_on line)))
             (IfElse (LayerLeaves (AnswersAt layer u.cell) 62) (Some fault ≡ Some (fault_of kinds.OutOfPlane)) (Some fault ≡ None)) → Told fault
         behind_states known (inl h) = as_told (fault_on h.1.0) h.1.2 (two_states rule room few known h.1.0 (first_is h.1.0 h.1.1))
         behind_states known (inr (n, inl h)) =
@@ -187,7 +189,7 @@ module _ (decide : TablesDecide) (layer : LayerTable) (table : Table) (is : IsTa
       behind_rule : IfElse (u.generation ≡ 2 ^ 64 - 1) (Some fault ≡ Some (fault_of kinds.GenerationTooLarge))
           (IfElse (LayerMoreCells (2 ^ 20) u) (Some fault ≡ Some (fault_of kinds.TooManyCells))
           (IfElse (HasStateFrom layer.n_states u.cell) (Some fault ≡ Some (fault_of kinds.StateBeyondTable))
-          (IfElse (SomeAmbiguous (AnswersAt layer u.cell)) ((line : ℕ) × LayerFirst (AnswersAt layer u.cell) line × (Some fault ≡ Some (fault_on line)))
+          (IfElse (SomeAmbiguousCell (AnswersAt layer u.cell)) ((line : ℕ) × LayerFirst (AnswersAt layer u.cell) line × (Some fault ≡ Some (fault_on line)))
           (IfElse (LayerLeaves (AnswersAt layer u.cell) 62) (Some fault ≡ Some (fault_of kinds.OutOfPlane)) (Some fault ≡ None))))) → Told fault
       behind_rule (inl h) = as_told (fault_of kinds.GenerationTooLarge) h.1 (last_generation rule (p.generation ∙ h.0))
       behind_rule (inr (g, inl h)) =
@@ -210,20 +212,20 @@ module _ (decide : TablesDecide) (layer : LayerTable) (table : Table) (is : IsTa
 
 pub stepped_text : FilesAreOnPlane 62 → TablesRead → TablesDecide → (rules bytes text : List ℕ) (layer : LayerTable) → AreTable (lines_of rules) layer
     → LayerSteppedBy layer bytes text
-    → (t : Table) × (table_of rules ≡ Ok t) × IsSteppedBy t bytes text
+    → (t : Table) × (table_of rules ≡ Ok t) × IsClaimedStepBy t bytes text
 stepped_text on_plane read decide rules bytes text layer are h =
     let t = (read rules).0 layer are in
     (t.0, t.1, stepped_is decide layer t.0 t.2 on_plane bytes text h)
 
 pub unstepped_text : TablesRead → TablesDecide → (rules bytes : List ℕ) (store : Nodes) (fault : Fault) (layer : LayerTable) → AreTable (lines_of rules) layer
-    → Refuses 62 bytes fault ⊎ (IsWant store fault ⊎ ((u : Universe) × Reads 62 bytes u × TableRefusal 62 layer u (Some fault)))
+    → Refuses 62 bytes fault ⊎ (IsShortageOf store fault ⊎ ((u : Universe) × Reads 62 bytes u × TableRefusal 62 layer u (Some fault)))
     → (table_of rules ≡ Err fault) ⊎ (IsUnmet fault ⊎ ((t : Table) × (table_of rules ≡ Ok t) × ((pattern_of bytes ≡ Err fault) ⊎ IsUnsteppedBy t bytes fault)))
 unstepped_text read decide rules bytes store fault layer are h = by h
   where
     t : (table : Table) × (table_of rules ≡ Ok table) × IsTable layer table
     t = (read rules).0 layer are
 
-    by : Refuses 62 bytes fault ⊎ (IsWant store fault ⊎ ((u : Universe) × Reads 62 bytes u × TableRefusal 62 layer u (Some fault)))
+    by : Refuses 62 bytes fault ⊎ (IsShortageOf store fault ⊎ ((u : Universe) × Reads 62 bytes u × TableRefusal 62 layer u (Some fault)))
         → (table_of rules ≡ Err fault) ⊎
         (IsUnmet fault ⊎ ((t : Table) × (table_of rules ≡ Ok t) × ((pattern_of bytes ≡ Err fault) ⊎ IsUnsteppedBy t bytes fault)))
     by (inl r) = inr (inr (t.0, t.1, inl (refuses_agree bytes fault r)))

@@ -13,13 +13,13 @@ use Rattle.life_sweep.specs.Generation.{next_life as layer_next}
 use Rattle.life_canon.specs.Universe.{Universe}
 use Rattle.life_canon.specs.Files.{Reads, Refuses}
 use Rattle.life_canon.specs.Listing.{canon_text}
-use Rattle.life_canon.specs.Store.{IsWant}
+use Rattle.life_canon.specs.Store.{IsShortageOf}
 use Rattle.life_canon.specs.Laws.{FilesAreOnPlane, FilesAreUnique}
 use Rattle.life_canon.specs.Texts.{AreCellsOf, IsCanonical}
 use Rattle.life_step.specs.Stepped.{IsStepped as LayerStepped}
 use Rattle.life_step.specs.Refusals.{RuleRefusal, LifeRefusal}
-use Rattle.claims.specs.Files.{pattern_of, fault_of, IsWant as IsUnmet}
-use Rattle.claims.specs.Generation.{next_life, AreCells, IsStepped, IsUnstepped, IsFirstReason, no_table, last_generation, many_cells, leaves_plane}
+use Rattle.claims.specs.Files.{pattern_of, claimed_fault_of, IsShortage as IsUnmet}
+use Rattle.claims.specs.Generation.{claimed_next_life, AreClaimedCells, IsClaimedStep, IsUnstepped, IsFirstReason, no_table, last_generation, many_cells, leaves_plane}
 use Rattle.claims.proofs.RuleLaw.{rule_in}
 use Rattle.theorems.proofs.FileLaw.{Agrees, files_agree}
 use Rattle.theorems.proofs.CellsLaw.{same_cells as of_layer}
@@ -33,14 +33,14 @@ pub passes : {P A B : Type 0} → IfElse P A B → (A → ⊥) → (P → ⊥) �
 passes (inl h) never = absurd (never h.1)
 passes (inr h) never = h
 
-pub same_cells : (c d : ℤ → ℤ → ℕ) (cells : List Cell) → c ≡ d → AreCells c cells → AreCellsOf d cells
+pub same_cells : (c d : ℤ → ℤ → ℕ) (cells : List Cell) → c ≡ d → AreClaimedCells c cells → AreCellsOf d cells
 same_cells c d cells e h = subst (λ (f : ℤ → ℤ → ℕ). AreCellsOf f cells) e
     (record { in_order = h.in_order; true_cells = h.true_cells; all_cells = h.all_cells })
 
 pub none_some : (f : Fault) → None ≡ Some f → ⊥
 none_some f e = cc
 
-pub stepped_is : FilesAreOnPlane 62 → (bytes text : List ℕ) → LayerStepped bytes text → IsStepped bytes text
+pub stepped_is : FilesAreOnPlane 62 → (bytes text : List ℕ) → LayerStepped bytes text → IsClaimedStep bytes text
 stepped_is on_plane bytes text h =
     let u = h.0 in
     let t = h.3 in
@@ -57,8 +57,8 @@ stepped_is on_plane bytes text h =
     let n = most_neighbours life.near in
     let b = filter (has_digit life.sets.births) counts in
     let s = filter (has_digit life.sets.survivals) counts in
-    let next : (x y : ℤ) → next_life n b s p.pattern.cell x y ≡ layer_next life u.cell x y =
-    λ x y. ap (λ (c : ℤ → ℤ → ℕ). next_life n b s c x y) cells ∙ next_is life valid u.cell x y in
+    let next : (x y : ℤ) → claimed_next_life n b s p.pattern.cell x y ≡ layer_next life u.cell x y =
+    λ x y. ap (λ (c : ℤ → ℤ → ℕ). claimed_next_life n b s c x y) cells ∙ next_is life valid u.cell x y in
     record {
       now = p.pattern;
       next = q.pattern;
@@ -98,20 +98,20 @@ unstepped_is on_plane bytes u fault h refusal = (p.pattern, p.is, by u.rule refl
     is reason e r = subst (IsFirstReason p.pattern) (sym (some_of fault reason e)) r
 
     by : (rule : LayerRule) → u.rule ≡ rule → RuleRefusal 62 rule u (Some fault) → IsFirstReason p.pattern fault
-    by (Named name) r e = is (fault_of NeedsTable) e (no_table name (p.rule ∙ ap rule_in r))
+    by (Named name) r e = is (claimed_fault_of NeedsTable) e (no_table name (p.rule ∙ ap rule_in r))
     by (Life life) r (inl f) =
-        is (fault_of GenerationTooLarge) f.1 (last_generation _ _ _ (p.rule ∙ ap rule_in r) (p.generation ∙ f.0))
+        is (claimed_fault_of GenerationTooLarge) f.1 (last_generation _ _ _ (p.rule ∙ ap rule_in r) (p.generation ∙ f.0))
     by (Life life) r (inr (room, inl f)) =
-        is (fault_of TooManyCells) f.1
+        is (claimed_fault_of TooManyCells) f.1
         (many_cells _ _ _ (p.rule ∙ ap rule_in r) (λ e. room (sym p.generation ∙ e)) (f.0.0, of_layer p.pattern.cell u.cell f.0.0 cells f.0.1, f.0.2))
     by (Life life) r (inr (room, inr (few, inl f))) =
         let n = most_neighbours life.near in
         let b = filter (has_digit life.sets.births) counts in
         let s = filter (has_digit life.sets.survivals) counts in
         let valid : IsLifeRule life = subst IsRule r (on_plane bytes u h).rule in
-        let next : (x y : ℤ) → next_life n b s p.pattern.cell x y ≡ layer_next life u.cell x y =
-        λ x y. ap (λ (c : ℤ → ℤ → ℕ). next_life n b s c x y) cells ∙ next_is life valid u.cell x y in
-        is (fault_of OutOfPlane) f.1
+        let next : (x y : ℤ) → claimed_next_life n b s p.pattern.cell x y ≡ layer_next life u.cell x y =
+        λ x y. ap (λ (c : ℤ → ℤ → ℕ). claimed_next_life n b s c x y) cells ∙ next_is life valid u.cell x y in
+        is (claimed_fault_of OutOfPlane) f.1
         (leaves_plane n b s (p.rule ∙ ap rule_in r) (λ e. room (sym p.generation ∙ e))
         (λ m. few (m.0, same_cells p.pattern.cell u.cell m.0 cells m.1, m.2))
         (f.0.0, f.0.1, outside_is f.0.0 f.0.1 f.0.2, λ z. f.0.3 (sym (next f.0.0 f.0.1) ∙ z)))
@@ -119,7 +119,7 @@ unstepped_is on_plane bytes u fault h refusal = (p.pattern, p.is, by u.rule refl
 
 -- why a file is not stepped
 pub unstepped_as : FilesAreOnPlane 62 → (bytes : List ℕ) (store : Nodes) (fault : Fault)
-    → Refuses 62 bytes fault ⊎ (IsWant store fault ⊎ ((u : Universe) × Reads 62 bytes u × LifeRefusal 62 u (Some fault)))
+    → Refuses 62 bytes fault ⊎ (IsShortageOf store fault ⊎ ((u : Universe) × Reads 62 bytes u × LifeRefusal 62 u (Some fault)))
     → (pattern_of bytes ≡ Err fault) ⊎ (IsUnmet fault ⊎ IsUnstepped bytes fault)
 unstepped_as on_plane bytes store fault (inl r) = inl (refuses_agree bytes fault r)
 unstepped_as on_plane bytes store fault (inr (inl w)) = inr (inl (want_as store fault w))

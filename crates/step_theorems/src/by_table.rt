@@ -1,8 +1,8 @@
 //! One generation of a file by a rule table.
 
 ghost use Rattle.std.specs.Prelude.{◌≡◌, ◌⊎◌, Ok, Err, IfOk, IfErr, IsTrue};
-ghost use Rattle.claims.specs.ByTable.{IsSteppedBy, IsUnsteppedBy};
-ghost use Rattle.claims.specs.Files.{pattern_of, IsWant};
+ghost use Rattle.claims.specs.ByTable.{IsClaimedStepBy, IsUnsteppedBy};
+ghost use Rattle.claims.specs.Files.{pattern_of, IsShortage};
 ghost use Rattle.claims.specs.Table.{Table, table_of};
 
 use life_base::Fault;
@@ -13,7 +13,7 @@ use life_table::laws::grammars_agree;
 use life_table::{NameSeed, read_table_seeded};
 use std::alloc::Global;
 use table_laws::laws::{tables_decide, tables_read, tables_refuse};
-use theorems::{Room, are_equal};
+use theorems::{StoreOptions, are_equal};
 
 /// The text of the next generation of a file by a rule table has the table's name for its rule and one generation more, and
 /// each cell has the state that the table decides for it.
@@ -27,13 +27,14 @@ pub fn next_generation_by_table(
     alloc: Global,
     rules: &[u8],
     file: &[u8],
-    room: Room,
+    room: StoreOptions,
     names: NameSeed,
 ) -> Result<Vec<u8>, Fault>
     ensures stepped { IfOk result
-        (λ text. (t : Table) × (table_of rules.now ≡ Ok t) × IsSteppedBy t file.now text.items) }
+        (λ text. (t : Table) × (table_of rules.now ≡ Ok t)
+        × IsClaimedStepBy t file.now text.items) }
     ensures refused { IfErr result (λ fault. (table_of rules.now ≡ Err fault)
-        ⊎ (IsWant fault ⊎ ((t : Table) × (table_of rules.now ≡ Ok t)
+        ⊎ (IsShortage fault ⊎ ((t : Table) × (table_of rules.now ≡ Ok t)
         × ((pattern_of file.now ≡ Err fault) ⊎ IsUnsteppedBy t file.now fault)))) }
 {
     files_are_on_plane();
@@ -51,8 +52,8 @@ pub fn next_text_by_table_is_fixed(
     rules: &[u8],
     file: &[u8],
     names: NameSeed,
-    one: Room,
-    other: Room,
+    one: StoreOptions,
+    other: StoreOptions,
 ) -> Result<bool, Fault>
     ensures { IfOk result (λ equal. IsTrue equal) }
 {

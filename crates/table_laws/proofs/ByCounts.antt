@@ -18,8 +18,8 @@ use Rattle.life_table.specs.declared.table.Entry.{Entry as LayerEntry}
 use Rattle.life_table.specs.declared.table.Entry.TheVariants as entries
 use Rattle.life_table.specs.declared.table.Transition.{Transition as LayerTransition}
 use Rattle.life_table.specs.declared.table.Table.{Table as LayerTable}
-use Rattle.claims.specs.Table.{variable, Transition, Table, states_of, gives}
-use Rattle.table_laws.specs.ByCounts.{state_for, GivesByCounts, PermuteByCounts}
+use Rattle.claims.specs.Table.{variable, Transition, Table, claimed_states_of, claimed_states_given}
+use Rattle.table_laws.specs.ByCounts.{state_for, GivesByClaimedCounts, PermuteByClaimedCounts}
 use Rattle.table_laws.specs.Tables.{entry_in, transition_in, IsTable}
 use Rattle.table_laws.proofs.Decided.{gave, gets}
 use Rattle.table_laws.proofs.Given.{has_state_of, is_state_of}
@@ -76,13 +76,14 @@ module _ (layer : LayerTable) (table : Table) (is : IsTable layer table) (y : la
   is_line : IsTransition layer.n_states (neighbour_count layer.neighborhood) layer.vars line
   is_line = All-contains (IsTransition layer.n_states (neighbour_count layer.neighborhood) layer.vars) layer.lines line layer.sound.transitions there
 
-  to_counts : Contains (gives table centre around (transition_in line)) state → GivesByCounts table.variables (transition_in line) centre around state
+  to_counts : Contains (claimed_states_given table centre around (transition_in line)) state
+      → GivesByClaimedCounts table.variables (transition_in line) centre around state
   to_counts c =
       let one : Gives layer.symmetry layer.vars line centre around state = gave layer table is centre around long line is_line state c in
       let g = (permute_law layer.vars line centre around state).0 (subst (λ (s : Symmetry). Gives s layer.vars line centre around state) y one) in
       record {
         value = g.choice;
-        is_value = λ n l. in_any (g.choice n) (states_of table.variables (variable n))
+        is_value = λ n l. in_any (g.choice n) (claimed_states_of table.variables (variable n))
             (is_state_of layer.vars table.variables is.variables n (g.choice n) (below n l) (g.is_choice n (below n l)));
         first = ap (map (state_for g.choice)) (take_map 1 line.inputs) ∙ entry_states g.choice (take 1 line.inputs) ∙ g.first;
         counts = λ t.
@@ -95,12 +96,13 @@ module _ (layer : LayerTable) (table : Table) (is : IsTable layer table) (y : la
       below : (n : ℕ) → n < length table.variables → n < length layer.vars
       below n l = subst (λ m. n < m) (length_is layer.vars table.variables is.variables) l
 
-  from_counts : GivesByCounts table.variables (transition_in line) centre around state → Contains (gives table centre around (transition_in line)) state
+  from_counts : GivesByClaimedCounts table.variables (transition_in line) centre around state
+      → Contains (claimed_states_given table centre around (transition_in line)) state
   from_counts g =
       let counted : LayerByCounts layer.vars line centre around state = record {
         choice = g.value;
         is_choice = λ n l. has_state_of layer.vars table.variables is.variables n (g.value n)
-            (any_in (g.value n) (states_of table.variables (variable n)) (g.is_value n (above n l)));
+            (any_in (g.value n) (claimed_states_of table.variables (variable n)) (g.is_value n (above n l)));
         first = sym (ap (map (state_for g.value)) (take_map 1 line.inputs) ∙ entry_states g.value (take 1 line.inputs)) ∙ g.first;
         counts = λ t.
             sym (count_is t (map (state_for g.value) (drop 1 (map entry_in line.inputs)))
@@ -114,7 +116,7 @@ module _ (layer : LayerTable) (table : Table) (is : IsTable layer table) (y : la
       above : (n : ℕ) → n < length layer.vars → n < length table.variables
       above n l = subst (λ m. n < m) (sym (length_is layer.vars table.variables is.variables)) l
 
-pub permute_by_counts : PermuteByCounts
+pub permute_by_counts : PermuteByClaimedCounts
 permute_by_counts bytes table e permute line there centre around long state =
     let r = (tables_read bytes).1 table e in
     let layer = r.0 in
@@ -122,6 +124,7 @@ permute_by_counts bytes table e permute line there centre around long state =
     let y : layer.symmetry ≡ Permute = permutes layer.symmetry (same_Some _ _ (sym is.symmetry ∙ permute)) in
     let l = from_map transition_in layer.lines line (subst (λ (ts : List Transition). Contains ts line) is.transitions there) in
     let count : length around ≡ neighbour_count layer.neighborhood = long ∙ ap (λ (o : Option ℕ). unwrap_or o 0) is.neighbours in
-    let P : Transition → Type 0 = λ (t : Transition). Contains (gives table centre around t) state ↔ GivesByCounts table.variables t centre around state in
+    let P : Transition → Type 0 = λ (t : Transition). Contains (claimed_states_given table centre around t) state
+    ↔ GivesByClaimedCounts table.variables t centre around state in
     subst P l.2
     (to_counts layer table is y centre around count l.0 l.1 state, from_counts layer table is y centre around count l.0 l.1 state)

@@ -14,7 +14,7 @@ use Rattle.life_table.specs.Valid.{IsVariable, IsTransition, neighbour_count}
 use Rattle.life_table.specs.declared.table.Var.{Var}
 use Rattle.life_table.specs.declared.table.Transition.{Transition as LayerTransition}
 use Rattle.life_table.specs.declared.table.Table.{Table as LayerTable}
-use Rattle.claims.specs.Table.{Variable, variable, Transition, Table, states_of, images, given, gives, decided, Answer, becomes, ambiguous}
+use Rattle.claims.specs.Table.{Variable, variable, Transition, Table, claimed_states_of, claimed_images, claimed_state_given, claimed_states_given, claimed_decision, ClaimedAnswer, becomes, ambiguous}
 use Rattle.table_laws.specs.Laws.{TablesDecide}
 use Rattle.table_laws.specs.Tables.{transition_in, answer_in, AreVariables, IsTable}
 use Rattle.table_laws.proofs.Given.{given_is_choice, choice_is_given}
@@ -76,7 +76,7 @@ module _ (vars : List Var) (variables : List Variable) (same : AreVariables vars
   some_state i var (x ∷ xs) h k = sym (h x) ∙ or_left (x == x) _ (eq-eqb x x refl)
 
   base : ℕ → ℕ
-  base i = head_of (states_of variables (variable i))
+  base i = head_of (claimed_states_of variables (variable i))
 
   is_base : (n : ℕ) → All (IsVariable n) vars → IsChoice vars base
   unfolding base
@@ -87,20 +87,20 @@ module _ (vars : List Var) (variables : List Variable) (same : AreVariables vars
       there (x ∷ xs) zero var e = subst (Contains (x ∷ xs)) (let k : x ≡ var = cc in k) (in_head x xs)
       there (x ∷ xs) (suc i) var e = in_tail x xs var (there xs i var e)
 
-      by : (o : Option Var) → slice_get vars i ≡ o → IfSome o (λ var. HasState var (head_of (states_of variables (variable i))))
+      by : (o : Option Var) → slice_get vars i ≡ o → IfSome o (λ var. HasState var (head_of (claimed_states_of variables (variable i))))
       by None e = tt
       by (Some var) e =
-          some_state i var (states_of variables (variable i)) (λ s. same.states i s
+          some_state i var (claimed_states_of variables (variable i)) (λ s. same.states i s
           ∙ ap (λ (o : Option Var). option_map_or (λ (v : Var). has_state v s) o false) e)
           (All-contains (IsVariable n) vars var all (there vars i var e)).some
 
 -- ---- lines
 
-abbrev answer_out : Answer → LayerAnswer
+abbrev answer_out : ClaimedAnswer → LayerAnswer
 answer_out (becomes s) = Becomes s
 answer_out (ambiguous number) = Ambiguous number
 
-out_in : (a : Answer) → answer_in (answer_out a) ≡ a
+out_in : (a : ClaimedAnswer) → answer_in (answer_out a) ≡ a
 out_in (becomes s) = refl
 out_in (ambiguous number) = refl
 
@@ -114,11 +114,12 @@ module _ (layer : LayerTable) (table : Table) (is : IsTable layer table) (centre
   agrees = images_agree layer.symmetry layer.neighborhood others layer.sound.listed count
 
   abbrev given_for : LayerTransition → List ℕ → Option ℕ
-  given_for line image = given table.variables (transition_in line) (centre ∷ image)
+  given_for line image = claimed_state_given table.variables (transition_in line) (centre ∷ image)
 
-  gives_are : (line : LayerTransition) → gives table centre others (transition_in line) ≡ filter_map (given_for line) (layer_images layer.symmetry others)
+  gives_are : (line : LayerTransition) → claimed_states_given table centre others (transition_in line)
+      ≡ filter_map (given_for line) (layer_images layer.symmetry others)
   gives_are line =
-      ap (λ (o : Option (List ℕ)). filter_map (given_for line) (images (unwrap_or o []) others)) is.symmetry ∙ ap (filter_map (given_for line)) agrees.0
+      ap (λ (o : Option (List ℕ)). filter_map (given_for line) (claimed_images (unwrap_or o []) others)) is.symmetry ∙ ap (filter_map (given_for line)) agrees.0
 
   abbrev pub GivesOne : LayerTransition → ℕ → Type 0
   GivesOne line s = Gives layer.symmetry layer.vars line centre others s
@@ -126,7 +127,7 @@ module _ (layer : LayerTable) (table : Table) (is : IsTable layer table) (centre
   abbrev pub IsLine : LayerTransition → Type 0
   IsLine line = IsTransition layer.n_states (neighbour_count layer.neighborhood) layer.vars line
 
-  pub gave : (line : LayerTransition) → IsLine line → (s : ℕ) → Contains (gives table centre others (transition_in line)) s → GivesOne line s
+  pub gave : (line : LayerTransition) → IsLine line → (s : ℕ) → Contains (claimed_states_given table centre others (transition_in line)) s → GivesOne line s
   gave line t s c =
       let u = unmapped (given_for line) (layer_images layer.symmetry others) s (subst (λ (xs : List ℕ). Contains xs s) (gives_are line) c) in
       let long : length u.0 ≡ length others = image_length layer.symmetry others u.0 agrees u.1 in
@@ -139,7 +140,7 @@ module _ (layer : LayerTable) (table : Table) (is : IsTable layer table) (centre
             (omega (arith, long, inputs, count)) t.bound u.2;
       }
 
-  pub gets : (line : LayerTransition) → IsLine line → (s : ℕ) → GivesOne line s → Contains (gives table centre others (transition_in line)) s
+  pub gets : (line : LayerTransition) → IsLine line → (s : ℕ) → GivesOne line s → Contains (claimed_states_given table centre others (transition_in line)) s
   gets line t s g =
       subst (λ (xs : List ℕ). Contains xs s) (sym (gives_are line))
       (mapped (given_for line) (layer_images layer.symmetry others) g.image s g.is_image
@@ -166,17 +167,17 @@ module _ (layer : LayerTable) (table : Table) (is : IsTable layer table) (centre
       → Decide (line ∷ lines) a
   at_first line lines a h = inl (record { before = []; line = line; after = lines; split = refl; silent = All-nil Silent; answers = h })
 
-  decides : (lines : List LayerTransition) → All IsLine lines → Decide lines (answer_out (decided table centre others (map transition_in lines)))
+  decides : (lines : List LayerTransition) → All IsLine lines → Decide lines (answer_out (claimed_decision table centre others (map transition_in lines)))
   decides [] all = inr (All-nil Silent, refl)
-  decides (line ∷ lines) all = by (gives table centre others (transition_in line)) refl (decides lines (All-tail IsLine line lines all))
+  decides (line ∷ lines) all = by (claimed_states_given table centre others (transition_in line)) refl (decides lines (All-tail IsLine line lines all))
     where
       t : IsLine line
       t = All-head IsLine line lines all
 
-      by : (found : List ℕ) → gives table centre others (transition_in line) ≡ found
-          → Decide lines (answer_out (decided table centre others (map transition_in lines)))
+      by : (found : List ℕ) → claimed_states_given table centre others (transition_in line) ≡ found
+          → Decide lines (answer_out (claimed_decision table centre others (map transition_in lines)))
           → Decide (line ∷ lines) (answer_out (elim found [
-            | [] ↦ decided table centre others (map transition_in lines)
+            | [] ↦ claimed_decision table centre others (map transition_in lines)
             | s ∷ states ↦ cond (list_all (λ r. r == s) states) (becomes s) (ambiguous line.line)
           ]))
       by [] e below = behind line lines _ (λ s g. in_none s (subst (λ (xs : List ℕ). Contains xs s) e (gets line t s g))) below
@@ -196,15 +197,15 @@ module _ (layer : LayerTable) (table : Table) (is : IsTable layer table) (centre
                 (refl, s, r.0, r.2, first_given, gave line t r.0 (subst (λ (xs : List ℕ). Contains xs r.0) (sym e) (in_tail s states r.0 r.1))))
           ]
 
-  decides_all : Decide layer.lines (answer_out (decided table centre others table.transitions))
-  decides_all = subst (λ (ts : List Transition). Decide layer.lines (answer_out (decided table centre others ts))) (sym is.transitions)
+  decides_all : Decide layer.lines (answer_out (claimed_decision table centre others table.transitions))
+  decides_all = subst (λ (ts : List Transition). Decide layer.lines (answer_out (claimed_decision table centre others ts))) (sym is.transitions)
       (decides layer.lines layer.sound.transitions)
 
-  alike : (a : LayerAnswer) → Decide layer.lines a ↔ (decided table centre others table.transitions ≡ answer_in a)
+  alike : (a : LayerAnswer) → Decide layer.lines a ↔ (claimed_decision table centre others table.transitions ≡ answer_in a)
   alike a = (
-    λ h. sym (out_in (decided table centre others table.transitions))
+    λ h. sym (out_in (claimed_decision table centre others table.transitions))
         ∙ ap answer_in (one_law layer.symmetry layer.vars centre others layer.lines
-        (answer_out (decided table centre others table.transitions)) a decides_all h),
+        (answer_out (claimed_decision table centre others table.transitions)) a decides_all h),
     λ e. subst (Decide layer.lines) (ap answer_out e ∙ in_out a) decides_all,
   )
 

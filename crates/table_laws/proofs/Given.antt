@@ -13,7 +13,7 @@ use Rattle.life_table.specs.declared.table.Var.{Var}
 use Rattle.life_table.specs.declared.table.Entry.{Entry as LayerEntry}
 use Rattle.life_table.specs.declared.table.Entry.TheVariants as entries
 use Rattle.life_table.specs.declared.table.Transition.{Transition as LayerTransition}
-use Rattle.claims.specs.Table.{Variable, variable, states_of, taken, allows, given}
+use Rattle.claims.specs.Table.{Variable, variable, claimed_states_of, state_of_variable, allows, claimed_state_given}
 use Rattle.table_laws.specs.Tables.{entry_in, transition_in, AreVariables}
 
 -- ---- tests
@@ -35,11 +35,11 @@ some_if p (x ∷ xs) zero l h = h
 some_if p (x ∷ xs) (suc i) l h = some_if p xs i (omega arith) h
 
 module _ (vars : List Var) (variables : List Variable) (same : AreVariables vars variables) where
-  pub has_state_of : (i s : ℕ) → list_any (λ t. t == s) (states_of variables (variable i)) ≡ true → IfSome (slice_get vars i) (λ var. HasState var s)
+  pub has_state_of : (i s : ℕ) → list_any (λ t. t == s) (claimed_states_of variables (variable i)) ≡ true → IfSome (slice_get vars i) (λ var. HasState var s)
   has_state_of i s h = if_some (λ var. has_state var s) (slice_get vars i) (sym (same.states i s) ∙ h)
 
   pub is_state_of : (i s : ℕ) → i < length vars → IfSome (slice_get vars i) (λ var. HasState var s)
-      → list_any (λ t. t == s) (states_of variables (variable i)) ≡ true
+      → list_any (λ t. t == s) (claimed_states_of variables (variable i)) ≡ true
   is_state_of i s l h = same.states i s ∙ some_if (λ var. has_state var s) vars i l h
 
   -- ---- a given state is that of a choice
@@ -63,88 +63,89 @@ module _ (vars : List Var) (variables : List Variable) (same : AreVariables vars
   -- the state that an input takes is one of its variable's
   has_taken : (value : ℕ → ℕ) (i : ℕ) (es : List LayerEntry) (ss : List ℕ) → length es ≡ length ss
       → list_all (allows variables value) (zip (map entry_in es) ss) ≡ true → list_any (is_variable i) es ≡ true
-      → list_any (λ t. t == value i) (states_of variables (variable i)) ≡ true
+      → list_any (λ t. t == value i) (claimed_states_of variables (variable i)) ≡ true
   has_taken value i [] ss l a m = cc
   has_taken value i (e ∷ es) [] l a m = absurd (omega (arith, l))
   has_taken value i (entries.Fixed f ∷ es) (s ∷ ss) l a m = has_taken value i es ss (omega (arith, l)) (right_of_and _ _ a) m
   has_taken value i (entries.Var j ∷ es) (s ∷ ss) l a m = elim (eqb_tells i j) [
     | inl e ↦
         let at : value j ≡ s = eqb-true (value j) s (left_of_and _ _ (left_of_and _ _ a)) in
-        subst (λ n. list_any (λ t. t == value n) (states_of variables (variable n)) ≡ true) (sym e.1)
-        (subst (λ n. list_any (λ t. t == n) (states_of variables (variable j)) ≡ true) (sym at) (right_of_and _ _ (left_of_and _ _ a)))
+        subst (λ n. list_any (λ t. t == value n) (claimed_states_of variables (variable n)) ≡ true) (sym e.1)
+        (subst (λ n. list_any (λ t. t == n) (claimed_states_of variables (variable j)) ≡ true) (sym at) (right_of_and _ _ (left_of_and _ _ a)))
     | inr n ↦ has_taken value i es ss (omega (arith, l)) (right_of_and _ _ a) (or_rest (eqb i j) _ n.0 m)
   ]
 
   module _ (base : ℕ → ℕ) (is_base : IsChoice vars base) (es : List LayerEntry) (ss : List ℕ) (l : length es ≡ length ss)
-      (a : list_all (allows variables (taken (map entry_in es) ss)) (zip (map entry_in es) ss) ≡ true) where
+      (a : list_all (allows variables (state_of_variable (map entry_in es) ss)) (zip (map entry_in es) ss) ≡ true) where
     choice : ℕ → ℕ
-    choice i = cond (list_any (is_variable i) es) (taken (map entry_in es) ss i) (base i)
+    choice i = cond (list_any (is_variable i) es) (state_of_variable (map entry_in es) ss i) (base i)
 
-    choice_at : (i : ℕ) → list_any (is_variable i) es ≡ true → choice i ≡ taken (map entry_in es) ss i
+    choice_at : (i : ℕ) → list_any (is_variable i) es ≡ true → choice i ≡ state_of_variable (map entry_in es) ss i
     unfolding choice
-    choice_at i m = ap (λ v. cond v (taken (map entry_in es) ss i) (base i)) m
+    choice_at i m = ap (λ v. cond v (state_of_variable (map entry_in es) ss i) (base i)) m
 
     choice_off : (i : ℕ) → list_any (is_variable i) es ≡ false → choice i ≡ base i
     unfolding choice
-    choice_off i m = ap (λ v. cond v (taken (map entry_in es) ss i) (base i)) m
+    choice_off i m = ap (λ v. cond v (state_of_variable (map entry_in es) ss i) (base i)) m
 
     choice_is : IsChoice vars choice
     choice_is i below = elim (cases_Bool (list_any (is_variable i) es)) [
       | inl m ↦ subst (λ s. IfSome (slice_get vars i) (λ var. HasState var s)) (sym (choice_at i m))
-          (has_state_of i (taken (map entry_in es) ss i) (has_taken (taken (map entry_in es) ss) i es ss l a m))
+          (has_state_of i (state_of_variable (map entry_in es) ss i) (has_taken (state_of_variable (map entry_in es) ss) i es ss l a m))
       | inr m ↦ subst (λ s. IfSome (slice_get vars i) (λ var. HasState var s)) (sym (choice_off i m)) (is_base i below)
     ]
 
     output_is : (output : LayerEntry) → ((i : ℕ) → output ≡ entries.Var i → list_any (is_variable i) es ≡ true)
-        → (s : ℕ) → state_of (taken (map entry_in es) ss) output ≡ s → state_of choice output ≡ s
+        → (s : ℕ) → state_of (state_of_variable (map entry_in es) ss) output ≡ s → state_of choice output ≡ s
     output_is (entries.Fixed f) bound s e = e
     output_is (entries.Var i) bound s e = choice_at i (bound i refl) ∙ e
 
     gives_these : (number : ℕ) (output : LayerEntry) → ((i : ℕ) → output ≡ entries.Var i → list_any (is_variable i) es ≡ true)
-        → (s : ℕ) → state_of (taken (map entry_in es) ss) output ≡ s → GivesAs vars (record { line = number; inputs = es; output = output }) ss s
+        → (s : ℕ) → state_of (state_of_variable (map entry_in es) ss) output ≡ s → GivesAs vars (record { line = number; inputs = es; output = output }) ss s
     gives_these number output bound s e = record {
       choice = choice;
       is_choice = choice_is;
-      inputs = all_values (taken (map entry_in es) ss) choice es ss l a choice_at;
+      inputs = all_values (state_of_variable (map entry_in es) ss) choice es ss l a choice_at;
       output = output_is output bound s e;
     }
 
-  -- what `given` gives where all inputs are allowed
+  -- what `claimed_state_given` gives where all inputs are allowed
   shown : (line : LayerTransition) (ss : List ℕ)
-      → given variables (transition_in line) ss
-      ≡ cond (list_all (allows variables (taken (map entry_in line.inputs) ss)) (zip (map entry_in line.inputs) ss))
-      (Some (state_of (taken (map entry_in line.inputs) ss) line.output)) None
+      → claimed_state_given variables (transition_in line) ss
+      ≡ cond (list_all (allows variables (state_of_variable (map entry_in line.inputs) ss)) (zip (map entry_in line.inputs) ss))
+      (Some (state_of (state_of_variable (map entry_in line.inputs) ss) line.output)) None
   shown line ss = by line.output
     where
-      by : (output : LayerEntry) → given variables (record { line = line.line; inputs = map entry_in line.inputs; output = entry_in output }) ss
-          ≡ cond (list_all (allows variables (taken (map entry_in line.inputs) ss)) (zip (map entry_in line.inputs) ss))
-          (Some (state_of (taken (map entry_in line.inputs) ss) output)) None
+      by : (output : LayerEntry) → claimed_state_given variables (record { line = line.line; inputs = map entry_in line.inputs; output = entry_in output }) ss
+          ≡ cond (list_all (allows variables (state_of_variable (map entry_in line.inputs) ss)) (zip (map entry_in line.inputs) ss))
+          (Some (state_of (state_of_variable (map entry_in line.inputs) ss) output)) None
       by (entries.Fixed f) = refl
       by (entries.Var i) = refl
 
   pub given_is_choice : (base : ℕ → ℕ) → IsChoice vars base → (line : LayerTransition) (ss : List ℕ) (s : ℕ) → length line.inputs ≡ length ss
       → ((i : ℕ) → line.output ≡ entries.Var i → IsTrue (list_any (is_variable i) line.inputs))
-      → given variables (transition_in line) ss ≡ Some s → GivesAs vars line ss s
+      → claimed_state_given variables (transition_in line) ss ≡ Some s → GivesAs vars line ss s
   given_is_choice base is_base line ss s l bound g =
-      let all = list_all (allows variables (taken (map entry_in line.inputs) ss)) (zip (map entry_in line.inputs) ss) in
-      let h : cond all (Some (state_of (taken (map entry_in line.inputs) ss) line.output)) None ≡ Some s = sym (shown line ss) ∙ g in
+      let all = list_all (allows variables (state_of_variable (map entry_in line.inputs) ss)) (zip (map entry_in line.inputs) ss) in
+      let h : cond all (Some (state_of (state_of_variable (map entry_in line.inputs) ss) line.output)) None ≡ Some s = sym (shown line ss) ∙ g in
       elim (cases_Bool all) [
         | inl a ↦
-            let k : Some (state_of (taken (map entry_in line.inputs) ss) line.output)
-            ≡ Some s = sym (ap (λ v. cond v (Some (state_of (taken (map entry_in line.inputs) ss) line.output)) None) a) ∙ h in
+            let k : Some (state_of (state_of_variable (map entry_in line.inputs) ss) line.output)
+            ≡ Some s = sym (ap (λ v. cond v (Some (state_of (state_of_variable (map entry_in line.inputs) ss) line.output)) None) a) ∙ h in
             gives_these base is_base line.inputs ss l a line.line line.output bound s (same_Some _ s k)
-        | inr a ↦ absurd (let k : None ≡ Some s = sym (ap (λ v. cond v (Some (state_of (taken (map entry_in line.inputs) ss) line.output)) None) a) ∙ h in cc)
+        | inr a ↦ absurd (let k : None ≡ Some s = sym (ap (λ v. cond v (Some (state_of (state_of_variable (map entry_in line.inputs) ss) line.output)) None) a)
+            ∙ h in cc)
       ]
 
   -- ---- the state of a choice is given
 
   taken_is : (choice : ℕ → ℕ) (i : ℕ) (es : List LayerEntry) → list_any (is_variable i) es ≡ true
-      → taken (map entry_in es) (map (state_of choice) es) i ≡ choice i
+      → state_of_variable (map entry_in es) (map (state_of choice) es) i ≡ choice i
   taken_is choice i [] m = cc
   taken_is choice i (entries.Fixed f ∷ es) m = taken_is choice i es m
   taken_is choice i (entries.Var j ∷ es) m = elim (eqb_tells j i) [
-    | inl e ↦ ap (λ v. cond v (choice j) (taken (map entry_in es) (map (state_of choice) es) i)) e.0 ∙ ap choice e.1
-    | inr n ↦ ap (λ v. cond v (choice j) (taken (map entry_in es) (map (state_of choice) es) i)) n.0
+    | inl e ↦ ap (λ v. cond v (choice j) (state_of_variable (map entry_in es) (map (state_of choice) es) i)) e.0 ∙ ap choice e.1
+    | inr n ↦ ap (λ v. cond v (choice j) (state_of_variable (map entry_in es) (map (state_of choice) es) i)) n.0
         ∙ taken_is choice i es (or_rest (eqb i j) _ (equal_swapped i j ∙ n.0) m)
   ]
 
@@ -156,23 +157,23 @@ module _ (vars : List Var) (variables : List Variable) (same : AreVariables vars
       and_from (eqb f f) _ (eq-eqb f f refl) (all_allowed n value choice is es (All-tail (IsEntry n vars) (entries.Fixed f) es there) h)
   all_allowed n value choice is (entries.Var j ∷ es) there h =
       let below : j < length vars = (All-head (IsEntry n vars) (entries.Var j) es there).variable j refl in
-      and_from (eqb (value j) (choice j) && list_any (λ t. t == choice j) (states_of variables (variable j))) _
+      and_from (eqb (value j) (choice j) && list_any (λ t. t == choice j) (claimed_states_of variables (variable j))) _
       (and_from (eqb (value j) (choice j)) _ (eq-eqb (value j) (choice j) (h j (or_left (eqb j j) _ (eq-eqb j j refl))))
       (is_state_of j (choice j) below (is j below)))
       (all_allowed n value choice is es (All-tail (IsEntry n vars) (entries.Var j) es there) (λ i m. h i (or_right (eqb i j) _ m)))
 
   output_taken : (choice : ℕ → ℕ) (es : List LayerEntry) (output : LayerEntry) → ((i : ℕ) → output ≡ entries.Var i → list_any (is_variable i) es ≡ true)
-      → state_of (taken (map entry_in es) (map (state_of choice) es)) output ≡ state_of choice output
+      → state_of (state_of_variable (map entry_in es) (map (state_of choice) es)) output ≡ state_of choice output
   output_taken choice es (entries.Fixed f) bound = refl
   output_taken choice es (entries.Var i) bound = taken_is choice i es (bound i refl)
 
   pub choice_is_given : (n : ℕ) (line : LayerTransition) (ss : List ℕ) (s : ℕ) → All (IsEntry n vars) line.inputs
       → ((i : ℕ) → line.output ≡ entries.Var i → IsTrue (list_any (is_variable i) line.inputs))
-      → GivesAs vars line ss s → given variables (transition_in line) ss ≡ Some s
+      → GivesAs vars line ss s → claimed_state_given variables (transition_in line) ss ≡ Some s
   choice_is_given n line ss s there bound g =
       let states = map (state_of g.choice) line.inputs in
-      ap (given variables (transition_in line)) (sym g.inputs)
+      ap (claimed_state_given variables (transition_in line)) (sym g.inputs)
       ∙ shown line states
-      ∙ ap (λ v. cond v (Some (state_of (taken (map entry_in line.inputs) states) line.output)) None)
-      (all_allowed n (taken (map entry_in line.inputs) states) g.choice g.is_choice line.inputs there (λ i m. taken_is g.choice i line.inputs m))
+      ∙ ap (λ v. cond v (Some (state_of (state_of_variable (map entry_in line.inputs) states) line.output)) None)
+      (all_allowed n (state_of_variable (map entry_in line.inputs) states) g.choice g.is_choice line.inputs there (λ i m. taken_is g.choice i line.inputs m))
       ∙ ap Some (output_taken g.choice line.inputs line.output bound ∙ g.output)

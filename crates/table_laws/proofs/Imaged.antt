@@ -11,7 +11,7 @@ use Rattle.life_table.specs.declared.table.Neighborhood.{Neighborhood}
 use Rattle.life_table.specs.declared.table.Neighborhood.TheVariants.{VonNeumann, Moore}
 use Rattle.life_table.specs.declared.table.Symmetry.{Symmetry}
 use Rattle.life_table.specs.declared.table.Symmetry.TheVariants.{Identity, Rotate4, Rotate4Reflect, ReflectHorizontal, Permute, Rotate8, Rotate8Reflect}
-use Rattle.claims.specs.Table.{images, orders, insertions}
+use Rattle.claims.specs.Table.{claimed_images, claimed_orders, claimed_insertions}
 
 -- ---- lists by their elements
 
@@ -26,19 +26,19 @@ eight_of v l = absurd (omega (arith, l))
 
 -- ---- every order
 
-insertions_are : (x : ℕ) (ys : List ℕ) → insertions x ys ≡ layer_insertions x ys
+insertions_are : (x : ℕ) (ys : List ℕ) → claimed_insertions x ys ≡ layer_insertions x ys
 insertions_are x [] = refl
 insertions_are x (y ∷ ys) = ap (λ (t : List (List ℕ)). (x ∷ y ∷ ys) ∷ map (λ zs. y ∷ zs) t) (insertions_are x ys)
 
-inserted_are : (x : ℕ) (vs : List (List ℕ)) → flat_map (insertions x) vs ≡ flat_map (layer_insertions x) vs
+inserted_are : (x : ℕ) (vs : List (List ℕ)) → flat_map (claimed_insertions x) vs ≡ flat_map (layer_insertions x) vs
 inserted_are x [] = refl
-inserted_are x (v ∷ vs) = ap (λ (t : List (List ℕ)). t ++ flat_map (insertions x) vs) (insertions_are x v)
+inserted_are x (v ∷ vs) = ap (λ (t : List (List ℕ)). t ++ flat_map (claimed_insertions x) vs) (insertions_are x v)
     ∙ ap (λ (t : List (List ℕ)). layer_insertions x v ++ t) (inserted_are x vs)
 
-orders_are : (v : List ℕ) → orders v ≡ layer_orders v
+orders_are : (v : List ℕ) → claimed_orders v ≡ layer_orders v
 unfolding layer_orders
 orders_are [] = refl
-orders_are (x ∷ xs) = inserted_are x (orders xs) ∙ ap (flat_map (layer_insertions x)) (orders_are xs)
+orders_are (x ∷ xs) = inserted_are x (claimed_orders xs) ∙ ap (flat_map (layer_insertions x)) (orders_are xs)
 
 -- ---- lengths
 
@@ -57,22 +57,22 @@ have_both : (n : ℕ) (vs ws : List (List ℕ)) → have_length n vs ≡ true �
 have_both n [] ws h k = k
 have_both n (v ∷ vs) ws h k = and_from (length v == n) _ (left_of_and (length v == n) _ h) (have_both n vs ws (right_of_and (length v == n) _ h) k)
 
-insertions_have : (x : ℕ) (ys : List ℕ) → have_length (suc (length ys)) (insertions x ys) ≡ true
+insertions_have : (x : ℕ) (ys : List ℕ) → have_length (suc (length ys)) (claimed_insertions x ys) ≡ true
 insertions_have x [] = refl
 insertions_have x (y ∷ ys) =
     and_from (suc (suc (length ys)) == suc (suc (length ys))) _ (eq-eqb (suc (suc (length ys))) (suc (suc (length ys))) refl)
-    (in_front (suc (length ys)) y (insertions x ys) (insertions_have x ys))
+    (in_front (suc (length ys)) y (claimed_insertions x ys) (insertions_have x ys))
 
-inserted_have : (n x : ℕ) (vs : List (List ℕ)) → have_length n vs ≡ true → have_length (suc n) (flat_map (insertions x) vs) ≡ true
+inserted_have : (n x : ℕ) (vs : List (List ℕ)) → have_length n vs ≡ true → have_length (suc n) (flat_map (claimed_insertions x) vs) ≡ true
 inserted_have n x [] h = refl
 inserted_have n x (v ∷ vs) h =
-    have_both (suc n) (insertions x v) (flat_map (insertions x) vs)
-    (subst (λ m. have_length (suc m) (insertions x v) ≡ true) (eqb-true (length v) n (left_of_and (length v == n) _ h)) (insertions_have x v))
+    have_both (suc n) (claimed_insertions x v) (flat_map (claimed_insertions x) vs)
+    (subst (λ m. have_length (suc m) (claimed_insertions x v) ≡ true) (eqb-true (length v) n (left_of_and (length v == n) _ h)) (insertions_have x v))
     (inserted_have n x vs (right_of_and (length v == n) _ h))
 
-orders_have : (v : List ℕ) → have_length (length v) (orders v) ≡ true
+orders_have : (v : List ℕ) → have_length (length v) (claimed_orders v) ≡ true
 orders_have [] = refl
-orders_have (x ∷ xs) = inserted_have (length xs) x (orders xs) (orders_have xs)
+orders_have (x ∷ xs) = inserted_have (length xs) x (claimed_orders xs) (orders_have xs)
 
 has_length : (n : ℕ) (vs : List (List ℕ)) → have_length n vs ≡ true → (v : List ℕ) → Contains vs v → length v ≡ n
 has_length n [] h v c = absurd (omega (arith, c.1))
@@ -85,10 +85,11 @@ has_length n (w ∷ vs) h v c = by c.0 c.1 c.2 (has_length n vs (right_of_and (l
 -- ---- the images
 
 abbrev pub Agrees : Symmetry → List ℕ → Type 0
-Agrees symmetry v = (images (symmetry_word symmetry) v ≡ layer_images symmetry v) × (have_length (length v) (images (symmetry_word symmetry) v) ≡ true)
+Agrees symmetry v = (claimed_images (symmetry_word symmetry) v ≡ layer_images symmetry v)
+    × (have_length (length v) (claimed_images (symmetry_word symmetry) v) ≡ true)
 
 four : (symmetry : Symmetry) → IsTrue (is_listed VonNeumann symmetry) → (a b c d : ℕ) → Agrees symmetry (a ∷ b ∷ c ∷ d ∷ [])
-unfolding images
+unfolding claimed_images
 four Identity h a b c d = (refl, refl)
 four Rotate4 h a b c d = (refl, refl)
 four Rotate4Reflect h a b c d = (refl, refl)
@@ -98,7 +99,7 @@ four Rotate8 h a b c d = cc
 four Rotate8Reflect h a b c d = cc
 
 eight : (symmetry : Symmetry) (a b c d e f g h : ℕ) → Agrees symmetry (a ∷ b ∷ c ∷ d ∷ e ∷ f ∷ g ∷ h ∷ [])
-unfolding images
+unfolding claimed_images
 eight Identity a b c d e f g h = (refl, refl)
 eight Rotate4 a b c d e f g h = (refl, refl)
 eight Rotate4Reflect a b c d e f g h = (refl, refl)
@@ -119,4 +120,4 @@ images_agree symmetry Moore v h l =
 
 pub image_length : (symmetry : Symmetry) (v image : List ℕ) → Agrees symmetry v → Contains (layer_images symmetry v) image → length image ≡ length v
 image_length symmetry v image h c =
-    has_length (length v) (images (symmetry_word symmetry) v) h.1 image (subst (λ (t : List (List ℕ)). Contains t image) (sym h.0) c)
+    has_length (length v) (claimed_images (symmetry_word symmetry) v) h.1 image (subst (λ (t : List (List ℕ)). Contains t image) (sym h.0) c)

@@ -11,17 +11,17 @@ use Rattle.life_base.specs.declared.kind.Kind.TheVariants as kinds
 use Rattle.life_base.specs.declared.rule.Rule.{Rule as LayerRule}
 use Rattle.life_base.specs.declared.rule.Rule.TheVariants.{Life, Named}
 use Rattle.life_table.specs.Grammar.{symmetry_word}
-use Rattle.life_table.specs.Reader.{after, IsGood}
-use Rattle.life_table.specs.Reading.{parse_line, parse_in_section, parse_in_table, parse_ahead, parse_rest, parse_settled, parse_descriptor, if_named, if_variable, if_transition, name_on, name_in, begins_rule_line, is_passed_over, is_described, is_descriptor, is_variable_line, content, variable_of, transition_of, key_of, setting_of}
+use Rattle.life_table.specs.Reader.{parsed_after, IsGood}
+use Rattle.life_table.specs.Reading.{parse_line, parse_in_section, parse_in_table, parse_ahead, parse_rest, parse_settled, parse_descriptor, if_named, if_variable, if_transition, name_on, name_in, begins_rule_line, is_passed_over, is_described, is_descriptor, is_variable_line, line_content, variable_of, transition_of, key_of, setting_of}
 use Rattle.life_table.specs.Valid.{neighbour_count}
 use Rattle.life_table.specs.declared.table.Neighborhood.{Neighborhood}
 use Rattle.life_table.specs.declared.table.Symmetry.{Symmetry}
 use Rattle.life_table.specs.declared.table.Var.{Var}
 use Rattle.life_table.specs.declared.table.Transition.{Transition as LayerTransition}
 use Rattle.claims.specs.Outcomes.{◌>>=◌}
-use Rattle.claims.specs.Macrocell.{is_command}
-use Rattle.claims.specs.Rules.{rule_of}
-use Rattle.claims.specs.Table.{Variable, Table, Section, ahead, named_rule, in_table, after_table, is_complete, with_descriptor, with_variable, with_transition, with_text, rule_line, new_table, with_line}
+use Rattle.claims.specs.Macrocell.{is_claimed_command}
+use Rattle.claims.specs.Rules.{claimed_rule_of}
+use Rattle.claims.specs.Table.{Variable, Table, Section, ahead, named_rule, in_table, after_table, is_complete, with_descriptor, with_variable, with_transition, with_text, with_rule_line, new_table, with_table_line}
 use Rattle.claims.proofs.RuleLaw.{rule_in, rule_of_is}
 use Rattle.table_laws.specs.Tables.{transition_in, AreVariables}
 use Rattle.table_laws.proofs.Named.{Parsed, Place, Directive, before_table, in_the_table, behind_table}
@@ -53,7 +53,7 @@ pub data Steps : Result Parsed Kind → Result Section Kind → Type 0 where
   halts : (kind : Kind) → Steps (Err kind) (Err kind)
 
 abbrev StepsAfter : Parsed → Result Directive Kind → Result Section Kind → Type 0
-StepsAfter parsed r x = Steps (result_map (after parsed) r) x
+StepsAfter parsed r x = Steps (result_map (parsed_after parsed) r) x
 
 put : (parsed : Parsed) (a b : Result Directive Kind) (x y : Result Section Kind) → a ≡ b → x ≡ y → StepsAfter parsed b y → StepsAfter parsed a x
 put parsed a b x y e f h = subst (λ o. StepsAfter parsed o x) (sym e) (subst (λ r. StepsAfter parsed b r) (sym f) h)
@@ -73,14 +73,14 @@ command_rule false (b ∷ text) name e = refl
 
 module _ (parsed : Parsed) (new : IsNew parsed) (at : parsed.section ≡ before_table) where
   rule_fits : (line : List ℕ) (found : Result LayerRule Kind) → layer_rule_of (drop 5 line) ≡ found
-      → StepsAfter parsed (if_named (cond (begins_rule_line line) (name_in found) None)) (rule_line line (result_map rule_in found))
+      → StepsAfter parsed (if_named (cond (begins_rule_line line) (name_in found) None)) (with_rule_line line (result_map rule_in found))
   rule_fits line (Ok (Named name)) e =
-      let same : is_command (codes "@RULE") line ≡ begins_rule_line line = command_rule (begins_with line (codes "@RULE")) (drop 5 line) name e in
+      let same : is_claimed_command (codes "@RULE") line ≡ begins_rule_line line = command_rule (begins_with line (codes "@RULE")) (drop 5 line) name e in
       elim (cases_Bool (begins_rule_line line)) [
-        | inl b ↦ (let c : is_command (codes "@RULE") line ≡ true = same ∙ b in rw (c, b)
+        | inl b ↦ (let c : is_claimed_command (codes "@RULE") line ≡ true = same ∙ b in rw (c, b)
             (steps _ _ (is_named name
             (record { n_states = new.n_states; neighborhood = new.neighborhood; symmetry = new.symmetry; vars = new.vars; lines = new.lines }) refl at)))
-        | inr b ↦ (let c : is_command (codes "@RULE") line ≡ false = same ∙ b in rw (c, b) (halts kinds.NoRuleLine))
+        | inr b ↦ (let c : is_claimed_command (codes "@RULE") line ≡ false = same ∙ b in rw (c, b) (halts kinds.NoRuleLine))
       ]
   rule_fits line (Ok (Life rule)) e = by (begins_rule_line line)
     where
@@ -94,12 +94,12 @@ module _ (parsed : Parsed) (new : IsNew parsed) (at : parsed.section ≡ before_
       by false = halts kinds.NoRuleLine
 
   ahead_fits : parsed.name ≡ None → (line : List ℕ)
-      → StepsAfter parsed (parse_ahead None line) (cond (is_passed_over line) (Ok ahead) (rule_line line (rule_of (drop 5 line))))
+      → StepsAfter parsed (parse_ahead None line) (cond (is_passed_over line) (Ok ahead) (with_rule_line line (claimed_rule_of (drop 5 line))))
   ahead_fits e line = elim (cases_Bool (is_passed_over line)) [
     | inl p ↦ rw p (steps _ _ (is_ahead new e at))
-    | inr p ↦ put parsed _ (if_named (name_on line)) _ (rule_line line (result_map rule_in (layer_rule_of (drop 5 line))))
+    | inr p ↦ put parsed _ (if_named (name_on line)) _ (with_rule_line line (result_map rule_in (layer_rule_of (drop 5 line))))
         (let k : parse_ahead None line ≡ if_named (name_on line) = rw p refl in k)
-        (ap (λ v. cond v (Ok ahead) (rule_line line (rule_of (drop 5 line)))) p ∙ ap (rule_line line) (rule_of_is (drop 5 line)))
+        (ap (λ v. cond v (Ok ahead) (with_rule_line line (claimed_rule_of (drop 5 line)))) p ∙ ap (with_rule_line line) (rule_of_is (drop 5 line)))
         (rule_fits line (layer_rule_of (drop 5 line)) refl)
   ]
 
@@ -122,8 +122,9 @@ module _ (parsed : Parsed) (new : IsNew parsed) (at : parsed.section ≡ before_
       (is_open name [] e refl (subst (λ (vs : List Var). AreVariables vs []) (sym new.vars) (record { names = refl; states = λ i s. refl })))
 
   named_fits : (name : List ℕ) → parsed.name ≡ Some name → (line : List ℕ)
-      → StepsAfter parsed (parse_ahead (Some name) line) (cond (is_command (codes "@TABLE") line) (Ok (in_table (new_table name))) (Ok (named_rule name)))
-  named_fits name e line = elim (cases_Bool (is_command (codes "@TABLE") line)) [
+      → StepsAfter parsed (parse_ahead (Some name) line)
+      (cond (is_claimed_command (codes "@TABLE") line) (Ok (in_table (new_table name))) (Ok (named_rule name)))
+  named_fits name e line = elim (cases_Bool (is_claimed_command (codes "@TABLE") line)) [
     | inl p ↦ rw p (steps _ _ (opened name e))
     | inr p ↦ rw p (steps _ _ (is_named name new e at))
   ]
@@ -135,7 +136,7 @@ and_false true true = refl
 and_false true false = refl
 and_false false w = refl
 
-variable_line : (text : List ℕ) → (is_command (codes "var") text && nat_lt 3 (length text)) ≡ is_variable_line text
+variable_line : (text : List ℕ) → (is_claimed_command (codes "var") text && nat_lt 3 (length text)) ≡ is_variable_line text
 variable_line [] = refl
 variable_line (a ∷ []) = and_false _ true
 variable_line (a ∷ b ∷ []) = and_false _ true
@@ -203,9 +204,9 @@ module _ (parsed : Parsed) (name : List ℕ) (variables : List Variable) (same :
 
   settled : (number : ℕ) (text : List ℕ) (n : ℕ) → parsed.n_states ≡ Some n → (h : Neighborhood) → parsed.neighborhood ≡ Some h
       → FitsAfter parsed name (parse_settled n h parsed.vars parsed.lines (told number) text)
-      (cond (is_command (codes "var") text && nat_lt 3 (length text)) (with_variable table (drop 3 text)) (with_transition table number text))
+      (cond (is_claimed_command (codes "var") text && nat_lt 3 (length text)) (with_variable table (drop 3 text)) (with_transition table number text))
   settled number text n en h eh =
-      let same_line : (is_command (codes "var") text && nat_lt 3 (length text)) ≡ is_variable_line text = variable_line text in
+      let same_line : (is_claimed_command (codes "var") text && nat_lt 3 (length text)) ≡ is_variable_line text = variable_line text in
       elim (cases_Bool (is_variable_line text)) [
         | inl v ↦ moved parsed name _ (if_variable (variable_of n parsed.vars text)) _ (with_variable table (drop 3 text))
             (ap (λ b. cond b (if_variable (variable_of n parsed.vars text))
@@ -223,26 +224,26 @@ module _ (parsed : Parsed) (name : List ℕ) (variables : List Variable) (same :
   abbrev undescribed : ℕ → List ℕ → Result Table Kind
   undescribed number text =
       cond (not (is_complete table)) (Err kinds.BadDescriptor)
-      (cond (is_command (codes "var") text && nat_lt 3 (length text)) (with_variable table (drop 3 text)) (with_transition table number text))
+      (cond (is_claimed_command (codes "var") text && nat_lt 3 (length text)) (with_variable table (drop 3 text)) (with_transition table number text))
 
   rest_fits : (number : ℕ) (text : List ℕ) → FitsAfter parsed name (rest number text) (undescribed number text)
   rest_fits number text = elim (cases_Bool (is_described parsed)) [
     | inl d ↦
         let g = given_all parsed.n_states parsed.neighborhood parsed.symmetry d in
         moved parsed name _ (parse_settled g.n g.h parsed.vars parsed.lines (told number) text) _
-        (cond (is_command (codes "var") text && nat_lt 3 (length text)) (with_variable table (drop 3 text)) (with_transition table number text))
+        (cond (is_claimed_command (codes "var") text && nat_lt 3 (length text)) (with_variable table (drop 3 text)) (with_transition table number text))
         (ap (λ (o : Option ℕ). parse_rest o parsed.neighborhood parsed.symmetry parsed.vars parsed.lines (told number) text) g.is_n
         ∙ ap (λ (o : Option Neighborhood). parse_rest (Some g.n) o parsed.symmetry parsed.vars parsed.lines (told number) text) g.is_h
         ∙ ap (λ (o : Option Symmetry). parse_rest (Some g.n) (Some g.h) o parsed.vars parsed.lines (told number) text) g.is_y)
         (ap (λ v. cond (not v) (Err kinds.BadDescriptor)
-        (cond (is_command (codes "var") text && nat_lt 3 (length text)) (with_variable table (drop 3 text)) (with_transition table number text)))
+        (cond (is_claimed_command (codes "var") text && nat_lt 3 (length text)) (with_variable table (drop 3 text)) (with_transition table number text)))
         (complete_is name variables parsed ∙ d))
         (settled number text g.n g.is_n g.h g.is_h)
     | inr d ↦
         moved parsed name _ (Err kinds.BadDescriptor) _ (Err kinds.BadDescriptor)
         (none_rest parsed.n_states parsed.neighborhood parsed.symmetry parsed.vars parsed.lines (told number) text d)
         (ap (λ v. cond (not v) (Err kinds.BadDescriptor)
-        (cond (is_command (codes "var") text && nat_lt 3 (length text)) (with_variable table (drop 3 text)) (with_transition table number text)))
+        (cond (is_claimed_command (codes "var") text && nat_lt 3 (length text)) (with_variable table (drop 3 text)) (with_transition table number text)))
         (complete_is name variables parsed ∙ d))
         (stops kinds.BadDescriptor)
   ]
@@ -260,16 +261,16 @@ module _ (parsed : Parsed) (name : List ℕ) (variables : List Variable) (same :
   open_fits : (number : ℕ) (line : List ℕ)
       → StepsAfter parsed (parse_in_table parsed (told number) line)
       (cond (begins_with line (codes "@")) (cond (is_complete table) (Ok (after_table table)) (Err kinds.BadDescriptor))
-      (with_text table number (content line) >>= λ next. Ok (in_table next)))
+      (with_text table number (line_content line) >>= λ next. Ok (in_table next)))
   open_fits number line = elim (cases_Bool (begins_with line (codes "@"))) [
     | inl s ↦ elim (cases_Bool (is_described parsed)) [
       | inl d ↦ (let c : is_complete table ≡ true = complete_is name variables parsed ∙ d in rw (s, c, d) (steps _ _ (is_behind name variables is refl d same)))
       | inr d ↦ (let c : is_complete table ≡ false = complete_is name variables parsed ∙ d in rw (s, c, d) (halts kinds.BadDescriptor))
     ]
-    | inr s ↦ elim (cases_Bool (is_empty (content line))) [
+    | inr s ↦ elim (cases_Bool (is_empty (line_content line))) [
       | inl e ↦ rw (s, e) (steps _ _ (is_open name variables is at same))
       | inr e ↦
-          let text = content line in
+          let text = line_content line in
           put parsed _ (cond (is_descriptor text) (parse_descriptor parsed.n_states parsed.neighborhood parsed.symmetry text) (rest number text)) _
           (cond (is_descriptor text) (with_descriptor table (key_of text) (setting_of text)) (undescribed number text) >>= λ next. Ok (in_table next))
           (let k : parse_in_table parsed (told number) line
@@ -285,14 +286,14 @@ module _ (parsed : Parsed) (name : List ℕ) (variables : List Variable) (same :
 -- ---- a line
 
 pub section_fits : (parsed : Parsed) (section : Section) → Stands parsed section → IsGood parsed → (number : ℕ) (line : List ℕ)
-    → StepsAfter parsed (parse_line parsed (min number (2 ^ 64 - 1)) line) (with_line section number line)
-unfolding parse_line with_line
+    → StepsAfter parsed (parse_line parsed (min number (2 ^ 64 - 1)) line) (with_table_line section number line)
+unfolding parse_line with_table_line
 section_fits parsed section (is_ahead new e at) good number line = elim (cases_Bool (is_too_long line)) [
   | inl l ↦ rw l (halts kinds.LineTooLong)
   | inr l ↦ put parsed _ _ _ _
       (ap (λ v. cond v (Err kinds.LineTooLong) (parse_in_section parsed.section parsed (min number (2 ^ 64 - 1)) line)) l
       ∙ ap (λ (s : Place). parse_in_section s parsed (min number (2 ^ 64 - 1)) line) at ∙ ap (λ (o : Option (List ℕ)). parse_ahead o line) e)
-      (ap (λ v. cond v (Err kinds.LineTooLong) (cond (is_passed_over line) (Ok ahead) (rule_line line (rule_of (drop 5 line))))) l)
+      (ap (λ v. cond v (Err kinds.LineTooLong) (cond (is_passed_over line) (Ok ahead) (with_rule_line line (claimed_rule_of (drop 5 line))))) l)
       (ahead_fits parsed new at e line)
 ]
 section_fits parsed section (is_named name new e at) good number line = elim (cases_Bool (is_too_long line)) [
@@ -300,7 +301,7 @@ section_fits parsed section (is_named name new e at) good number line = elim (ca
   | inr l ↦ put parsed _ _ _ _
       (ap (λ v. cond v (Err kinds.LineTooLong) (parse_in_section parsed.section parsed (min number (2 ^ 64 - 1)) line)) l
       ∙ ap (λ (s : Place). parse_in_section s parsed (min number (2 ^ 64 - 1)) line) at ∙ ap (λ (o : Option (List ℕ)). parse_ahead o line) e)
-      (ap (λ v. cond v (Err kinds.LineTooLong) (cond (is_command (codes "@TABLE") line) (Ok (in_table (new_table name))) (Ok (named_rule name)))) l)
+      (ap (λ v. cond v (Err kinds.LineTooLong) (cond (is_claimed_command (codes "@TABLE") line) (Ok (in_table (new_table name))) (Ok (named_rule name)))) l)
       (named_fits parsed new at name e line)
 ]
 section_fits parsed section (is_open name variables e at same) good number line = elim (cases_Bool (is_too_long line)) [
@@ -308,13 +309,13 @@ section_fits parsed section (is_open name variables e at same) good number line 
   | inr l ↦ put parsed _ (parse_in_table parsed (min number (2 ^ 64 - 1)) line) _
       (cond (begins_with line (codes "@"))
       (cond (is_complete (table_in parsed name variables)) (Ok (after_table (table_in parsed name variables))) (Err kinds.BadDescriptor))
-      (with_text (table_in parsed name variables) number (content line) >>= λ next. Ok (in_table next)))
+      (with_text (table_in parsed name variables) number (line_content line) >>= λ next. Ok (in_table next)))
       (ap (λ v. cond v (Err kinds.LineTooLong) (parse_in_section parsed.section parsed (min number (2 ^ 64 - 1)) line)) l
       ∙ ap (λ (s : Place). parse_in_section s parsed (min number (2 ^ 64 - 1)) line) at)
       (ap (λ v. cond v (Err kinds.LineTooLong)
       (cond (begins_with line (codes "@"))
       (cond (is_complete (table_in parsed name variables)) (Ok (after_table (table_in parsed name variables))) (Err kinds.BadDescriptor))
-      (with_text (table_in parsed name variables) number (content line) >>= λ next. Ok (in_table next)))) l)
+      (with_text (table_in parsed name variables) number (line_content line) >>= λ next. Ok (in_table next)))) l)
       (open_fits parsed name variables same good e at number line)
 ]
 section_fits parsed section (is_behind name variables e at d same) good number line = elim (cases_Bool (is_too_long line)) [

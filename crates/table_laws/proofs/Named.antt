@@ -1,6 +1,6 @@
 -- What lines say in the layer, as types and values: the layer gives them no name outside.
 use Rattle.std.proofs.Common.{[], Some, None, Result, Ok, Err, codes}
-use Rattle.life_table.specs.Reader.{after, nothing_parsed}
+use Rattle.life_table.specs.Reader.{parsed_after, nothing_parsed}
 use Rattle.life_table.specs.Reading.{parse_ahead, parse_in_table, if_states, if_neighborhood, if_symmetry}
 use Rattle.life_table.specs.declared.table.Neighborhood.TheVariants.{Moore}
 use Rattle.life_table.specs.declared.table.Symmetry.TheVariants.{Identity}
@@ -34,11 +34,11 @@ abbrev pub before_table : Place
 before_table = nothing_parsed.section
 
 abbrev pub in_the_table : Place
-in_the_table = (after nothing_parsed (from_ok (parse_ahead (Some []) (codes "@TABLE")) tt)).section
+in_the_table = (parsed_after nothing_parsed (from_ok (parse_ahead (Some []) (codes "@TABLE")) tt)).section
 
 abbrev described : Parsed
-described = after (after (after nothing_parsed (from_ok (if_states (Some 2)) tt)) (from_ok (if_neighborhood None (Some Moore)) tt))
+described = parsed_after (parsed_after (parsed_after nothing_parsed (from_ok (if_states (Some 2)) tt)) (from_ok (if_neighborhood None (Some Moore)) tt))
     (from_ok (if_symmetry None (Some Identity)) tt)
 
 abbrev pub behind_table : Place
-behind_table = (after nothing_parsed (from_ok (parse_in_table described 1 (codes "@")) tt)).section
+behind_table = (parsed_after nothing_parsed (from_ok (parse_in_table described 1 (codes "@")) tt)).section

@@ -12,8 +12,8 @@ use Rattle.life_base.specs.declared.kind.Kind.{Kind}
 use Rattle.life_base.specs.declared.kind.Kind.TheVariants as kinds
 use Rattle.life_base.proofs.Refusals.{UnbrokenBelow, refusal_at, refusal_at_end, refusal_unique}
 use Rattle.life_table.specs.Grammar.{symmetry_word}
-use Rattle.life_table.specs.Reader.{after}
-use Rattle.life_table.specs.Reading.{IsTableFile, AreTable, Describes, Refuses, parsed_by, parse_line, number_behind, broken, missing, lacking, is_ahead, is_described}
+use Rattle.life_table.specs.Reader.{parsed_after}
+use Rattle.life_table.specs.Reading.{IsTableFile, AreTable, Describes, RefusesTable, parsed_by, parse_line, number_after, broken_table_rule, missing_table_part, missing_part_of, is_ahead, is_described}
 use Rattle.life_table.specs.Valid.{neighbour_count}
 use Rattle.life_table.specs.declared.table.Var.{Var}
 use Rattle.life_table.specs.declared.table.Table.{Table as LayerTable}
@@ -21,8 +21,8 @@ use Rattle.life_table.proofs.ByLines.{by_lines, Reach, reach_none, reach_more, d
 use Rattle.life_table.proofs.FileLines.{parsed_start}
 use Rattle.life_table.proofs.Accepted.{accepted}
 use Rattle.claims.specs.Outcomes.{◌>>=◌}
-use Rattle.claims.specs.Files.{fault_at, on_line}
-use Rattle.claims.specs.Table.{Variable, Table, Section, ahead, with_line, end_of_table, read_table_lines, table_of}
+use Rattle.claims.specs.Files.{claimed_fault_at, on_line}
+use Rattle.claims.specs.Table.{Variable, Table, Section, ahead, with_table_line, end_of_table, read_table_lines, table_of}
 use Rattle.table_laws.specs.Laws.{TablesRead, TablesRefuse}
 use Rattle.table_laws.specs.Tables.{transition_in, AreVariables, IsTable}
 use Rattle.table_laws.proofs.Named.{Parsed, Place, Directive}
@@ -41,22 +41,22 @@ stopped : (kind : Kind) (x : Result Section Kind) → Steps (Err kind) x → x �
 stopped kind x (halts k) = refl
 
 module _ (before : List (List ℕ)) (section : Section) (reached : Reach before) (stands : Stands (parsed_of before) section) (line : List ℕ) where
-  fits_here : Steps (result_map (after (parsed_of before)) (parse_line (parsed_of before) (number_behind before) line))
-      (with_line section (length before + 1) line)
+  fits_here : Steps (result_map (parsed_after (parsed_of before)) (parse_line (parsed_of before) (number_after before) line))
+      (with_table_line section (length before + 1) line)
   fits_here = section_fits (parsed_of before) section stands reached.good (length before + 1) line
 
-  goes_on : (directive : Directive) → parse_line (parsed_of before) (number_behind before) line ≡ Ok directive
-      → (next : Section) × (with_line section (length before + 1) line ≡ Ok next) × Stands (parsed_of (before ++ line ∷ [])) next
+  goes_on : (directive : Directive) → parse_line (parsed_of before) (number_after before) line ≡ Ok directive
+      → (next : Section) × (with_table_line section (length before + 1) line ≡ Ok next) × Stands (parsed_of (before ++ line ∷ [])) next
   goes_on directive e =
-      let w = went (after (parsed_of before) directive) (with_line section (length before + 1) line)
-      (subst (λ r. Steps (result_map (after (parsed_of before)) r) (with_line section (length before + 1) line)) e fits_here) in
+      let w = went (parsed_after (parsed_of before) directive) (with_table_line section (length before + 1) line)
+      (subst (λ r. Steps (result_map (parsed_after (parsed_of before)) r) (with_table_line section (length before + 1) line)) e fits_here) in
       let m = reach_more before line directive reached e in
       (w.0, w.1, subst (λ (p : Parsed). Stands p w.0) (sym m.0) w.2)
 
-  stops_here : (kind : Kind) → parse_line (parsed_of before) (number_behind before) line ≡ Err kind → with_line section (length before + 1) line ≡ Err kind
+  stops_here : (kind : Kind) → parse_line (parsed_of before) (number_after before) line ≡ Err kind → with_table_line section (length before + 1) line ≡ Err kind
   stops_here kind e =
-      stopped kind (with_line section (length before + 1) line)
-      (subst (λ r. Steps (result_map (after (parsed_of before)) r) (with_line section (length before + 1) line)) e fits_here)
+      stopped kind (with_table_line section (length before + 1) line)
+      (subst (λ r. Steps (result_map (parsed_after (parsed_of before)) r) (with_table_line section (length before + 1) line)) e fits_here)
 
 -- ---- all lines
 
@@ -75,8 +75,8 @@ record Breaks (before : List (List ℕ)) (section : Section) (more : List (List 
   pub kind : Kind
   pub split : before ++ more ≡ front ++ line ∷ rest
   pub reached : Reach front
-  pub breaks : broken front line ≡ Some kind
-  pub is : read_table_lines (length before + 1) section more ≡ Err (fault_at (length front + 1) kind)
+  pub breaks : broken_table_rule front line ≡ Some kind
+  pub is : read_table_lines (length before + 1) section more ≡ Err (claimed_fault_at (length front + 1) kind)
 
 abbrev Walks : List (List ℕ) → Section → List (List ℕ) → Type 0
 Walks before section more = Ends before section more ⊎ Breaks before section more
@@ -89,16 +89,16 @@ walks [] before section r s = inl (record {
   reached = subst Reach (sym (append-nil before)) r;
 })
 walks (line ∷ more) before section r s =
-    by (parse_line (parsed_of before) (number_behind before) line) refl (λ next. walks more (before ++ line ∷ []) next)
+    by (parse_line (parsed_of before) (number_after before) line) refl (λ next. walks more (before ++ line ∷ []) next)
   where
-    on : (next : Section) → with_line section (length before + 1) line ≡ Ok next
+    on : (next : Section) → with_table_line section (length before + 1) line ≡ Ok next
         → read_table_lines (length before + 1) section (line ∷ more) ≡ read_table_lines (length (before ++ line ∷ []) + 1) next more
     on next e =
         ap (λ (found : Result Section Kind). on_line (length before + 1) found >>= λ (n : Section). read_table_lines (length before + 1 + 1) n more) e
         ∙ ap (λ n. read_table_lines n next more) (let k : length before + 1 + 1
         ≡ length (before ++ line ∷ []) + 1 = omega (arith, length-append before (line ∷ [])) in k)
 
-    further : (next : Section) → with_line section (length before + 1) line ≡ Ok next → Walks (before ++ line ∷ []) next more
+    further : (next : Section) → with_table_line section (length before + 1) line ≡ Ok next → Walks (before ++ line ∷ []) next more
         → Walks before section (line ∷ more)
     further next e (inl w) = inl (record {
       next = w.next;
@@ -117,7 +117,7 @@ walks (line ∷ more) before section r s =
       is = on next e ∙ w.is;
     })
 
-    by : (found : Result Directive Kind) → parse_line (parsed_of before) (number_behind before) line ≡ found
+    by : (found : Result Directive Kind) → parse_line (parsed_of before) (number_after before) line ≡ found
         → ((next : Section) → Reach (before ++ line ∷ []) → Stands (parsed_of (before ++ line ∷ [])) next → Walks (before ++ line ∷ []) next more)
         → Walks before section (line ∷ more)
     by (Ok directive) e below =
@@ -147,16 +147,16 @@ record IsWhole (parsed : Parsed) (section : Section) : Type 0 where
   pub variables : List Variable
   pub is_name : parsed.name ≡ Some name
   pub same : AreVariables parsed.vars variables
-  pub nothing : lacking parsed ≡ None
+  pub nothing : missing_part_of parsed ≡ None
   pub is : end_of_table section ≡ Ok (table_in parsed name variables)
 
 record IsLacking (parsed : Parsed) (section : Section) : Type 0 where
   pub kind : Kind
-  pub lacks_it : lacking parsed ≡ Some kind
+  pub lacks_it : missing_part_of parsed ≡ Some kind
   pub is : end_of_table section ≡ Err kind
 
 lacking_is : (parsed : Parsed) (name : Option (List ℕ)) (at : Place) (d : Bool) → parsed.name ≡ name → parsed.section ≡ at → is_described parsed ≡ d
-    → lacking parsed ≡ lacks name (is_ahead at) d
+    → missing_part_of parsed ≡ lacks name (is_ahead at) d
 lacking_is parsed name at d e f g =
     ap (λ (o : Option (List ℕ)). lacks o (is_ahead parsed.section) (is_described parsed)) e
     ∙ ap (λ (s : Place). lacks name (is_ahead s) (is_described parsed)) f
@@ -222,13 +222,13 @@ pub record IsRead (bytes : List ℕ) : Type 0 where
 pub record IsRefused (bytes : List ℕ) : Type 0 where
   pub fault : Fault
   pub is : table_of bytes ≡ Err fault
-  pub refuses : Refuses (lines_of bytes) fault
+  pub refuses : RefusesTable (lines_of bytes) fault
 
 unbroken_front : (lines front rest : List (List ℕ)) (line : List ℕ) → lines ≡ front ++ line ∷ rest
-    → UnbrokenBelow IsTableFile broken missing front (length front)
-    → UnbrokenBelow IsTableFile broken missing lines (length front)
+    → UnbrokenBelow IsTableFile broken_table_rule missing_table_part front (length front)
+    → UnbrokenBelow IsTableFile broken_table_rule missing_table_part lines (length front)
 unbroken_front lines front rest line e u =
-    subst (λ (ls : List (List ℕ)). UnbrokenBelow IsTableFile broken missing ls (length front)) (sym e)
+    subst (λ (ls : List (List ℕ)). UnbrokenBelow IsTableFile broken_table_rule missing_table_part ls (length front)) (sym e)
     (λ k h.
     let a : take k (front ++ line ∷ rest) ≡ take k front = take-append-le k front (line ∷ rest) (omega (arith, h)) in
     let b : get_or (front ++ line ∷ rest) k [] ≡ get_or front k [] = get_or-append front (line ∷ rest) [] k h in
@@ -245,12 +245,13 @@ of_lines bytes (inl w) = elim (ended (parsed_of (lines_of bytes)) w.next w.stand
     same = λ layer are. described_is (parsed_of (lines_of bytes)) layer are.says whole.name whole.is_name whole.variables whole.same;
   })
   | inr l ↦
-      let m : missing (lines_of bytes) ≡ Some l.kind = missing_is (lines_of bytes) ∙ l.lacks_it in
+      let m : missing_table_part (lines_of bytes) ≡ Some l.kind = missing_is (lines_of bytes) ∙ l.lacks_it in
       inr (record {
-        fault = fault_at (length (lines_of bytes) + 1) l.kind;
+        fault = claimed_fault_at (length (lines_of bytes) + 1) l.kind;
         is = ap (λ n. read_table_lines n ahead (lines_of bytes)) (let k : 1 ≡ 0 + 1 = omega arith in k) ∙ w.is
             ∙ ap (on_line (length (lines_of bytes) + 1)) l.is;
-        refuses = refusal_at_end IsTableFile broken missing by_lines (lines_of bytes) l.kind w.reached.unbroken (λ g. let z : None ≡ Some l.kind = sym g.whole
+        refuses = refusal_at_end IsTableFile broken_table_rule missing_table_part by_lines (lines_of bytes) l.kind w.reached.unbroken
+            (λ g. let z : None ≡ Some l.kind = sym g.whole
             ∙ m in cc) m;
       })
 ]
@@ -260,11 +261,11 @@ of_lines bytes (inr w) =
     let g : get_or (lines_of bytes) (length w.front) [] ≡ w.line = ap (λ (ls : List (List ℕ)). get_or ls (length w.front) []) e
     ∙ get_or-append_seam w.front w.line w.rest [] in
     let below : length w.front < length (lines_of bytes) = (let k = ap length e in omega (arith, k, length-append w.front (w.line ∷ w.rest))) in
-    let b : broken (take (length w.front) (lines_of bytes)) (get_or (lines_of bytes) (length w.front) []) ≡ Some w.kind = rw (f, g) w.breaks in
+    let b : broken_table_rule (take (length w.front) (lines_of bytes)) (get_or (lines_of bytes) (length w.front) []) ≡ Some w.kind = rw (f, g) w.breaks in
     inr (record {
-      fault = fault_at (length w.front + 1) w.kind;
+      fault = claimed_fault_at (length w.front + 1) w.kind;
       is = ap (λ n. read_table_lines n ahead (lines_of bytes)) (let k : 1 ≡ 0 + 1 = omega arith in k) ∙ w.is;
-      refuses = refusal_at IsTableFile broken missing by_lines (lines_of bytes) (length w.front) w.kind below
+      refuses = refusal_at IsTableFile broken_table_rule missing_table_part by_lines (lines_of bytes) (length w.front) w.kind below
           (unbroken_front (lines_of bytes) w.front w.rest w.line e w.reached.unbroken) b;
     })
 
@@ -296,11 +297,11 @@ pub tables_refuse : TablesRefuse
 tables_refuse bytes fault = (
   λ refuses. elim (told bytes) [
     | inl r ↦ absurd (refuses.refused r.file)
-    | inr r ↦ r.is ∙ ap Err (refusal_unique IsTableFile broken missing (lines_of bytes) r.fault fault r.refuses refuses)
+    | inr r ↦ r.is ∙ ap Err (refusal_unique IsTableFile broken_table_rule missing_table_part (lines_of bytes) r.fault fault r.refuses refuses)
   ],
   λ e. elim (told bytes) [
     | inl r ↦ absurd (let k : Ok r.table ≡ Err fault = sym r.is ∙ e in cc)
-    | inr r ↦ subst (Refuses (lines_of bytes)) (err_of r.fault fault (sym r.is ∙ e)) r.refuses
+    | inr r ↦ subst (RefusesTable (lines_of bytes)) (err_of r.fault fault (sym r.is ∙ e)) r.refuses
   ],
 )
   where

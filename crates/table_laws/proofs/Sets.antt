@@ -19,7 +19,7 @@ use Rattle.life_table.specs.Valid.{IsEntry, IsVariable}
 use Rattle.life_table.specs.declared.table.Var.{Var}
 use Rattle.life_table.specs.declared.table.Entry.{Entry as LayerEntry}
 use Rattle.life_table.specs.declared.table.Entry.TheVariants as entries
-use Rattle.claims.specs.Table.{Variable, states_of}
+use Rattle.claims.specs.Table.{Variable, claimed_states_of}
 use Rattle.table_laws.specs.Tables.{entry_in, AreVariables}
 
 -- ---- tests
@@ -119,7 +119,7 @@ module _ (n : ℕ) (vars : List Var) (variables : List Variable) (same : AreVari
   variable_has (Some v) s = refl
 
   entry_has : (entry : LayerEntry) → IsEntry n vars entry → (s : ℕ)
-      → has_set (set_of vars entry) s ≡ list_any (λ t. t == s) (states_of variables (entry_in entry))
+      → has_set (set_of vars entry) s ≡ list_any (λ t. t == s) (claimed_states_of variables (entry_in entry))
   entry_has (entries.Fixed r) is s = (let l : r < n = is.fixed r refl in single_has r s (omega (arith, l, most))) ∙ sym (or-false (r == s))
   entry_has (entries.Var i) is s = variable_has (slice_get vars i) s ∙ sym (same.states i s)
 
@@ -148,16 +148,16 @@ module _ (n : ℕ) (vars : List Var) (variables : List Variable) (same : AreVari
       (small_entries es (All-tail (IsEntry n vars) e es h))
 
   any_has : (es : List LayerEntry) → All (IsEntry n vars) es → (s : ℕ)
-      → list_any (λ t. has_set t s) (map (set_of vars) es) ≡ list_any (λ t. t == s) (flat_map (states_of variables) (map entry_in es))
+      → list_any (λ t. has_set t s) (map (set_of vars) es) ≡ list_any (λ t. t == s) (flat_map (claimed_states_of variables) (map entry_in es))
   any_has [] h s = refl
   any_has (e ∷ es) h s =
       ap (λ v. v || list_any (λ t. has_set t s) (map (set_of vars) es)) (entry_has e (All-head (IsEntry n vars) e es h) s)
-      ∙ ap (λ v. list_any (λ t. t == s) (states_of variables (entry_in e)) || v) (any_has es (All-tail (IsEntry n vars) e es h) s)
-      ∙ sym (list_any-append (λ t. t == s) (states_of variables (entry_in e)) (flat_map (states_of variables) (map entry_in es)))
+      ∙ ap (λ v. list_any (λ t. t == s) (claimed_states_of variables (entry_in e)) || v) (any_has es (All-tail (IsEntry n vars) e es h) s)
+      ∙ sym (list_any-append (λ t. t == s) (claimed_states_of variables (entry_in e)) (flat_map (claimed_states_of variables) (map entry_in es)))
 
   -- the states of the entries of a list
   pub states_are : (es : List LayerEntry) → All (IsEntry n vars) es → (s : ℕ)
-      → list_any (λ t. t == s) (flat_map (states_of variables) (map entry_in es)) ≡ has_set (union_of (map (set_of vars) es)) s
+      → list_any (λ t. t == s) (flat_map (claimed_states_of variables) (map entry_in es)) ≡ has_set (union_of (map (set_of vars) es)) s
   states_are es h s = sym (union_of_has (map (set_of vars) es) (small_entries es h) s ∙ any_has es h s)
 
   pub set_is : (entry : LayerEntry) → IsEntry n vars entry → states_of_entry vars entry ≡ Some (set_of vars entry)

@@ -8,14 +8,14 @@ use Rattle.life_base.specs.Text.{is_digit_text, value_of}
 use Rattle.life_base.specs.declared.kind.Kind.{Kind}
 use Rattle.life_base.specs.declared.kind.Kind.TheVariants as kinds
 use Rattle.life_table.specs.Grammar.{symmetry_word}
-use Rattle.life_table.specs.Reader.{after}
+use Rattle.life_table.specs.Reader.{parsed_after}
 use Rattle.life_table.specs.Reading.{if_states, if_neighborhood, if_symmetry, states_named, neighborhood_named, symmetry_named, parse_descriptor, key_of, setting_of, is_states_key, is_neighborhood_key, is_symmetry_key, agree as layer_agree}
 use Rattle.life_table.specs.Valid.{is_listed, neighbour_count}
 use Rattle.life_table.specs.declared.table.Neighborhood.{Neighborhood}
 use Rattle.life_table.specs.declared.table.Neighborhood.TheVariants.{VonNeumann, Moore}
 use Rattle.life_table.specs.declared.table.Symmetry.{Symmetry}
 use Rattle.life_table.specs.declared.table.Symmetry.TheVariants.{Identity, Rotate4, Rotate4Reflect, ReflectHorizontal, Permute, Rotate8, Rotate8Reflect}
-use Rattle.claims.specs.Table.{Variable, Table, agree, symmetries_of, neighbours_named, with_neighbours, with_descriptor}
+use Rattle.claims.specs.Table.{Variable, Table, claimed_symmetry_agrees, symmetries_of, neighbours_named, with_neighbours, with_descriptor}
 use Rattle.table_laws.specs.Tables.{transition_in, AreVariables}
 use Rattle.table_laws.proofs.Named.{Parsed, Directive}
 use Rattle.life_base.proofs.Texts.{same_bytes}
@@ -41,7 +41,7 @@ pub data Fits (parsed : Parsed) (name : List ℕ) : Result Parsed Kind → Resul
   stops : (kind : Kind) → Fits parsed name (Err kind) (Err kind)
 
 abbrev pub FitsAfter : Parsed → List ℕ → Result Directive Kind → Result Table Kind → Type 0
-FitsAfter parsed name r x = Fits parsed name (result_map (after parsed) r) x
+FitsAfter parsed name r x = Fits parsed name (result_map (parsed_after parsed) r) x
 
 pub moved : (parsed : Parsed) (name : List ℕ) (a b : Result Directive Kind) (x y : Result Table Kind) → a ≡ b → x ≡ y → FitsAfter parsed name b y
     → FitsAfter parsed name a x
@@ -49,7 +49,7 @@ moved parsed name a b x y e f h = subst (λ o. FitsAfter parsed name o x) (sym e
 
 -- ---- descriptors
 
-words_agree : (h : Neighborhood) (y : Symmetry) → agree (Some (neighbour_count h)) (Some (symmetry_word y)) ≡ is_listed h y
+words_agree : (h : Neighborhood) (y : Symmetry) → claimed_symmetry_agrees (Some (neighbour_count h)) (Some (symmetry_word y)) ≡ is_listed h y
 words_agree VonNeumann Identity = refl
 words_agree VonNeumann Rotate4 = refl
 words_agree VonNeumann Rotate4Reflect = refl
@@ -65,7 +65,8 @@ words_agree Moore Permute = refl
 words_agree Moore Rotate8 = refl
 words_agree Moore Rotate8Reflect = refl
 
-agree_is : (oh : Option Neighborhood) (oy : Option Symmetry) → agree (option_map neighbour_count oh) (option_map symmetry_word oy) ≡ layer_agree oh oy
+agree_is : (oh : Option Neighborhood) (oy : Option Symmetry) → claimed_symmetry_agrees (option_map neighbour_count oh) (option_map symmetry_word oy)
+    ≡ layer_agree oh oy
 agree_is None None = refl
 agree_is None (Some y) = refl
 agree_is (Some h) None = refl
@@ -136,9 +137,9 @@ module _ (parsed : Parsed) (name : List ℕ) (variables : List Variable) (same :
     where
       agreed : (h : Neighborhood) → F (if_neighborhood parsed.symmetry (Some h)) (with_neighbours table (Some (neighbour_count h)))
       agreed h = elim (cases_Bool (layer_agree (Some h) parsed.symmetry)) [
-        | inl e ↦ let k : agree (Some (neighbour_count h)) table.symmetry ≡ true = agree_is (Some h) parsed.symmetry ∙ e in
+        | inl e ↦ let k : claimed_symmetry_agrees (Some (neighbour_count h)) table.symmetry ≡ true = agree_is (Some h) parsed.symmetry ∙ e in
             rw (k, e) (goes _ _ variables refl refl same refl)
-        | inr e ↦ let k : agree (Some (neighbour_count h)) table.symmetry ≡ false = agree_is (Some h) parsed.symmetry ∙ e in
+        | inr e ↦ let k : claimed_symmetry_agrees (Some (neighbour_count h)) table.symmetry ≡ false = agree_is (Some h) parsed.symmetry ∙ e in
             rw (k, e) (stops kinds.UnsupportedSymmetry)
       ]
 
@@ -149,33 +150,37 @@ module _ (parsed : Parsed) (name : List ℕ) (variables : List Variable) (same :
       by false false = stops kinds.UnsupportedNeighborhood
 
   symmetry_fits : (value : List ℕ) → F (if_symmetry parsed.neighborhood (symmetry_named value))
-      (cond (list_any (bytes_eq value) (symmetries_of 8) && agree table.neighbours (Some value)) (Ok (record table { symmetry = Some value }))
+      (cond (list_any (bytes_eq value) (symmetries_of 8) && claimed_symmetry_agrees table.neighbours (Some value)) (Ok (record table { symmetry = Some value }))
       (Err kinds.UnsupportedSymmetry))
   symmetry_fits value = by value (named value)
     where
       agreed : (y : Symmetry) → F (if_symmetry parsed.neighborhood (symmetry_named (symmetry_word y)))
-          (cond (list_any (bytes_eq (symmetry_word y)) (symmetries_of 8) && agree table.neighbours (Some (symmetry_word y)))
+          (cond (list_any (bytes_eq (symmetry_word y)) (symmetries_of 8) && claimed_symmetry_agrees table.neighbours (Some (symmetry_word y)))
           (Ok (record table { symmetry = Some (symmetry_word y) })) (Err kinds.UnsupportedSymmetry))
       agreed y = moved parsed name _ (if_symmetry parsed.neighborhood (Some y)) _
-          (cond (agree table.neighbours (Some (symmetry_word y))) (Ok (record table { symmetry = Some (symmetry_word y) })) (Err kinds.UnsupportedSymmetry))
+          (cond (claimed_symmetry_agrees table.neighbours (Some (symmetry_word y))) (Ok (record table { symmetry = Some (symmetry_word y) }))
+          (Err kinds.UnsupportedSymmetry))
           (ap (if_symmetry parsed.neighborhood) (word_listed y).1)
-          (ap (λ v. cond (v && agree table.neighbours (Some (symmetry_word y))) (Ok (record table { symmetry = Some (symmetry_word y) }))
+          (ap (λ v. cond (v && claimed_symmetry_agrees table.neighbours (Some (symmetry_word y))) (Ok (record table { symmetry = Some (symmetry_word y) }))
           (Err kinds.UnsupportedSymmetry)) (word_listed y).0)
           (elim (cases_Bool (layer_agree parsed.neighborhood (Some y))) [
-            | inl e ↦ let k : agree table.neighbours (Some (symmetry_word y)) ≡ true = agree_is parsed.neighborhood (Some y) ∙ e in
+            | inl e ↦ let k : claimed_symmetry_agrees table.neighbours (Some (symmetry_word y)) ≡ true = agree_is parsed.neighborhood (Some y) ∙ e in
                 rw (k, e) (goes _ _ variables refl refl same refl)
-            | inr e ↦ let k : agree table.neighbours (Some (symmetry_word y)) ≡ false = agree_is parsed.neighborhood (Some y) ∙ e in
+            | inr e ↦ let k : claimed_symmetry_agrees table.neighbours (Some (symmetry_word y)) ≡ false = agree_is parsed.neighborhood (Some y) ∙ e in
                 rw (k, e) (stops kinds.UnsupportedSymmetry)
           ])
 
       by : (value : List ℕ) → IsNamed value → F (if_symmetry parsed.neighborhood (symmetry_named value))
-          (cond (list_any (bytes_eq value) (symmetries_of 8) && agree table.neighbours (Some value)) (Ok (record table { symmetry = Some value }))
+          (cond (list_any (bytes_eq value) (symmetries_of 8) && claimed_symmetry_agrees table.neighbours (Some value))
+          (Ok (record table { symmetry = Some value }))
           (Err kinds.UnsupportedSymmetry))
       by value (inl h) = subst (λ word. F (if_symmetry parsed.neighborhood (symmetry_named word))
-          (cond (list_any (bytes_eq word) (symmetries_of 8) && agree table.neighbours (Some word)) (Ok (record table { symmetry = Some word }))
+          (cond (list_any (bytes_eq word) (symmetries_of 8) && claimed_symmetry_agrees table.neighbours (Some word))
+          (Ok (record table { symmetry = Some word }))
           (Err kinds.UnsupportedSymmetry))) (sym h.1) (agreed h.0)
       by value (inr h) = moved parsed name _ _ _ _ (ap (if_symmetry parsed.neighborhood) h.0)
-          (ap (λ v. cond (v && agree table.neighbours (Some value)) (Ok (record table { symmetry = Some value })) (Err kinds.UnsupportedSymmetry)) h.1)
+          (ap (λ v. cond (v && claimed_symmetry_agrees table.neighbours (Some value)) (Ok (record table { symmetry = Some value }))
+          (Err kinds.UnsupportedSymmetry)) h.1)
           (stops kinds.UnsupportedSymmetry)
 
   -- each key once
@@ -218,7 +223,8 @@ module _ (parsed : Parsed) (name : List ℕ) (variables : List Variable) (same :
       let x = cond (is_digit_text value && nat_le 2 (value_of value) && nat_le (value_of value) 256) (Ok (record table { n_states = Some (value_of value) }))
       (Err kinds.BadDescriptor) in
       let y = with_neighbours table (neighbours_named value) in
-      let z = cond (list_any (bytes_eq value) (symmetries_of 8) && agree table.neighbours (Some value)) (Ok (record table { symmetry = Some value }))
+      let z = cond (list_any (bytes_eq value) (symmetries_of 8) && claimed_symmetry_agrees table.neighbours (Some value))
+      (Ok (record table { symmetry = Some value }))
       (Err kinds.UnsupportedSymmetry) in
       moved parsed name _ _ _ _ refl
       (ap (λ v. cond (is_states_key key && not (is_some parsed.n_states)) x

@@ -17,7 +17,7 @@ use Rattle.life_table.specs.declared.table.Var.{Var}
 use Rattle.life_table.specs.declared.table.Entry.{Entry as LayerEntry}
 use Rattle.life_table.specs.declared.table.Entry.TheVariants as entries
 use Rattle.life_table.specs.declared.table.Transition.{Transition as LayerTransition}
-use Rattle.claims.specs.Table.{Entry, variable, Variable, Transition, Table, entry_of, entries_of, states_of, transition_texts, is_bound, fits_zero, leaves_zero, with_entries, with_transition}
+use Rattle.claims.specs.Table.{Entry, variable, Variable, Transition, Table, claimed_entry_of, claimed_entries_of, claimed_states_of, transition_texts, is_claimed_bound, claimed_fits_zero, leaves_zero, with_entries, with_transition}
 use Rattle.table_laws.specs.Tables.{entry_in, transition_in, AreVariables}
 use Rattle.table_laws.proofs.Named.{Parsed}
 use Rattle.table_laws.proofs.Text.{table_in, goes, stops, FitsAfter, moved}
@@ -26,36 +26,37 @@ use Rattle.life_base.proofs.Basics.{slice_get-last, equal_swapped}
 
 -- ---- tests of a transition
 
-bound_is : (inputs : List LayerEntry) (output : LayerEntry) → is_bound (map entry_in inputs) (entry_in output) ≡ layer_is_bound inputs output
+bound_is : (inputs : List LayerEntry) (output : LayerEntry) → is_claimed_bound (map entry_in inputs) (entry_in output) ≡ layer_is_bound inputs output
 bound_is inputs (entries.Fixed s) = refl
 bound_is inputs (entries.Var i) = by inputs
   where
-    by : (es : List LayerEntry) → is_bound (map entry_in es) (variable i) ≡ layer_is_bound es (entries.Var i)
+    by : (es : List LayerEntry) → is_claimed_bound (map entry_in es) (variable i) ≡ layer_is_bound es (entries.Var i)
     by [] = refl
     by (entries.Fixed s ∷ es) = by es
-    by (entries.Var j ∷ es) = ap (λ v. v || is_bound (map entry_in es) (variable i)) (equal_swapped j i) ∙ ap (λ v. i == j || v) (by es)
+    by (entries.Var j ∷ es) = ap (λ v. v || is_claimed_bound (map entry_in es) (variable i)) (equal_swapped j i) ∙ ap (λ v. i == j || v) (by es)
 
 leaves_is : (output : LayerEntry) → leaves_zero (entry_in output) ≡ not (is_quiet_output output)
 leaves_is (entries.Fixed s) = refl
 leaves_is (entries.Var i) = refl
 
 module _ (vars : List Var) (variables : List Variable) (same : AreVariables vars variables) where
-  zero_is : (es : List LayerEntry) → list_all (λ (e : Entry). list_any (λ s. s == 0) (states_of variables e)) (map entry_in es) ≡ list_all (allows_zero vars) es
+  zero_is : (es : List LayerEntry) → list_all (λ (e : Entry). list_any (λ s. s == 0) (claimed_states_of variables e)) (map entry_in es)
+      ≡ list_all (allows_zero vars) es
   zero_is [] = refl
   zero_is (entries.Fixed r ∷ es) =
-      ap (λ v. v && list_all (λ (e : Entry). list_any (λ s. s == 0) (states_of variables e)) (map entry_in es)) (or-false (r == 0))
+      ap (λ v. v && list_all (λ (e : Entry). list_any (λ s. s == 0) (claimed_states_of variables e)) (map entry_in es)) (or-false (r == 0))
       ∙ ap (λ v. r == 0 && v) (zero_is es)
   zero_is (entries.Var i ∷ es) =
-      ap (λ v. v && list_all (λ (e : Entry). list_any (λ s. s == 0) (states_of variables e)) (map entry_in es)) (same.states i 0)
+      ap (λ v. v && list_all (λ (e : Entry). list_any (λ s. s == 0) (claimed_states_of variables e)) (map entry_in es)) (same.states i 0)
       ∙ ap (λ v. option_map_or (λ (w : Var). has_state w 0) (slice_get vars i) false && v) (zero_is es)
 
-  fits_is : (line : LayerTransition) → fits_zero variables (transition_in line) ≡ layer_fits_zero vars line
+  fits_is : (line : LayerTransition) → claimed_fits_zero variables (transition_in line) ≡ layer_fits_zero vars line
   fits_is line = zero_is line.inputs
 
-  any_fits : (lines : List LayerTransition) → list_any (fits_zero variables) (map transition_in lines) ≡ list_any (layer_fits_zero vars) lines
+  any_fits : (lines : List LayerTransition) → list_any (claimed_fits_zero variables) (map transition_in lines) ≡ list_any (layer_fits_zero vars) lines
   any_fits [] = refl
   any_fits (line ∷ lines) =
-      ap (λ v. v || list_any (fits_zero variables) (map transition_in lines)) (fits_is line) ∙ ap (λ v. layer_fits_zero vars line || v) (any_fits lines)
+      ap (λ v. v || list_any (claimed_fits_zero variables) (map transition_in lines)) (fits_is line) ∙ ap (λ v. layer_fits_zero vars line || v) (any_fits lines)
 
 quiet_more : (vars : List Var) (lines : List LayerTransition) (line : LayerTransition) → is_quiet vars lines ≡ true
     → is_quiet vars (lines ++ line ∷ [])
@@ -152,31 +153,31 @@ module _ (parsed : Parsed) (name : List ℕ) (variables : List Variable) (same :
       (with_entries table number (map entry_in front) (entry_in last))
   entries_fit number front last =
       let line : LayerTransition = record { line = told number; inputs = front; output = last } in
-      let quiet_is : (fits_zero variables (transition_in line) && leaves_zero (entry_in last) && not
-      (list_any (fits_zero variables) (map transition_in parsed.lines)))
+      let quiet_is : (claimed_fits_zero variables (transition_in line) && leaves_zero (entry_in last) && not
+      (list_any (claimed_fits_zero variables) (map transition_in parsed.lines)))
       ≡ not (is_quiet parsed.vars (parsed.lines ++ line ∷ [])) =
-      ap (λ v. v && leaves_zero (entry_in last) && not (list_any (fits_zero variables) (map transition_in parsed.lines)))
+      ap (λ v. v && leaves_zero (entry_in last) && not (list_any (claimed_fits_zero variables) (map transition_in parsed.lines)))
       (fits_is parsed.vars variables same line)
-      ∙ ap (λ v. layer_fits_zero parsed.vars line && v && not (list_any (fits_zero variables) (map transition_in parsed.lines))) (leaves_is last)
+      ∙ ap (λ v. layer_fits_zero parsed.vars line && v && not (list_any (claimed_fits_zero variables) (map transition_in parsed.lines))) (leaves_is last)
       ∙ ap (λ v. layer_fits_zero parsed.vars line && not (is_quiet_output last) && not v) (any_fits parsed.vars variables same parsed.lines)
       ∙ quiet_test (layer_fits_zero parsed.vars line) (is_quiet_output last) (list_any (layer_fits_zero parsed.vars) parsed.lines)
       ∙ ap not (sym (quiet_more parsed.vars parsed.lines line good.quiet)) in
       elim (cases_Bool (layer_is_bound front last)) [
         | inl b ↦
-            let c : is_bound (map entry_in front) (entry_in last) ≡ true = bound_is front last ∙ b in
+            let c : is_claimed_bound (map entry_in front) (entry_in last) ≡ true = bound_is front last ∙ b in
             elim (cases_Bool (is_quiet parsed.vars (parsed.lines ++ line ∷ []))) [
               | inl q ↦
-                  let p : (fits_zero variables (transition_in line) && leaves_zero (entry_in last) && not
-                  (list_any (fits_zero variables) (map transition_in parsed.lines))) ≡ false = quiet_is ∙ ap not q in
+                  let p : (claimed_fits_zero variables (transition_in line) && leaves_zero (entry_in last) && not
+                  (list_any (claimed_fits_zero variables) (map transition_in parsed.lines))) ≡ false = quiet_is ∙ ap not q in
                   rw (c, b, q, p) (goes _ _ variables refl refl same
                   (ap (λ (ts : List Transition). record table { transitions = ts }) (sym (map-append transition_in parsed.lines (line ∷ [])))))
               | inr q ↦
-                  let p : (fits_zero variables (transition_in line) && leaves_zero (entry_in last) && not
-                  (list_any (fits_zero variables) (map transition_in parsed.lines))) ≡ true = quiet_is ∙ ap not q in
+                  let p : (claimed_fits_zero variables (transition_in line) && leaves_zero (entry_in last) && not
+                  (list_any (claimed_fits_zero variables) (map transition_in parsed.lines))) ≡ true = quiet_is ∙ ap not q in
                   rw (c, b, q, p) (stops kinds.NotQuiet)
             ]
         | inr b ↦
-            let c : is_bound (map entry_in front) (entry_in last) ≡ false = bound_is front last ∙ b in
+            let c : is_claimed_bound (map entry_in front) (entry_in last) ≡ false = bound_is front last ∙ b in
             rw (c, b) (stops kinds.UnboundOutput)
       ]
 
@@ -199,7 +200,7 @@ module _ (parsed : Parsed) (name : List ℕ) (variables : List Variable) (same :
   abbrev of_texts : ℕ → List (List ℕ) → ℕ → Result Table Kind
   of_texts number texts inputs =
       cond (not (length texts == inputs + 1)) (Err kinds.BadTransition)
-      (of_entries number (entries_of table (take inputs texts)) (entry_of table (slice_index_or texts inputs [])))
+      (of_entries number (claimed_entries_of table (take inputs texts)) (claimed_entry_of table (slice_index_or texts inputs [])))
 
   wrong_count : (number : ℕ) (texts : List (List ℕ)) (os : Option (List LayerEntry))
       → ((es : List LayerEntry) → os ≡ Some es → (length es == neighbour_count h + 2) ≡ false)
@@ -222,8 +223,8 @@ module _ (parsed : Parsed) (name : List ℕ) (variables : List Variable) (same :
             (ap (λ (o : Option (List LayerEntry)). if_transition parsed.vars parsed.lines (option_and_then (transition_from k (told number)) o))
             (front_and_last f texts (k + 1) count))
             (ap (λ v. cond (not v) (Err kinds.BadTransition)
-            (of_entries number (entries_of table (take (k + 1) texts)) (entry_of table (slice_index_or texts (k + 1) [])))) e
-            ∙ ap (λ (o : Option (List Entry)). of_entries number o (entry_of table (slice_index_or texts (k + 1) [])))
+            (of_entries number (claimed_entries_of table (take (k + 1) texts)) (claimed_entry_of table (slice_index_or texts (k + 1) [])))) e
+            ∙ ap (λ (o : Option (List Entry)). of_entries number o (claimed_entry_of table (slice_index_or texts (k + 1) [])))
             (entries_are parsed.vars variables same table n en refl (take (k + 1) texts))
             ∙ ap (λ (o : Option Entry). of_entries number (option_map (map entry_in) (all_some (map f (take (k + 1) texts)))) o)
             (entry_is parsed.vars variables same table n en refl (slice_index_or texts (k + 1) [])))
@@ -236,7 +237,7 @@ module _ (parsed : Parsed) (name : List ℕ) (variables : List Variable) (same :
             (ap (if_transition parsed.vars parsed.lines)
             (wrong_count number texts (all_some (map f texts)) (λ es s. ap (λ m. m == k + 2) (as_many f texts es s) ∙ off)))
             (ap (λ v. cond (not v) (Err kinds.BadTransition)
-            (of_entries number (entries_of table (take (k + 1) texts)) (entry_of table (slice_index_or texts (k + 1) [])))) e)
+            (of_entries number (claimed_entries_of table (take (k + 1) texts)) (claimed_entry_of table (slice_index_or texts (k + 1) [])))) e)
             (stops kinds.BadTransition)
       ]
 

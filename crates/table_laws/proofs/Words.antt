@@ -9,7 +9,7 @@ use Rattle.life_table.specs.Reading.{all_some, variable_named, entry_of as layer
 use Rattle.life_table.specs.declared.table.Var.{Var}
 use Rattle.life_table.specs.declared.table.Entry.{Entry as LayerEntry}
 use Rattle.life_table.specs.declared.table.Entry.TheVariants as entries
-use Rattle.claims.specs.Table.{Entry, fixed, variable, Variable, Table, entry_of, entries_of}
+use Rattle.claims.specs.Table.{Entry, fixed, variable, Variable, Table, claimed_entry_of, claimed_entries_of}
 use Rattle.table_laws.specs.Tables.{entry_in, AreVariables}
 
 -- ---- options
@@ -89,7 +89,7 @@ module _ (vars : List Var) (variables : List Variable) (same : AreVariables vars
     of_place None = refl
     of_place (Some i) = refl
 
-    pub entry_is : (word : List ℕ) → entry_of table word ≡ option_map entry_in (layer_entry_of n vars word)
+    pub entry_is : (word : List ℕ) → claimed_entry_of table word ≡ option_map entry_in (layer_entry_of n vars word)
     unfolding layer_entry_of
     entry_is word = by (is_digit_text word) _ _ (option_map entries.Var (variable_named vars word))
         (ap (λ (o : Option ℕ). cond (nat_lt (value_of word) (unwrap_or o 0)) (Some (fixed (value_of word))) None) of_states ∙ below_is (value_of word) n)
@@ -112,12 +112,12 @@ module _ (vars : List Var) (variables : List Variable) (same : AreVariables vars
     more (Some e) None = refl
     more (Some e) (Some es) = refl
 
-    pub entries_are : (words : List (List ℕ)) → entries_of table words ≡ option_map (map entry_in) (all_some (map (layer_entry_of n vars) words))
+    pub entries_are : (words : List (List ℕ)) → claimed_entries_of table words ≡ option_map (map entry_in) (all_some (map (layer_entry_of n vars) words))
     entries_are [] = refl
     entries_are (word ∷ words) =
         ap (λ (o : Option Entry). elim o [
           | None ↦ None
-          | Some entry ↦ elim (entries_of table words) [ None ↦ None | Some entries ↦ Some (entry ∷ entries) ]
+          | Some entry ↦ elim (claimed_entries_of table words) [ None ↦ None | Some entries ↦ Some (entry ∷ entries) ]
         ]) (entry_is word)
         ∙ ap (λ (os : Option (List Entry)). elim (option_map entry_in (layer_entry_of n vars word)) [
           | None ↦ None

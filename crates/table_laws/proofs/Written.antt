@@ -10,13 +10,13 @@ use Rattle.std.proofs.Math.Bool.{or-false}
 use Rattle.life_base.specs.declared.kind.Kind.TheVariants as kinds
 use Rattle.life_table.specs.Meaning.{has_state}
 use Rattle.life_table.specs.Reader.{IsGood}
-use Rattle.life_table.specs.Reading.{all_some, if_variable, is_variable_name, is_name_byte, is_list, within_braces, name_text, list_text, states_listed, variable_named, variable_states, variable_of, states_of_entry, union_of, between_commas, entry_of as layer_entry_of}
+use Rattle.life_table.specs.Reading.{all_some, if_variable, is_variable_name, is_name_byte, is_list, within_braces, variable_name, list_text, states_listed, variable_named, variable_states, variable_of, states_of_entry, union_of, between_commas, entry_of as layer_entry_of}
 use Rattle.life_table.specs.Valid.{IsEntry, IsVariable}
 use Rattle.life_table.specs.declared.table.Var.{Var}
 use Rattle.life_table.specs.declared.table.Entry.{Entry as LayerEntry}
 use Rattle.life_table.proofs.Values.{is_entry}
 use Rattle.claims.specs.Rules.{has}
-use Rattle.claims.specs.Table.{Entry, Variable, Table, entries_of, states_of, is_name, with_variable}
+use Rattle.claims.specs.Table.{Entry, Variable, Table, claimed_entries_of, claimed_states_of, is_name, with_variable}
 use Rattle.table_laws.specs.Tables.{entry_in, AreVariables}
 use Rattle.table_laws.proofs.Named.{Parsed}
 use Rattle.table_laws.proofs.Sets.{differs, set_of, set_is, states_are}
@@ -119,7 +119,7 @@ module _ (parsed : Parsed) (name : List ℕ) (variables : List Variable) (same :
   new_var word es = record { name = word; states = union_of (map (set_of parsed.vars) es) }
 
   abbrev new_variable : List ℕ → List LayerEntry → Variable
-  new_variable word es = record { name = word; states = flat_map (states_of variables) (map entry_in es) }
+  new_variable word es = record { name = word; states = flat_map (claimed_states_of variables) (map entry_in es) }
 
   one_more : (word : List ℕ) (es : List LayerEntry) → All (IsEntry n parsed.vars) es
       → AreVariables (parsed.vars ++ new_var word es ∷ []) (variables ++ new_variable word es ∷ [])
@@ -133,7 +133,7 @@ module _ (parsed : Parsed) (name : List ℕ) (variables : List Variable) (same :
       (cond named (cond there None (cond listed (option_map union_of (option_map (map (set_of parsed.vars)) os)) None)) None)))
       (cond (named && not there && listed) (elim (option_map (map entry_in) os) [
         | None ↦ Err kinds.BadVariable
-        | Some es ↦ Ok (record table { variables = variables ++ record { name = word; states = flat_map (states_of variables) es } ∷ [] })
+        | Some es ↦ Ok (record table { variables = variables ++ record { name = word; states = flat_map (claimed_states_of variables) es } ∷ [] })
       ]) (Err kinds.BadVariable))
   by_tests word true false true (Some es) h = goes _ _ (variables ++ new_variable word es ∷ []) refl refl (one_more word es (h es refl)) refl
   by_tests word true false true None h = stops kinds.BadVariable
@@ -144,7 +144,7 @@ module _ (parsed : Parsed) (name : List ℕ) (variables : List Variable) (same :
   pub variable_fits : (text : List ℕ) → FitsAfter parsed name (if_variable (variable_of n parsed.vars text)) (with_variable table (drop 3 text))
   unfolding variable_of variable_states states_listed
   variable_fits text =
-      let word = name_text text in
+      let word = variable_name text in
       let list = list_text text in
       let words = between_commas (within_braces list) in
       let os = all_some (map (layer_entry_of n parsed.vars) words) in
@@ -152,17 +152,17 @@ module _ (parsed : Parsed) (name : List ℕ) (variables : List Variable) (same :
       (ap (λ (o : Option (List (List ℕ))). if_variable (option_map (λ states. record { name = word; states = states })
       (cond (is_variable_name word) (cond (is_some (variable_named parsed.vars word)) None (cond (is_list list) (option_map union_of o) None)) None)))
       (sets_are n parsed.vars variables same (good.states n en).1 (good.variables n en) words))
-      (ap (λ v. cond (v && not (list_any (λ (w : Variable). bytes_eq w.name word) variables) && is_list list) (elim (entries_of table words) [
+      (ap (λ v. cond (v && not (list_any (λ (w : Variable). bytes_eq w.name word) variables) && is_list list) (elim (claimed_entries_of table words) [
         | None ↦ Err kinds.BadVariable
-        | Some es ↦ Ok (record table { variables = variables ++ record { name = word; states = flat_map (states_of variables) es } ∷ [] })
+        | Some es ↦ Ok (record table { variables = variables ++ record { name = word; states = flat_map (claimed_states_of variables) es } ∷ [] })
       ]) (Err kinds.BadVariable)) (name_is word)
-      ∙ ap (λ v. cond (is_variable_name word && not v && is_list list) (elim (entries_of table words) [
+      ∙ ap (λ v. cond (is_variable_name word && not v && is_list list) (elim (claimed_entries_of table words) [
         | None ↦ Err kinds.BadVariable
-        | Some es ↦ Ok (record table { variables = variables ++ record { name = word; states = flat_map (states_of variables) es } ∷ [] })
+        | Some es ↦ Ok (record table { variables = variables ++ record { name = word; states = flat_map (claimed_states_of variables) es } ∷ [] })
       ]) (Err kinds.BadVariable)) (is_there parsed.vars variables same word)
       ∙ ap (λ (o : Option (List Entry)). cond (is_variable_name word && not (is_some (variable_named parsed.vars word)) && is_list list) (elim o [
         | None ↦ Err kinds.BadVariable
-        | Some es ↦ Ok (record table { variables = variables ++ record { name = word; states = flat_map (states_of variables) es } ∷ [] })
+        | Some es ↦ Ok (record table { variables = variables ++ record { name = word; states = flat_map (claimed_states_of variables) es } ∷ [] })
       ]) (Err kinds.BadVariable)) (entries_are parsed.vars variables same table n en refl words))
       (by_tests word (is_variable_name word) (is_some (variable_named parsed.vars word)) (is_list list) os
       (there_all n parsed.vars variables same (good.states n en).1 (good.variables n en) words))

@@ -2,9 +2,9 @@
 use Rattle.std.specs.Prelude.{◌≡◌, ℕ, List, length, ◌↔◌, Ok, Err}
 use Rattle.life_base.specs.Text.{lines_of}
 use Rattle.life_base.specs.declared.fault.Fault.{Fault}
-use Rattle.claims.specs.Table.{Table, table_of, decided}
+use Rattle.claims.specs.Table.{Table, table_of, claimed_decision}
 use Rattle.life_table.specs.Meaning.{Answer, Decides}
-use Rattle.life_table.specs.Reading.{AreTable, Refuses}
+use Rattle.life_table.specs.Reading.{AreTable, RefusesTable}
 use Rattle.life_table.specs.Valid.{neighbour_count}
 use Rattle.life_table.specs.declared.table.Table.{Table as LayerTable}
 use Rattle.table_laws.specs.Tables.{IsTable, answer_in}
@@ -13,7 +13,7 @@ use Rattle.table_laws.specs.Tables.{IsTable, answer_in}
 abbrev pub TablesDecide : Type 0
 TablesDecide = (layer : LayerTable) (table : Table) → IsTable layer table → (centre : ℕ) (others : List ℕ) →
     length others ≡ neighbour_count layer.neighborhood → (answer : Answer) →
-    Decides layer.symmetry layer.vars centre others layer.lines answer ↔ (decided table centre others table.transitions ≡ answer_in answer)
+    Decides layer.symmetry layer.vars centre others layer.lines answer ↔ (claimed_decision table centre others table.transitions ≡ answer_in answer)
 
 -- a rule file that is a table's in the layer says that table, and one that says a table is a table's there
 abbrev pub TablesRead : Type 0
@@ -23,4 +23,4 @@ TablesRead = (bytes : List ℕ) →
 
 -- a rule file is refused at the line and with the kind with which the layer refuses it
 abbrev pub TablesRefuse : Type 0
-TablesRefuse = (bytes : List ℕ) (fault : Fault) → Refuses (lines_of bytes) fault ↔ (table_of bytes ≡ Err fault)
+TablesRefuse = (bytes : List ℕ) (fault : Fault) → RefusesTable (lines_of bytes) fault ↔ (table_of bytes ≡ Err fault)

@@ -1,6 +1,6 @@
 //! Laws over the definitions alone.
 
-ghost use Rattle.table_laws.specs.ByCounts.{PermuteByCounts};
+ghost use Rattle.table_laws.specs.ByCounts.{PermuteByClaimedCounts};
 ghost use Rattle.table_laws.specs.Laws.{TablesDecide, TablesRead, TablesRefuse};
 
 /// What a table decides for a cell and its neighbours is what the layer below says that it decides.
@@ -20,5 +20,5 @@ pub fn tables_refuse()
 
 /// In a table with the symmetry `permute`, a line gives a cell what it gives by the counts of its neighbours' states, without an order.
 pub fn permute_by_counts()
-    ensures { PermuteByCounts }
+    ensures { PermuteByClaimedCounts }
 {}

@@ -7,7 +7,7 @@ use Rattle.life_canon.specs.Listing.{canonical_file}
 use Rattle.life_canon.specs.Texts.{IsCanonical}
 use Rattle.claims.specs.Canonical.{IsTextOfPattern}
 use Rattle.claims.specs.Counting.{IsCanonicalText}
-use Rattle.claims.specs.Files.{pattern_of, Same}
+use Rattle.claims.specs.Files.{pattern_of, SayOnePattern}
 use Rattle.claims.specs.Pattern.{Pattern}
 use Rattle.claims.proofs.RuleLaw.{rule_in}
 use Rattle.theorems.proofs.FileLaw.{files_agree, ok_of, text_is_file, text_is_least, text_is_macrocell}
@@ -19,7 +19,7 @@ pub canonical_so : FilesAreOnPlane 62 → TextsAreFiles 62 → TextsKeepPatterns
 canonical_so on_plane files keep file text c l =
     let u = c.universe in
     let agrees = files_agree file u c.reads in
-    let same : Same file text = text_is_file keep file text c in
+    let same : SayOnePattern file text = text_is_file keep file text c in
     let said : same.first ≡ agrees.pattern = ok_of (pattern_of file) same.first agrees.pattern same.first_is agrees.is in
     let rule : same.second.rule ≡ rule_in u.rule = sym same.rule ∙ ap (λ (p : Pattern). p.rule) said ∙ agrees.rule in
     let says : IsMacrocell 62 text (canonical_file 62 u) =

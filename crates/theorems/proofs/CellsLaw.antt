@@ -4,18 +4,18 @@ use Rattle.life_base.specs.declared.cell.Cell.{Cell}
 use Rattle.life_base.specs.declared.fault.Fault.{Fault}
 use Rattle.life_base.specs.declared.kind.Kind.TheVariants.{TooManyCells}
 use Rattle.life_canon.specs.Store.{RefusesIn}
-use Rattle.life_canon.specs.Texts.{AreCellsOf, IsRleOf, HasMoreCells as LayerMoreCells}
+use Rattle.life_canon.specs.Texts.{AreCellsOf, IsRleOf, FileHasMoreCells as LayerMoreCells}
 use Rattle.life_quad.specs.Store.{Nodes}
 use Rattle.claims.specs.Pattern.{Pattern}
-use Rattle.claims.specs.Files.{pattern_of, fault_of, IsWant}
-use Rattle.claims.specs.Generation.{AreCells, HasMoreCells, SaysMoreCells}
+use Rattle.claims.specs.Files.{pattern_of, claimed_fault_of, IsShortage}
+use Rattle.claims.specs.Generation.{AreClaimedCells, HasMoreClaimedCells, SaysMoreCells}
 use Rattle.claims.proofs.CellLists.{never_more}
 use Rattle.theorems.proofs.FileLaw.{files_agree, ok_of}
 use Rattle.theorems.proofs.RefusalLaw.{refused_as}
 
-pub same_cells : (c d : ℤ → ℤ → ℕ) (cells : List Cell) → c ≡ d → AreCellsOf d cells → AreCells c cells
+pub same_cells : (c d : ℤ → ℤ → ℕ) (cells : List Cell) → c ≡ d → AreCellsOf d cells → AreClaimedCells c cells
 same_cells c d cells e h =
-    subst (λ (f : ℤ → ℤ → ℕ). AreCells f cells) (sym e) (record { in_order = h.in_order; true_cells = h.true_cells; all_cells = h.all_cells })
+    subst (λ (f : ℤ → ℤ → ℕ). AreClaimedCells f cells) (sym e) (record { in_order = h.in_order; true_cells = h.true_cells; all_cells = h.all_cells })
 
 -- a file that is written in extended RLE has no more cells than that
 pub few_cells : (bytes text : List ℕ) → IsRleOf 62 (2 ^ 20) bytes text → SaysMoreCells (2 ^ 20) bytes → ⊥
@@ -24,7 +24,7 @@ few_cells bytes text h more =
     let cells : p.pattern.cell ≡ h.universe.cell = λ i x y. p.cells x y i in
     let e : more.0 ≡ p.pattern = ok_of (pattern_of bytes) more.0 p.pattern more.1 p.is in
     never_more p.pattern.cell h.cells (2 ^ 20) (same_cells p.pattern.cell h.universe.cell h.cells cells h.are) (λ more. omega (arith, more, h.few))
-    (subst (λ (q : Pattern). HasMoreCells (2 ^ 20) q.cell) e more.2)
+    (subst (λ (q : Pattern). HasMoreClaimedCells (2 ^ 20) q.cell) e more.2)
 
 pub says_more : (bytes : List ℕ) → LayerMoreCells 62 bytes (2 ^ 20) → SaysMoreCells (2 ^ 20) bytes
 says_more bytes h =
@@ -35,7 +35,7 @@ says_more bytes h =
 
 -- why a file is not written in extended RLE
 pub rle_refused_as : (bytes : List ℕ) (store : Nodes) (fault : Fault)
-    → RefusesIn 62 bytes store fault ⊎ ((fault ≡ fault_of TooManyCells) × LayerMoreCells 62 bytes (2 ^ 20))
-    → (pattern_of bytes ≡ Err fault) ⊎ (IsWant fault ⊎ ((fault ≡ fault_of TooManyCells) × SaysMoreCells (2 ^ 20) bytes))
+    → RefusesIn 62 bytes store fault ⊎ ((fault ≡ claimed_fault_of TooManyCells) × LayerMoreCells 62 bytes (2 ^ 20))
+    → (pattern_of bytes ≡ Err fault) ⊎ (IsShortage fault ⊎ ((fault ≡ claimed_fault_of TooManyCells) × SaysMoreCells (2 ^ 20) bytes))
 rle_refused_as bytes store fault (inl r) = elim (refused_as bytes store fault r) [ inl e ↦ inl e | inr w ↦ inr (inl w) ]
 rle_refused_as bytes store fault (inr m) = inr (inr (m.0, says_more bytes m.1))

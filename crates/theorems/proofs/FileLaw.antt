@@ -3,7 +3,7 @@ use Rattle.std.proofs.Common.{◌≡◌, ◌↔◌, ℕ, ◌^◌, ◌<◌, ◌�
 use Rattle.life_base.specs.Text.{lines_of, begins_with, is_too_long}
 use Rattle.life_base.specs.declared.kind.Kind.TheVariants as kinds
 use Rattle.life_mc.specs.Macrocell.{Macrocell}
-use Rattle.life_mc.specs.Reading.{AreMacrocell, broken}
+use Rattle.life_mc.specs.Reading.{AreMacrocell, broken_rule}
 use Rattle.life_rle.specs.Pattern.{Rle}
 use Rattle.life_rle.specs.Written.{rle_text}
 use Rattle.life_base.specs.declared.cell.Cell.{Cell}
@@ -17,15 +17,15 @@ use Rattle.life_mc.specs.Cells.{node_lines as layer_node_lines}
 use Rattle.life_mc.proofs.NodeLines.{node_lines_counted}
 use Rattle.life_base.specs.declared.rule.Rule.TheVariants.{Life, Named}
 use Rattle.claims.specs.Rules.{Rule, is_counting}
-use Rattle.claims.specs.Counting.{node_lines, has_leaves, IsRival}
+use Rattle.claims.specs.Counting.{claimed_node_lines, has_leaves, IsClaimedRival}
 use Rattle.claims.proofs.Back.{macrocell_back, no_leaves}
 use Rattle.life_canon.specs.Files.{as_macrocell, as_rle, Reads, is_macrocell, Accepted, Same as LayerSame}
 use Rattle.life_canon.specs.Texts.{IsCanonical, IsRleOf}
 use Rattle.life_canon.specs.Listing.{canon_text, canonical_file}
 use Rattle.life_canon.specs.Laws.{FilesAreOnPlane, TextsTellPatterns, TextsKeepPatterns, TextsAreFiles}
 use Rattle.claims.specs.Pattern.{Pattern}
-use Rattle.claims.specs.Files.{pattern_of, macrocell_of, read_lines, end_of_rle, Same}
-use Rattle.claims.specs.Rle.{with_line as with_rle_line}
+use Rattle.claims.specs.Files.{pattern_of, macrocell_of, read_lines, end_of_rle, SayOnePattern}
+use Rattle.claims.specs.Rle.{with_rle_line}
 use Rattle.claims.proofs.Format.{first_line_of, begins_line}
 use Rattle.claims.proofs.McFile.{macrocell_says}
 use Rattle.claims.proofs.RleFile.{rle_says, begun}
@@ -59,7 +59,7 @@ unfolding pattern_of
 as_rle_lines bytes h = ap (λ v. cond v (macrocell_of (lines_of bytes)) (read_lines with_rle_line end_of_rle 1 begun (lines_of bytes))) (format_is bytes ∙ h)
 
 pub mc_first : (lines : List (List ℕ)) (file : Macrocell) → AreMacrocell 62 lines file → is_macrocell lines ≡ true
-unfolding broken
+unfolding broken_rule
 mc_first [] file are = absurd (let h : 0 < length {A = List ℕ} [] = are.header in omega (arith, h))
 mc_first (header ∷ rest) file are = by (is_too_long header) (begins_with header (codes "[M2]")) (are.unbroken 0 (omega arith))
   where
@@ -81,7 +81,7 @@ files_agree bytes _ (as_rle file are) =
     let is = as_rle_lines bytes (rle_first (lines_of bytes) file are) ∙ s.1.is in
     record { pattern = s.0; is = is; rule = s.1.rule; generation = s.1.generation; cells = s.1.cells }
 
-pub same_to : (a b : List ℕ) → LayerSame 62 a b → Same a b
+pub same_to : (a b : List ℕ) → LayerSame 62 a b → SayOnePattern a b
 same_to a b s =
     let p = files_agree a s.first s.reads_first in
     let q = files_agree b s.second s.reads_second in
@@ -98,7 +98,7 @@ same_to a b s =
 pub ok_of : (r : Result Pattern Fault) (p q : Pattern) → r ≡ Ok p → r ≡ Ok q → p ≡ q
 ok_of r p q e f = cc
 
-pub universes_are : FilesAreOnPlane 62 → (a b : List ℕ) (u v : Universe) → Reads 62 a u → Reads 62 b v → Same a b → IsSame u v
+pub universes_are : FilesAreOnPlane 62 → (a b : List ℕ) (u v : Universe) → Reads 62 a u → Reads 62 b v → SayOnePattern a b → IsSame u v
 universes_are on_plane a b u v h l s =
     let p = files_agree a u h in
     let q = files_agree b v l in
@@ -111,18 +111,18 @@ universes_are on_plane a b u v h l s =
       cells = λ x y. sym (p.cells x y) ∙ sym (ap (λ (r : Pattern). r.cell x y) e) ∙ s.cells x y ∙ ap (λ (r : Pattern). r.cell x y) f ∙ q.cells x y;
     }
 
-pub same_from : FilesAreOnPlane 62 → (a b : List ℕ) (u v : Universe) → Reads 62 a u → Reads 62 b v → Same a b → LayerSame 62 a b
+pub same_from : FilesAreOnPlane 62 → (a b : List ℕ) (u v : Universe) → Reads 62 a u → Reads 62 b v → SayOnePattern a b → LayerSame 62 a b
 same_from on_plane a b u v h l s = record { first = u; second = v; reads_first = h; reads_second = l; same = universes_are on_plane a b u v h l s }
 
 -- two canonical texts are equal exactly if the files are the same
-pub texts_are_exact : TextsTellPatterns 62 → FilesAreOnPlane 62 → (a b s t : List ℕ) → IsCanonical 62 a s → IsCanonical 62 b t → (s ≡ t) ↔ Same a b
+pub texts_are_exact : TextsTellPatterns 62 → FilesAreOnPlane 62 → (a b s t : List ℕ) → IsCanonical 62 a s → IsCanonical 62 b t → (s ≡ t) ↔ SayOnePattern a b
 texts_are_exact tell on_plane a b s t c d =
     let law = tell a b c.universe d.universe c.reads d.reads in
     (λ e. same_to a b (law.0 (sym c.is ∙ e ∙ d.is)), λ h. c.is ∙ law.1 (same_from on_plane a b c.universe d.universe c.reads d.reads h) ∙ sym d.is)
 
 -- a canonical text is a file of the same pattern
-pub text_is_file : TextsKeepPatterns 62 → (a s : List ℕ) → IsCanonical 62 a s → Same a s
-text_is_file keep a s c = subst (λ (t : List ℕ). Same a t) (sym c.is) (same_to a (canon_text 62 c.universe) (keep a c.universe c.reads))
+pub text_is_file : TextsKeepPatterns 62 → (a s : List ℕ) → IsCanonical 62 a s → SayOnePattern a s
+text_is_file keep a s c = subst (λ (t : List ℕ). SayOnePattern a t) (sym c.is) (same_to a (canon_text 62 c.universe) (keep a c.universe c.reads))
 
 -- and a macrocell file
 pub text_is_macrocell : TextsAreFiles 62 → FilesAreOnPlane 62 → (a s : List ℕ) → IsCanonical 62 a s → begins_with s (codes "[M2]") ≡ true
@@ -132,7 +132,8 @@ text_is_macrocell files on_plane a s c =
     ∙ mc_first (lines_of (canon_text 62 c.universe)) (canonical_file 62 c.universe) h.0
 
 -- the answer whether two files are the same
-pub same_is : FilesAreOnPlane 62 → (a b : List ℕ) (answer : Bool) → Accepted 62 a × Accepted 62 b → IsTrue answer ↔ LayerSame 62 a b → IsTrue answer ↔ Same a b
+pub same_is : FilesAreOnPlane 62 → (a b : List ℕ) (answer : Bool) → Accepted 62 a × Accepted 62 b → IsTrue answer ↔ LayerSame 62 a b → IsTrue answer
+    ↔ SayOnePattern a b
 same_is on_plane a b answer are h =
     (λ t. same_to a b (h.0 t), λ s. h.1 (same_from on_plane a b are.0.0 are.1.0 are.0.1 are.1.1 s))
 
@@ -145,7 +146,8 @@ rle_format bytes text h = ap (λ (t : List ℕ). begins_with t (codes "[M2]")) h
     by rule generation (c ∷ cells) = refl
 
 -- no file with which a canonical text is compared has fewer node lines
-pub text_is_least : FilesAreOnPlane 62 → (a s : List ℕ) → IsLeastText 62 a s → (rival : List ℕ) → IsRival a rival → node_lines s ≤ node_lines rival
+pub text_is_least : FilesAreOnPlane 62 → (a s : List ℕ) → IsLeastText 62 a s → (rival : List ℕ) → IsClaimedRival a rival
+    → claimed_node_lines s ≤ claimed_node_lines rival
 text_is_least on_plane a s l rival r =
     let back = macrocell_back (lines_of rival) r.same.second (sym (as_mc rival (sym (format_is rival) ∙ r.format)) ∙ r.same.second_is) in
     let file = back.0 in
@@ -156,8 +158,8 @@ text_is_least on_plane a s l rival r =
     let rule : r.same.second.rule ≡ rule_in file.rule =
     ap (λ (p : Pattern). p.rule) (ok_of (pattern_of rival) r.same.second q.pattern r.same.second_is q.is) ∙ q.rule in
     let few = l.least rival file back.1 same (compared file.rule r.same.second.rule rule file r.leaves (no_leaves rival file back.1)) in
-    let here : layer_node_lines l.file ≡ node_lines s = node_lines_counted 62 s l.file l.says in
-    let there : layer_node_lines file ≡ node_lines rival = node_lines_counted 62 rival file back.1 in
+    let here : layer_node_lines l.file ≡ claimed_node_lines s = node_lines_counted 62 s l.file l.says in
+    let there : layer_node_lines file ≡ claimed_node_lines rival = node_lines_counted 62 rival file back.1 in
     omega (arith, few, here, there)
   where
     counted : (rule : LayerRule) → is_counting (rule_in rule) ≡ is_life rule

@@ -7,13 +7,13 @@ use Rattle.life_base.specs.Tree.{Tree, point, quad}
 use Rattle.life_base.specs.declared.rule.Rule.{Rule}
 use Rattle.life_base.specs.declared.rule.Rule.TheVariants.{Life, Named}
 use Rattle.life_mc.specs.Macrocell.{Macrocell}
-use Rattle.life_mc.specs.Reading.{IsMacrocell, is_node_line, is_leaf, is_leaf_byte, leaf_bytes, quad_of, square_of, square_on, squares_of}
+use Rattle.life_mc.specs.Reading.{IsMacrocell, is_node_line, is_leaf, is_leaf_byte, leaf_bytes, quad_of_numbers, square_of_text, square_on, squares_of}
 use Rattle.life_mc.specs.declared.line.Line.{Line}
 use Rattle.life_mc.specs.declared.line.Line.TheVariants.{Leaf}
 use Rattle.life_mc.proofs.NodeLines.{node_lines_counted}
 use Rattle.life_canon.specs.Universe.{Universe, is_life, least_level, whole}
 use Rattle.life_canon.specs.Least.{HasNoLeaves}
-use Rattle.life_canon.specs.Listing.{canonical_file, line_of, lines_for, listed}
+use Rattle.life_canon.specs.Listing.{canonical_file, line_of, lines_for, listed_squares}
 use Rattle.claims.specs.Counting.{has_leaves}
 use Rattle.claims.specs.Rules.{Rule as ToldRule, is_counting}
 use Rattle.claims.proofs.RuleLaw.{rule_in}
@@ -34,9 +34,9 @@ leafless : (u : Universe) → (is_life u.rule ≡ true) ⊎ HasNoLeaves (canonic
 unfolding canonical_file
 leafless u = by u.rule
   where
-    by : (rule : Rule) → (is_life rule ≡ true) ⊎ HasNone (lines_for rule (listed (whole 62 u) (least_level rule)))
+    by : (rule : Rule) → (is_life rule ≡ true) ⊎ HasNone (lines_for rule (listed_squares (whole 62 u) (least_level rule)))
     by (Life life) = inl refl
-    by (Named name) = let all = listed (whole 62 u) (least_level (Named name)) in inr (no_leaf name all all)
+    by (Named name) = let all = listed_squares (whole 62 u) (least_level (Named name)) in inr (no_leaf name all all)
 
 -- ---- the text of a file
 
@@ -51,7 +51,7 @@ at_most : (lines : List (List ℕ)) → length (filter_map square_on lines) ≤ 
 at_most [] = omega arith
 at_most (line ∷ lines) =
     let h : length (filter_map square_on (line ∷ lines)) ≤ cond (is_node_line line) 1 0 + count_by is_node_line lines =
-    by (is_node_line line) (square_of (trim line)) (at_most lines) in
+    by (is_node_line line) (square_of_text (trim line)) (at_most lines) in
     omega (arith, h, count_more line lines)
   where
     by : (node : Bool) (square : Option Line) → length (filter_map square_on lines) ≤ count_by is_node_line lines
@@ -66,7 +66,7 @@ none_there : (lines : List (List ℕ)) → length (filter_map square_on lines) �
 none_there [] e never = refl
 none_there (line ∷ lines) e never =
     by (is_node_line line) (is_leaf_byte (slice_index (trim line) 0)) (is_leaf (trim line))
-    (cond (list_all is_digit_text (words_of (trim line))) (quad_of (map value_of (words_of (trim line)))) None) (at_most lines) (none_there lines)
+    (cond (list_all is_digit_text (words_of (trim line))) (quad_of_numbers (map value_of (words_of (trim line)))) None) (at_most lines) (none_there lines)
     (e ∙ count_more line lines) never
   where
     by : (node first leaf : Bool) (quarters : Option Line) → length (filter_map square_on lines) ≤ count_by is_node_line lines

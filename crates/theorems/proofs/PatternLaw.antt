@@ -14,13 +14,13 @@ use Rattle.life_canon.specs.Laws.{FilesAreOnPlane, TextsAreFiles}
 use Rattle.life_canon.specs.Listing.{canon_text, canonical_file}
 use Rattle.life_canon.specs.Universe.{Universe, IsOnPlane, macrocell_universe, rle_universe}
 use Rattle.life_mc.specs.Macrocell.{largest_state as layer_largest}
-use Rattle.claims.specs.Rules.{Rule, rule_of, rule_text, largest_state}
+use Rattle.claims.specs.Rules.{Rule, claimed_rule_of, claimed_rule_text, claimed_largest_state}
 use Rattle.claims.specs.Pattern.{Pattern}
 use Rattle.claims.specs.Files.{pattern_of}
 use Rattle.claims.proofs.Back.{macrocell_back, rle_back}
 use Rattle.claims.proofs.NodeLaw.{largest_is}
 use Rattle.claims.proofs.RuleLaw.{rule_in, rule_of_is}
-use Rattle.theorems.specs.Patterns.{Fits, PatternsHaveFiles, PatternsOfFilesFit}
+use Rattle.theorems.specs.Patterns.{FitsFormats, PatternsHaveFiles, PatternsOfFilesFit}
 use Rattle.theorems.proofs.FileLaw.{files_agree, ok_of, as_mc, as_rle_lines}
 use Rattle.theorems.proofs.PlaneLaw.{not_of_plane, outside_is}
 use Rattle.theorems.proofs.ShownLaw.{rule_text_is}
@@ -31,13 +31,13 @@ rule_back (Err kind) rule e = cc
 
 pub have_files : TextsAreFiles 62 → PatternsHaveFiles
 have_files files pattern h =
-    let text = rule_text pattern.rule in
+    let text = claimed_rule_text pattern.rule in
     let found = rule_back (layer_rule_of text) pattern.rule (sym (rule_of_is text) ∙ h.rule) in
     let u : Universe = record { rule = found.0; generation = pattern.generation; cell = pattern.cell } in
     let plane : IsOnPlane 62 u = record {
       rule = rule_values text found.0 found.1;
       generation = h.generation;
-      states = λ x y. subst (λ n. pattern.cell x y ≤ n) (ap largest_state (sym found.2) ∙ largest_is found.0) (h.states x y);
+      states = λ x y. subst (λ n. pattern.cell x y ≤ n) (ap claimed_largest_state (sym found.2) ∙ largest_is found.0) (h.states x y);
       outside = λ x y never. h.outside x y (outside_is x y never);
     } in
     let file = files u plane in
@@ -66,15 +66,15 @@ files_fit on_plane bytes pattern e =
     let u = read.0 in
     let p = files_agree bytes u read.1 in
     let plane = on_plane bytes u read.1 in
-    let text : rule_of (rule_text (rule_in u.rule)) ≡ Ok (rule_in u.rule) =
-    ap rule_of (rule_text_is u.rule) ∙ rule_of_is (layer_text u.rule)
+    let text : claimed_rule_of (claimed_rule_text (rule_in u.rule)) ≡ Ok (rule_in u.rule) =
+    ap claimed_rule_of (rule_text_is u.rule) ∙ rule_of_is (layer_text u.rule)
     ∙ ap (λ (r : Result LayerRule Kind). result_map rule_in r) (rules_read_back u.rule plane.rule) in
-    subst Fits (ok_of (pattern_of bytes) p.pattern pattern p.is e)
+    subst FitsFormats (ok_of (pattern_of bytes) p.pattern pattern p.is e)
     (record {
-      rule = subst (λ (r : Rule). rule_of (rule_text r) ≡ Ok r) (sym p.rule) text;
+      rule = subst (λ (r : Rule). claimed_rule_of (claimed_rule_text r) ≡ Ok r) (sym p.rule) text;
       generation = subst (λ n. n < 2 ^ 64) (sym p.generation) plane.generation;
       states = λ x y.
-          subst (λ (r : Rule). p.pattern.cell x y ≤ largest_state r) (sym p.rule)
+          subst (λ (r : Rule). p.pattern.cell x y ≤ claimed_largest_state r) (sym p.rule)
           (subst (λ n. p.pattern.cell x y ≤ n) (sym (largest_is u.rule)) (subst (λ n. n ≤ layer_largest u.rule) (sym (p.cells x y)) (plane.states x y)));
       outside = λ x y out. p.cells x y ∙ plane.outside x y (not_of_plane x y out);
     })

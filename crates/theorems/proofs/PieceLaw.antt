@@ -10,11 +10,11 @@ use Rattle.life_canon.specs.Universe.{Universe, IsSame, IsOnPlane}
 use Rattle.life_canon.specs.Laws.{FaultsStay, FilesAreOnPlane, PatternsFit, TextsTellUniverses}
 use Rattle.life_canon.specs.Listing.{canon_text}
 use Rattle.life_canon.specs.Feeding.{RefusesFront}
-use Rattle.life_canon.specs.Store.{IsRead, IsWant, RefusesIn, universe_in}
+use Rattle.life_canon.specs.Store.{IsRead, IsShortageOf, RefusesIn, universe_in}
 use Rattle.life_canon.specs.Texts.{IsCanonical}
 use Rattle.life_canon.specs.declared.pattern.Pattern.{Pattern}
-use Rattle.claims.specs.Files.{pattern_of, IsWant as IsUnmet}
-use Rattle.theorems.specs.Joined.{joined}
+use Rattle.claims.specs.Files.{pattern_of, IsShortage as IsUnmet}
+use Rattle.theorems.specs.Joined.{all_bytes}
 use Rattle.theorems.proofs.RefusalLaw.{refuses_agree, refused_as, want_as}
 
 same_plane : (u v : Universe) → IsSame u v → IsOnPlane 62 u → IsOnPlane 62 v
@@ -39,37 +39,37 @@ read_text on_plane fit tell bytes store pattern text r e =
 
 -- one piece more
 pub joined_more : (pieces : List (Vec ℕ)) (i : ℕ) (d : Vec ℕ) → i < length pieces
-    → joined (take (i + 1) pieces) ≡ joined (take i pieces) ++ (get_or pieces i d).items
+    → all_bytes (take (i + 1) pieces) ≡ all_bytes (take i pieces) ++ (get_or pieces i d).items
 joined_more [] i d h = absurd (omega arith)
 joined_more (piece ∷ pieces) zero d h = append-nil piece.items
 joined_more (piece ∷ pieces) (suc i) d h =
     let e : suc i + 1 ≡ suc (i + 1) = omega arith in
-    ap (λ n. joined (take n (piece ∷ pieces))) e ∙ ap (λ (t : List ℕ). piece.items ++ t) (joined_more pieces i d (omega arith))
-    ∙ sym (append_assoc piece.items (joined (take i pieces)) (get_or pieces i d).items)
+    ap (λ n. all_bytes (take n (piece ∷ pieces))) e ∙ ap (λ (t : List ℕ). piece.items ++ t) (joined_more pieces i d (omega arith))
+    ∙ sym (append_assoc piece.items (all_bytes (take i pieces)) (get_or pieces i d).items)
 
-pub joined_all : (pieces : List (Vec ℕ)) (i : ℕ) → length pieces ≤ i → joined (take i pieces) ≡ joined pieces
+pub joined_all : (pieces : List (Vec ℕ)) (i : ℕ) → length pieces ≤ i → all_bytes (take i pieces) ≡ all_bytes pieces
 joined_all [] zero h = refl
 joined_all [] (suc i) h = refl
 joined_all (piece ∷ pieces) zero h = absurd (omega arith)
 joined_all (piece ∷ pieces) (suc i) h = ap (λ (t : List ℕ). piece.items ++ t) (joined_all pieces i (omega arith))
 
 -- the pieces so far, and the rest
-pub joined_split : (pieces : List (Vec ℕ)) (n : ℕ) → joined pieces ≡ joined (take n pieces) ++ joined (drop n pieces)
+pub joined_split : (pieces : List (Vec ℕ)) (n : ℕ) → all_bytes pieces ≡ all_bytes (take n pieces) ++ all_bytes (drop n pieces)
 joined_split pieces zero = refl
 joined_split [] (suc n) = refl
 joined_split (piece ∷ pieces) (suc n) =
     ap (λ (t : List ℕ). piece.items ++ t) (joined_split pieces n)
-    ∙ sym (append_assoc piece.items (joined (take n pieces)) (joined (drop n pieces)))
+    ∙ sym (append_assoc piece.items (all_bytes (take n pieces)) (all_bytes (drop n pieces)))
 
 -- a fault that is told of the pieces so far is that of all
-pub refused_so_far : FaultsStay 62 → (pieces : List (Vec ℕ)) (n : ℕ) (front : List ℕ) (store : Nodes) (fault : Fault) → front ≡ joined (take n pieces)
-    → IsWant store fault ⊎ RefusesFront 62 front fault → (pattern_of (joined pieces) ≡ Err fault) ⊎ IsUnmet fault
+pub refused_so_far : FaultsStay 62 → (pieces : List (Vec ℕ)) (n : ℕ) (front : List ℕ) (store : Nodes) (fault : Fault) → front ≡ all_bytes (take n pieces)
+    → IsShortageOf store fault ⊎ RefusesFront 62 front fault → (pattern_of (all_bytes pieces) ≡ Err fault) ⊎ IsUnmet fault
 refused_so_far stay pieces n front store fault e (inl w) = inr (want_as store fault w)
 refused_so_far stay pieces n front store fault e (inr r) =
-    let whole : front ++ joined (drop n pieces) ≡ joined pieces = ap (λ (t : List ℕ). t ++ joined (drop n pieces)) e ∙ sym (joined_split pieces n) in
+    let whole : front ++ all_bytes (drop n pieces) ≡ all_bytes pieces = ap (λ (t : List ℕ). t ++ all_bytes (drop n pieces)) e ∙ sym (joined_split pieces n) in
     inl
     (subst (λ (b : List ℕ). pattern_of b ≡ Err fault) whole
-    (refuses_agree (front ++ joined (drop n pieces)) fault (stay front (joined (drop n pieces)) fault r).refuses))
+    (refuses_agree (front ++ all_bytes (drop n pieces)) fault (stay front (all_bytes (drop n pieces)) fault r).refuses))
 
 -- the same of bytes that are those of the pieces
 pub refused_there : (a b : List ℕ) (fault : Fault) → a ≡ b → (pattern_of a ≡ Err fault) ⊎ IsUnmet fault → (pattern_of b ≡ Err fault) ⊎ IsUnmet fault

@@ -3,18 +3,18 @@ use Rattle.std.proofs.Common.{◌≡◌, ℕ, ◌^◌, Bool, true, false, ◌&&�
 use Rattle.std.proofs.lemmas.Int.{ints}
 use Rattle.std.proofs.lemmas.Bool.{and_from}
 use Rattle.life_canon.specs.Universe.{IsWithin, corner}
-use Rattle.claims.specs.Pattern.{is_coordinate}
+use Rattle.claims.specs.Pattern.{is_claimed_coordinate}
 use Rattle.life_base.proofs.Basics.{within_span}
 
-coordinate : (x : ℤ) → IsWithin 62 x → is_coordinate x ≡ true
+coordinate : (x : ℤ) → IsWithin 62 x → is_claimed_coordinate x ≡ true
 unfolding corner
 coordinate x h = within_span x (2 ^ 61) h.0 h.1
 
 -- a pair that is not of the plane
-pub not_of_plane : (x y : ℤ) → (is_coordinate x && is_coordinate y) ≡ false → IsWithin 62 x × IsWithin 62 y → ⊥
-not_of_plane x y e h = true≢false (sym (and_from (is_coordinate x) (is_coordinate y) (coordinate x h.0) (coordinate y h.1)) ∙ e)
+pub not_of_plane : (x y : ℤ) → (is_claimed_coordinate x && is_claimed_coordinate y) ≡ false → IsWithin 62 x × IsWithin 62 y → ⊥
+not_of_plane x y e h = true≢false (sym (and_from (is_claimed_coordinate x) (is_claimed_coordinate y) (coordinate x h.0) (coordinate y h.1)) ∙ e)
 
-from_coordinate : (x : ℤ) → is_coordinate x ≡ true → IsWithin 62 x
+from_coordinate : (x : ℤ) → is_claimed_coordinate x ≡ true → IsWithin 62 x
 unfolding corner
 from_coordinate x e = at x (2 ^ 61) e
   where
@@ -27,10 +27,10 @@ from_coordinate x e = at x (2 ^ 61) e
         high : x <ℤ pos h
         high = grind (arith, ints, e)
 
-pub outside_is : (x y : ℤ) → (IsWithin 62 x × IsWithin 62 y → ⊥) → (is_coordinate x && is_coordinate y) ≡ false
-outside_is x y never = by (is_coordinate x) (is_coordinate y) refl refl
+pub outside_is : (x y : ℤ) → (IsWithin 62 x × IsWithin 62 y → ⊥) → (is_claimed_coordinate x && is_claimed_coordinate y) ≡ false
+outside_is x y never = by (is_claimed_coordinate x) (is_claimed_coordinate y) refl refl
   where
-    by : (a b : Bool) → is_coordinate x ≡ a → is_coordinate y ≡ b → (a && b) ≡ false
+    by : (a b : Bool) → is_claimed_coordinate x ≡ a → is_claimed_coordinate y ≡ b → (a && b) ≡ false
     by true true e f = absurd (never (from_coordinate x e, from_coordinate y f))
     by true false e f = refl
     by false b e f = refl

@@ -1,23 +1,23 @@
 -- A refused file has the fault that it has in the layer below.
 use Rattle.std.proofs.Common.{◌≡◌, ℕ, zero, suc, ◌+◌, ◌-◌, ◌^◌, ◌<◌, ◌≤◌, min, List, [], ◌∷◌, ◌++◌, length, take, drop, Bool, true, false, cond, refl, ap, ◌∙◌, sym, subst, arith, ◌⊎◌, inl, inr, append_assoc, length-take-le, Some, None, Result, Ok, Err, slice_index_or, MatchBool, IfErr, IsOk, OnOk}
 use Rattle.std.proofs.lemmas.Bool.{cases_Bool}
-use Rattle.life_base.specs.Refusal.{Prefix, kept, continuations}
+use Rattle.life_base.specs.Refusal.{Prefix, kept_lines, continuations}
 use Rattle.life_base.specs.Text.{lines_of}
 use Rattle.life_base.specs.declared.fault.Fault.{Fault}
 use Rattle.life_base.specs.declared.kind.Kind.{Kind}
 use Rattle.life_base.specs.declared.kind.Kind.TheVariants as kinds
-use Rattle.life_mc.specs.Reading.{broken}
-use Rattle.life_rle.specs.Grammar.{IsRle, Breaks as BreaksRle}
+use Rattle.life_mc.specs.Reading.{broken_rule}
+use Rattle.life_rle.specs.Grammar.{IsRle, BreaksRle}
 use Rattle.life_rle.specs.Decided.{LacksHeader, HasBroken}
 use Rattle.life_rle.proofs.DecidedLaw.{decided as rle_decided}
 use Rattle.life_rle.proofs.FormatLaws.{broken_for_good}
 use Rattle.life_canon.specs.Universe.{Universe, rle_universe}
-use Rattle.life_canon.specs.Files.{Says, as_macrocell, as_rle, Accepts, Accepted, Breaks, Refuses, is_macrocell, missing}
-use Rattle.life_canon.specs.Store.{RefusesIn, IsWant}
+use Rattle.life_canon.specs.Files.{Says, as_macrocell, as_rle, Accepts, Accepted, Breaks, Refuses, is_macrocell, missing_file_part}
+use Rattle.life_canon.specs.Store.{RefusesIn, IsShortageOf}
 use Rattle.life_quad.specs.Store.{Nodes}
 use Rattle.claims.specs.Pattern.{Pattern}
-use Rattle.claims.specs.Files.{IsWant as IsUnmet, pattern_of, fault_at, read_lines, end_of_rle}
-use Rattle.claims.specs.Rle.{with_line as with_rle_line}
+use Rattle.claims.specs.Files.{IsShortage as IsUnmet, pattern_of, claimed_fault_at, read_lines, end_of_rle}
+use Rattle.claims.specs.Rle.{with_rle_line}
 use Rattle.claims.proofs.McFile.{macrocell_refuses}
 use Rattle.claims.proofs.RleFile.{rle_refuses, rle_lacks, begun}
 use Rattle.claims.proofs.Running.{cut_at}
@@ -54,27 +54,27 @@ length_seam (x ∷ xs) ys y = let h = length_seam xs ys y in omega (arith, h)
 
 -- the last line of a front of a macrocell file breaks no rule
 unbroken : (front : List (List ℕ)) (line : List ℕ) → is_macrocell (front ++ line ∷ []) ≡ true → Prefix (Accepts 62) (front ++ line ∷ [])
-    → broken 62 front line ≡ None
+    → broken_rule 62 front line ≡ None
 unbroken front line m p = by (p.1.0) (p.1.1)
   where
     more : List (List ℕ)
-    more = kept p.0 continuations
+    more = kept_lines p.0 continuations
 
     format : (xs ys : List (List ℕ)) (y : List ℕ) → is_macrocell ((xs ++ y ∷ []) ++ ys) ≡ is_macrocell (xs ++ y ∷ [])
     format [] ys y = refl
     format (x ∷ xs) ys y = refl
 
-    by : (u : Universe) → Says 62 ((front ++ line ∷ []) ++ kept p.0 continuations) u → broken 62 front line ≡ None
+    by : (u : Universe) → Says 62 ((front ++ line ∷ []) ++ kept_lines p.0 continuations) u → broken_rule 62 front line ≡ None
     by _ (as_macrocell file are) =
-        sym (ap (λ (t : List (List ℕ)). broken 62 t line) (take_seam front (kept p.0 continuations) line))
-        ∙ sym (ap (λ (t : List ℕ). broken 62 (take (length front) ((front ++ line ∷ []) ++ kept p.0 continuations)) t)
-        (index_seam front (kept p.0 continuations) line))
-        ∙ are.unbroken (length front) (length_seam front (kept p.0 continuations) line)
+        sym (ap (λ (t : List (List ℕ)). broken_rule 62 t line) (take_seam front (kept_lines p.0 continuations) line))
+        ∙ sym (ap (λ (t : List ℕ). broken_rule 62 (take (length front) ((front ++ line ∷ []) ++ kept_lines p.0 continuations)) t)
+        (index_seam front (kept_lines p.0 continuations) line))
+        ∙ are.unbroken (length front) (length_seam front (kept_lines p.0 continuations) line)
     by _ (as_rle file is) =
-        absurd (true_false (is_macrocell (front ++ line ∷ [])) m (sym (format front (kept p.0 continuations) line)
-        ∙ rle_first ((front ++ line ∷ []) ++ kept p.0 continuations) file is))
+        absurd (true_false (is_macrocell (front ++ line ∷ [])) m (sym (format front (kept_lines p.0 continuations) line)
+        ∙ rle_first ((front ++ line ∷ []) ++ kept_lines p.0 continuations) file is))
 
-fault_is : (fault : Fault) (n : ℕ) → fault.place.line ≡ min n (2 ^ 64 - 1) → fault_at n fault.kind ≡ fault
+fault_is : (fault : Fault) (n : ℕ) → fault.place.line ≡ min n (2 ^ 64 - 1) → claimed_fault_at n fault.kind ≡ fault
 fault_is fault n e = ap (λ l. record { place = record { line = l }; kind = fault.kind }) (sym e)
 
 when_true : (v : Bool) (P Q : Type 0) → v ≡ true → MatchBool v P Q → P
@@ -91,7 +91,7 @@ module _ (bytes : List ℕ) (fault : Fault) (r : Refuses 62 bytes fault) where
 
   -- a front of the lines before the place
   before : (i : ℕ) → suc i < r.n → i < length (lines_of bytes) → is_macrocell (lines_of bytes) ≡ true
-      → broken 62 (take i (lines_of bytes)) (slice_index_or (lines_of bytes) i []) ≡ None
+      → broken_rule 62 (take i (lines_of bytes)) (slice_index_or (lines_of bytes) i []) ≡ None
   before i h l m =
       unbroken (take i (lines_of bytes)) (slice_index_or (lines_of bytes) i []) (front_format (lines_of bytes) i l ∙ m)
       (subst (Prefix (Accepts 62)) (take_more (lines_of bytes) i l) (r.place.before (suc i) h))
@@ -104,25 +104,25 @@ module _ (bytes : List ℕ) (fault : Fault) (r : Refuses 62 bytes fault) where
       let breaks : Breaks 62 front line fault.kind = subst (λ m. Breaks 62 (take m (lines_of bytes)) (slice_index_or (lines_of bytes) m []) fault.kind) same
       (r.at_line (omega (arith, e, h))) in
       let format = front_format (lines_of bytes) k h in
-      let told : fault_at (suc k) fault.kind ≡ fault = fault_is fault (suc k) (r.line ∙ ap (λ n. min n (2 ^ 64 - 1)) e) in
+      let told : claimed_fault_at (suc k) fault.kind ≡ fault = fault_is fault (suc k) (r.line ∙ ap (λ n. min n (2 ^ 64 - 1)) e) in
       elim (cases_Bool (is_macrocell (lines_of bytes))) [
         | inl m ↦
-            let b : broken 62 front line ≡ Some fault.kind = when_true (is_macrocell (front ++ line ∷ [])) _ _ (format ∙ m) breaks in
+            let b : broken_rule 62 front line ≡ Some fault.kind = when_true (is_macrocell (front ++ line ∷ [])) _ _ (format ∙ m) breaks in
             let plus : k + 1 ≡ suc k = omega arith in
             as_mc bytes m ∙ macrocell_refuses (lines_of bytes) k fault.kind h (λ i l. before i (omega (arith, e)) (omega arith) m) b
-            ∙ ap (λ n. Err (fault_at n fault.kind)) plus ∙ ap Err told
+            ∙ ap (λ n. Err (claimed_fault_at n fault.kind)) plus ∙ ap Err told
         | inr m ↦
             let b : BreaksRle 62 front line fault.kind = when_false (is_macrocell (front ++ line ∷ [])) _ _ (format ∙ m) breaks in
             let short : 1 + length front ≡ suc k = omega (arith, length-take-le k (lines_of bytes) (omega arith)) in
             as_rle_lines bytes m ∙ ap (read_lines with_rle_line end_of_rle 1 begun) (cut_at (lines_of bytes) k h)
             ∙ rle_refuses front (drop (suc k) (lines_of bytes)) line fault.kind b
-            ∙ ap (λ n. Err (fault_at n fault.kind)) short ∙ ap Err told
+            ∙ ap (λ n. Err (claimed_fault_at n fault.kind)) short ∙ ap Err told
       ]
 
   at_end : r.n ≡ suc (length (lines_of bytes)) → pattern_of bytes ≡ Err fault
   at_end e = by (is_macrocell (lines_of bytes)) refl (r.at_end (omega (arith, e)))
     where
-      told : fault_at (suc (length (lines_of bytes))) fault.kind ≡ fault
+      told : claimed_fault_at (suc (length (lines_of bytes))) fault.kind ≡ fault
       told = fault_is fault (suc (length (lines_of bytes))) (r.line ∙ ap (λ n. min n (2 ^ 64 - 1)) e)
 
       whole : Prefix (Accepts 62) (lines_of bytes)
@@ -135,21 +135,22 @@ module _ (bytes : List ℕ) (fault : Fault) (r : Refuses 62 bytes fault) where
       no_broken : is_macrocell (lines_of bytes) ≡ false → HasBroken 62 (lines_of bytes) → ⊥
       no_broken m h = at (whole.1.0) (whole.1.1)
         where
-          parts : lines_of bytes ++ kept whole.0 continuations ≡ (h.front ++ h.line ∷ []) ++ (h.rest ++ kept whole.0 continuations)
+          parts : lines_of bytes ++ kept_lines whole.0 continuations ≡ (h.front ++ h.line ∷ []) ++ (h.rest ++ kept_lines whole.0 continuations)
           parts =
-              ap (λ (t : List (List ℕ)). t ++ kept whole.0 continuations) h.whole ∙ append_assoc h.front (h.line ∷ h.rest) (kept whole.0 continuations)
-              ∙ sym (append_assoc h.front (h.line ∷ []) (h.rest ++ kept whole.0 continuations))
+              ap (λ (t : List (List ℕ)). t ++ kept_lines whole.0 continuations) h.whole
+              ∙ append_assoc h.front (h.line ∷ h.rest) (kept_lines whole.0 continuations)
+              ∙ sym (append_assoc h.front (h.line ∷ []) (h.rest ++ kept_lines whole.0 continuations))
 
-          format : is_macrocell (lines_of bytes ++ kept whole.0 continuations) ≡ false
+          format : is_macrocell (lines_of bytes ++ kept_lines whole.0 continuations) ≡ false
           format =
-              ap (λ (t : List (List ℕ)). is_macrocell (t ++ kept whole.0 continuations)) h.whole
-              ∙ first_format h.front h.line h.rest (kept whole.0 continuations)
+              ap (λ (t : List (List ℕ)). is_macrocell (t ++ kept_lines whole.0 continuations)) h.whole
+              ∙ first_format h.front h.line h.rest (kept_lines whole.0 continuations)
               ∙ ap is_macrocell (sym h.whole) ∙ m
 
-          at : (u : Universe) → Says 62 (lines_of bytes ++ kept whole.0 continuations) u → ⊥
-          at _ (as_macrocell file are) = true_false (is_macrocell (lines_of bytes ++ kept whole.0 continuations))
-              (mc_first (lines_of bytes ++ kept whole.0 continuations) file are) format
-          at _ (as_rle file is) = (broken_for_good 62 h.front h.line h.kind h.breaks).2 (h.rest ++ kept whole.0 continuations) file
+          at : (u : Universe) → Says 62 (lines_of bytes ++ kept_lines whole.0 continuations) u → ⊥
+          at _ (as_macrocell file are) = true_false (is_macrocell (lines_of bytes ++ kept_lines whole.0 continuations))
+              (mc_first (lines_of bytes ++ kept_lines whole.0 continuations) file are) format
+          at _ (as_rle file is) = (broken_for_good 62 h.front h.line h.kind h.breaks).2 (h.rest ++ kept_lines whole.0 continuations) file
               (subst (λ (t : List (List ℕ)). IsRle 62 t file) parts is)
 
       lacks : is_macrocell (lines_of bytes) ≡ false → LacksHeader 62 (lines_of bytes)
@@ -159,15 +160,16 @@ module _ (bytes : List ℕ) (fault : Fault) (r : Refuses 62 bytes fault) where
         | inr (inr h) ↦ absurd (no_broken m h)
       ]
 
-      by : (v : Bool) → is_macrocell (lines_of bytes) ≡ v → missing (lines_of bytes) ≡ Some fault.kind → pattern_of bytes ≡ Err fault
+      by : (v : Bool) → is_macrocell (lines_of bytes) ≡ v → missing_file_part (lines_of bytes) ≡ Some fault.kind → pattern_of bytes ≡ Err fault
       by true m h = let k : None ≡ Some fault.kind = sym (ap (λ v. cond v None (Some kinds.NoHeader)) m) ∙ h in cc
       by false m h =
           let some : Some kinds.NoHeader ≡ Some fault.kind = sym (ap (λ v. cond v None (Some kinds.NoHeader)) m) ∙ h in
           let kind : kinds.NoHeader ≡ fault.kind = cc in
           let l = lacks m in
           as_rle_lines bytes m ∙ rle_lacks (lines_of bytes) l.0 l.1
-          ∙ ap (λ (k : Kind). Err (fault_at (1 + length (lines_of bytes)) k)) kind
-          ∙ ap (λ n. Err (fault_at n fault.kind)) (let plus : 1 + length (lines_of bytes) ≡ suc (length (lines_of bytes)) = omega arith in plus) ∙ ap Err told
+          ∙ ap (λ (k : Kind). Err (claimed_fault_at (1 + length (lines_of bytes)) k)) kind
+          ∙ ap (λ n. Err (claimed_fault_at n fault.kind)) (let plus : 1 + length (lines_of bytes) ≡ suc (length (lines_of bytes)) = omega arith in plus)
+          ∙ ap Err told
 
   -- a refused file has this fault
   pub refuses_agree : pattern_of bytes ≡ Err fault
@@ -185,7 +187,7 @@ module _ (bytes : List ℕ) (fault : Fault) (r : Refuses 62 bytes fault) where
       by (inr h) = at_end h
 
 -- room or memory was wanted
-pub want_as : (store : Nodes) (fault : Fault) → IsWant store fault → IsUnmet fault
+pub want_as : (store : Nodes) (fault : Fault) → IsShortageOf store fault → IsUnmet fault
 want_as store fault (inl e) = inr e
 want_as store fault (inr e) = inl e.0
 
@@ -213,7 +215,7 @@ both_files a b (Err e) h = tt
 
 -- why two files are not compared
 pub uncompared_as : (a b : List ℕ) (store : Nodes) (fault : Fault)
-    → Refuses 62 a fault ⊎ ((Accepted 62 a × Refuses 62 b fault) ⊎ IsWant store fault)
+    → Refuses 62 a fault ⊎ ((Accepted 62 a × Refuses 62 b fault) ⊎ IsShortageOf store fault)
     → (pattern_of a ≡ Err fault) ⊎ ((IsOk (pattern_of a) × (pattern_of b ≡ Err fault)) ⊎ IsUnmet fault)
 uncompared_as a b store fault (inl r) = inl (refuses_agree a fault r)
 uncompared_as a b store fault (inr (inl r)) = inr (inl (accepted_is_ok a r.0, refuses_agree b fault r.1))

@@ -12,17 +12,17 @@ use Rattle.life_mc.proofs.NodeLines.{node_lines_counted}
 use Rattle.life_canon.specs.Universe.{Universe}
 use Rattle.life_canon.specs.Listing.{canon_text, canonical_file}
 use Rattle.life_canon.specs.Laws.{FilesAreOnPlane, FilesAreUnique, TextsAreFiles}
-use Rattle.life_canon.specs.Texts.{IsCanonical, box_text, IsShown as LayerShown, IsBoxOf}
+use Rattle.life_canon.specs.Texts.{IsCanonical, box_text, IsShownText as LayerShown, IsBoxOf}
 use Rattle.claims.specs.Pattern.{Pattern}
 use Rattle.claims.specs.Files.{pattern_of}
-use Rattle.claims.specs.Counting.{node_lines}
-use Rattle.claims.specs.Rules.{rule_text}
-use Rattle.claims.specs.Shown.{IsBox, box_line, IsShown}
+use Rattle.claims.specs.Counting.{claimed_node_lines}
+use Rattle.claims.specs.Rules.{claimed_rule_text}
+use Rattle.claims.specs.Shown.{IsBox, box_line, IsClaimedShown}
 use Rattle.claims.proofs.RuleLaw.{rule_in}
 use Rattle.theorems.proofs.FileLaw.{files_agree}
 use Rattle.theorems.proofs.CellsLaw.{same_cells}
 
-pub rule_text_is : (rule : LayerRule) → rule_text (rule_in rule) ≡ layer_text rule
+pub rule_text_is : (rule : LayerRule) → claimed_rule_text (rule_in rule) ≡ layer_text rule
 rule_text_is (Named name) = refl
 rule_text_is (Life rule) = by rule.near (digits_of rule.sets.births) (digits_of rule.sets.survivals)
   where
@@ -47,16 +47,17 @@ same_box d (Some box) h = record { inside = h.inside; at_left = h.at_left; at_ri
 
 -- the pattern of a file and what is told of it
 pub shown_is : FilesAreOnPlane 62 → FilesAreUnique 62 → TextsAreFiles 62 → (bytes lines text : List ℕ) → LayerShown 62 bytes lines → IsCanonical 62 bytes text
-    → (pattern : Pattern) × (pattern_of bytes ≡ Ok pattern) × IsShown pattern (node_lines text) lines
+    → (pattern : Pattern) × (pattern_of bytes ≡ Ok pattern) × IsClaimedShown pattern (claimed_node_lines text) lines
 shown_is on_plane unique files bytes lines text s c =
     let u = s.universe in
     let v = c.universe in
     let p = files_agree bytes u s.reads in
     let same : u ≡ v = unique (lines_of bytes) u v s.reads c.reads in
     let h = files v (on_plane bytes v c.reads) in
-    let counted : layer_node_lines (canonical_file 62 v) ≡ node_lines (canon_text 62 v) = node_lines_counted 62 (canon_text 62 v) (canonical_file 62 v) h.0 in
-    let nodes : layer_node_lines (canonical_file 62 u) ≡ node_lines text =
-    ap (λ (w : Universe). layer_node_lines (canonical_file 62 w)) same ∙ counted ∙ ap node_lines (sym c.is) in
+    let counted : layer_node_lines (canonical_file 62 v)
+    ≡ claimed_node_lines (canon_text 62 v) = node_lines_counted 62 (canon_text 62 v) (canonical_file 62 v) h.0 in
+    let nodes : layer_node_lines (canonical_file 62 u) ≡ claimed_node_lines text =
+    ap (λ (w : Universe). layer_node_lines (canonical_file 62 w)) same ∙ counted ∙ ap claimed_node_lines (sym c.is) in
     let cells : p.pattern.cell ≡ u.cell = λ i x y. p.cells x y i in (
       p.pattern,
       p.is,
@@ -67,10 +68,10 @@ shown_is on_plane unique files bytes lines text s c =
         is_box = subst (λ (f : ℤ → ℤ → ℕ). IsBox f s.box) (sym cells) (same_box u.cell s.box s.least);
         is = s.is
             ∙ ap (λ (r : List ℕ). told (length s.cells) r u.generation (box_text s.box) (layer_node_lines (canonical_file 62 u)))
-            (sym (ap rule_text p.rule ∙ rule_text_is u.rule))
-            ∙ ap (λ g. told (length s.cells) (rule_text p.pattern.rule) g (box_text s.box) (layer_node_lines (canonical_file 62 u))) (sym p.generation)
-            ∙ ap (λ (b : List ℕ). told (length s.cells) (rule_text p.pattern.rule) p.pattern.generation b (layer_node_lines (canonical_file 62 u)))
+            (sym (ap claimed_rule_text p.rule ∙ rule_text_is u.rule))
+            ∙ ap (λ g. told (length s.cells) (claimed_rule_text p.pattern.rule) g (box_text s.box) (layer_node_lines (canonical_file 62 u))) (sym p.generation)
+            ∙ ap (λ (b : List ℕ). told (length s.cells) (claimed_rule_text p.pattern.rule) p.pattern.generation b (layer_node_lines (canonical_file 62 u)))
             (sym (box_line_is s.box))
-            ∙ ap (λ n. told (length s.cells) (rule_text p.pattern.rule) p.pattern.generation (box_line s.box) n) nodes;
+            ∙ ap (λ n. told (length s.cells) (claimed_rule_text p.pattern.rule) p.pattern.generation (box_line s.box) n) nodes;
       },
     )

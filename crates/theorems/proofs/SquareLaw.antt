@@ -8,11 +8,11 @@ use Rattle.life_base.specs.Tree.{Tree, quad, depth, is_blank_tree, point as tree
 use Rattle.life_base.specs.declared.rule.Rule.{Rule as LayerRule}
 use Rattle.life_base.specs.declared.rule.Rule.TheVariants.{Life, Named}
 use Rattle.life_mc.specs.Macrocell.{largest_state}
-use Rattle.life_mc.specs.Writing.{line_text, node_text, row_text, row_cells}
+use Rattle.life_mc.specs.Writing.{line_text, node_text, row_text, leaf_row_text}
 use Rattle.life_mc.specs.declared.line.Line.TheVariants.{Leaf}
 use Rattle.life_canon.specs.Universe.{square}
-use Rattle.life_canon.specs.Listing.{same_tree, is_in, is_small, with_new, with_all, place, number_of, rows_of, quad_line, line_of, walk as tree_walk}
-use Rattle.claims.specs.Canonical.{Square, point, quarters, square_at, square_level, is_blank_square, same_square, walk, first_visits, child_number, state_rows, leaf_row, square_line}
+use Rattle.life_canon.specs.Listing.{same_tree, is_in, is_small, with_new, with_all, place, number_of_quarter, rows_of, quad_line, line_of, walk as tree_walk}
+use Rattle.claims.specs.Canonical.{Square, point, quarters, claimed_square_at, square_level, is_blank_square, same_square, claimed_walk, first_visits, child_number, state_rows, leaf_row, square_line}
 use Rattle.claims.proofs.Bits.{all_over, all_over_at, bit}
 use Rattle.claims.proofs.RuleLaw.{rule_in}
 use Rattle.life_base.proofs.Squares.{same_quads}
@@ -28,12 +28,12 @@ pub data HasLevel (most : ℕ) : ℕ → Square → Type 0 where
   quarters_level : {level : ℕ} {nw ne sw se : Square} → HasLevel most level nw → HasLevel most level ne → HasLevel most level sw → HasLevel most level se
       → HasLevel most (suc level) (quarters nw ne sw se)
 
-pub square_is : (f : ℤ → ℤ → ℕ) (level : ℕ) (x y : ℤ) → tree (square_at f level x y) ≡ square f level x y
+pub square_is : (f : ℤ → ℤ → ℕ) (level : ℕ) (x y : ℤ) → tree (claimed_square_at f level x y) ≡ square f level x y
 unfolding square
 square_is f zero x y = refl
 square_is f (suc level) x y = same_quads (square_is f level x y) (square_is f level _ _) (square_is f level _ _) (square_is f level _ _)
 
-pub level_at : (f : ℤ → ℤ → ℕ) (most : ℕ) → ((x y : ℤ) → f x y ≤ most) → (level : ℕ) (x y : ℤ) → HasLevel most level (square_at f level x y)
+pub level_at : (f : ℤ → ℤ → ℕ) (most : ℕ) → ((x y : ℤ) → f x y ≤ most) → (level : ℕ) (x y : ℤ) → HasLevel most level (claimed_square_at f level x y)
 level_at f most few zero x y = point_level (few x y)
 level_at f most few (suc level) x y =
     quarters_level (level_at f most few level x y) (level_at f most few level _ _) (level_at f most few level _ _) (level_at f most few level _ _)
@@ -77,11 +77,12 @@ five ws bs cs ds es =
     ∙ ap (λ (t : List Tree). map tree bs ++ t) (map-append tree cs (ds ++ es)
     ∙ ap (λ (t : List Tree). map tree cs ++ t) (map-append tree ds es)))
 
-pub walk_is : (m : ℕ) (s : Square) → map tree (walk m s) ≡ tree_walk (tree s) m
+pub walk_is : (m : ℕ) (s : Square) → map tree (claimed_walk m s) ≡ tree_walk (tree s) m
 walk_is m (point state) = refl
 walk_is m (quarters a b c d) =
-    map_unless (is_blank_square (quarters a b c d) || nat_lt (square_level a + 1) m) (walk m a ++ walk m b ++ walk m c ++ walk m d ++ quarters a b c d ∷ [])
-    ∙ (λ i. cond (small_is m a b c d i) [] (five (walk m a) (walk m b) (walk m c) (walk m d) (quarters a b c d ∷ []) i))
+    map_unless (is_blank_square (quarters a b c d) || nat_lt (square_level a + 1) m)
+    (claimed_walk m a ++ claimed_walk m b ++ claimed_walk m c ++ claimed_walk m d ++ quarters a b c d ∷ [])
+    ∙ (λ i. cond (small_is m a b c d i) [] (five (claimed_walk m a) (claimed_walk m b) (claimed_walk m c) (claimed_walk m d) (quarters a b c d ∷ []) i))
     ∙ (λ i. cond (is_small m (tree (quarters a b c d))) []
     (walk_is m a i ++ (walk_is m b i ++ (walk_is m c i ++ (walk_is m d i ++ tree (quarters a b c d) ∷ [])))))
 
@@ -110,7 +111,7 @@ place_is s (t ∷ all) = by (same_square s t) (position_or_len (same_square s) a
     by true n = refl
     by false n = omega arith
 
-number_is : (all : List Square) (s : Square) → child_number all s ≡ number_of (map tree all) (tree s)
+number_is : (all : List Square) (s : Square) → child_number all s ≡ number_of_quarter (map tree all) (tree s)
 number_is all (point state) = refl
 number_is all (quarters a b c d) =
     let s = quarters a b c d in
@@ -134,15 +135,16 @@ either_has : (most : ℕ) (v : Bool) (xs ys : List Square) → AllHaveLevels mos
 either_has most true xs ys h l = h
 either_has most false xs ys h l = l
 
-pub walk_has : (most m : ℕ) {level : ℕ} {s : Square} → HasLevel most level s → AllHaveLevels most (walk m s)
+pub walk_has : (most m : ℕ) {level : ℕ} {s : Square} → HasLevel most level s → AllHaveLevels most (claimed_walk m s)
 walk_has most m (point_level h) = tt
 walk_has most m (quarters_level {level = level} {nw = a} {ne = b} {sw = c} {se = d} p q r s) =
     let last = quarters a b c d ∷ [] in
-    either_has most (is_blank_square (quarters a b c d) || nat_lt (square_level a + 1) m) [] (walk m a ++ walk m b ++ walk m c ++ walk m d ++ last) tt
-    (both_have most (walk m a ++ walk m b ++ walk m c ++ walk m d) last
-    (both_have most (walk m a ++ walk m b ++ walk m c) (walk m d)
-    (both_have most (walk m a ++ walk m b) (walk m c)
-    (both_have most (walk m a) (walk m b) (walk_has most m p) (walk_has most m q)) (walk_has most m r)) (walk_has most m s))
+    either_has most (is_blank_square (quarters a b c d) || nat_lt (square_level a + 1) m) []
+    (claimed_walk m a ++ claimed_walk m b ++ claimed_walk m c ++ claimed_walk m d ++ last) tt
+    (both_have most (claimed_walk m a ++ claimed_walk m b ++ claimed_walk m c ++ claimed_walk m d) last
+    (both_have most (claimed_walk m a ++ claimed_walk m b ++ claimed_walk m c) (claimed_walk m d)
+    (both_have most (claimed_walk m a ++ claimed_walk m b) (claimed_walk m c)
+    (both_have most (claimed_walk m a) (claimed_walk m b) (walk_has most m p) (walk_has most m q)) (walk_has most m r)) (walk_has most m s))
     ((level, quarters_level p q r s), tt))
 
 pub visits_have : (most : ℕ) (known squares : List Square) → AllHaveLevels most known → AllHaveLevels most squares
@@ -167,11 +169,11 @@ row_number bits =
     + 2 * one (bit bits 6) + one (bit bits 7)
 
 abbrev row_test : List Bool → Bool
-unfolding row_cells
+unfolding leaf_row_text
 row_test bits = bytes_eq (leaf_row (row_states bits)) (row_text (row_number bits))
 
 rows_pass : all_over 8 row_test ≡ true
-unfolding row_cells
+unfolding leaf_row_text
 rows_pass = refl
 
 is_one : (a : ℕ) → a ≤ 1 → a ≡ one (a == 1)
@@ -238,8 +240,8 @@ quarters_are all a b c d =
     let numbers = map tree all in
     (λ i. decimal (level_is (quarters a b c d) i) ++ (codes " " ++ (decimal (number_is all a i) ++ (codes " " ++ (decimal (number_is all b i) ++ (codes " "
     ++ (decimal (number_is all c i) ++ (codes " " ++ append-nil (decimal (number_is all d i)) i))))))))
-    ∙ sym (nine (decimal (depth (tree (quarters a b c d)))) (decimal (number_of numbers (tree a))) (decimal (number_of numbers (tree b)))
-    (decimal (number_of numbers (tree c))) (decimal (number_of numbers (tree d))) (codes " "))
+    ∙ sym (nine (decimal (depth (tree (quarters a b c d)))) (decimal (number_of_quarter numbers (tree a))) (decimal (number_of_quarter numbers (tree b)))
+    (decimal (number_of_quarter numbers (tree c))) (decimal (number_of_quarter numbers (tree d))) (codes " "))
 
 line_is : (rule : LayerRule) (all : List Square) {level : ℕ} {s : Square} → HasLevel (largest_state rule) (suc level) s
     → square_line (rule_in rule) all s ≡ node_text (line_of rule (map tree all) (tree s))

@@ -7,14 +7,14 @@ use Rattle.life_base.specs.declared.rule.Rule.{Rule as LayerRule}
 use Rattle.life_base.specs.declared.rule.Rule.TheVariants.{Life, Named}
 use Rattle.life_mc.specs.Macrocell.{largest_state}
 use Rattle.life_rle.specs.Written.{rle_text}
-use Rattle.life_mc.specs.Writing.{mc_text, node_text, generation_text}
-use Rattle.life_canon.specs.Universe.{Universe, IsOnPlane, IsWithin, IsBlankOutside, corner, centred, whole, least_level as layer_least}
+use Rattle.life_mc.specs.Writing.{mc_text, node_text, generation_line_text}
+use Rattle.life_canon.specs.Universe.{Universe, IsOnPlane, IsWithin, IsBlankOutside, corner, centred_square, whole, least_level as layer_least}
 use Rattle.life_canon.specs.Laws.{FilesAreOnPlane}
 use Rattle.life_canon.specs.Texts.{IsCanonical, IsRleOf}
-use Rattle.life_canon.specs.Listing.{walk as tree_walk, canonical_file, canon_text, line_of, listed, square_file, with_all}
+use Rattle.life_canon.specs.Listing.{walk as tree_walk, canonical_file, canon_text, line_of, listed_squares, square_file, with_all}
 use Rattle.life_canon.proofs.WholeSquares.{IsLeastSquare, least_square}
 use Rattle.claims.specs.Pattern.{Pattern}
-use Rattle.claims.specs.Canonical.{Square, square_at, middle_square, is_in_middle, HoldsAllCells, least_level, walk, first_visits, square_line, square_text, IsTextOfPattern}
+use Rattle.claims.specs.Canonical.{Square, claimed_square_at, middle_square, is_in_middle, HoldsAllCells, claimed_least_level, claimed_walk, first_visits, square_line, claimed_square_text, IsTextOfPattern}
 use Rattle.claims.proofs.RuleLaw.{rule_in}
 use Rattle.claims.specs.RleText.{IsRleOfPattern}
 use Rattle.claims.proofs.RleTextLaw.{rle_of_pattern}
@@ -27,32 +27,34 @@ use Rattle.life_base.proofs.Basics.{within_span, right_of_and, left_of_and, doub
 
 -- ---- the text of a square
 
-least_is : (rule : LayerRule) → least_level (rule_in rule) ≡ layer_least rule
+least_is : (rule : LayerRule) → claimed_least_level (rule_in rule) ≡ layer_least rule
 least_is (Life sets) = refl
 least_is (Named name) = refl
 
-squares_are : (rule : LayerRule) (s : Square) → map tree (first_visits [] (walk (least_level (rule_in rule)) s)) ≡ listed (tree s) (layer_least rule)
-unfolding listed
+squares_are : (rule : LayerRule) (s : Square) → map tree (first_visits [] (claimed_walk (claimed_least_level (rule_in rule)) s))
+    ≡ listed_squares (tree s) (layer_least rule)
+unfolding listed_squares
 squares_are rule s =
-    visits_are [] (walk (least_level (rule_in rule)) s) ∙ ap (with_all [])
-    (walk_is (least_level (rule_in rule)) s ∙ ap (λ m. tree_walk (tree s) m) (least_is rule))
+    visits_are [] (claimed_walk (claimed_least_level (rule_in rule)) s) ∙ ap (with_all [])
+    (walk_is (claimed_least_level (rule_in rule)) s ∙ ap (λ m. tree_walk (tree s) m) (least_is rule))
 
 text_is : (rule : LayerRule) (generation : ℕ) {level : ℕ} (s : Square) → HasLevel (largest_state rule) level s
-    → square_text (rule_in rule) generation s ≡ mc_text (square_file rule generation (tree s))
+    → claimed_square_text (rule_in rule) generation s ≡ mc_text (square_file rule generation (tree s))
 text_is rule generation s h =
-    let squares = first_visits [] (walk (least_level (rule_in rule)) s) in
-    let have = visits_have (largest_state rule) [] (walk (least_level (rule_in rule)) s) tt (walk_has (largest_state rule) (least_level (rule_in rule)) h) in
-    let all : List Tree = listed (tree s) (layer_least rule) in
+    let squares = first_visits [] (claimed_walk (claimed_least_level (rule_in rule)) s) in
+    let have = visits_have (largest_state rule) [] (claimed_walk (claimed_least_level (rule_in rule)) s) tt
+    (walk_has (largest_state rule) (claimed_least_level (rule_in rule)) h) in
+    let all : List Tree = listed_squares (tree s) (layer_least rule) in
     let lines : flat_map (square_line (rule_in rule) squares) squares ≡ flat_map node_text (map (line_of rule all) all) =
     lines_are rule squares squares have ∙ ap (λ (t : List Tree). flat_map node_text (map (line_of rule t) t)) (squares_are rule s) in
-    λ i. codes "[M2] (canonical 1)\n#R " ++ rule_text_is rule i ++ codes "\n" ++ generation_text generation ++ lines i
+    λ i. codes "[M2] (canonical 1)\n#R " ++ rule_text_is rule i ++ codes "\n" ++ generation_line_text generation ++ lines i
 
 -- ---- the plane
 
-middle_is : (f : ℤ → ℤ → ℕ) (k : ℕ) → tree (middle_square f (suc k)) ≡ centred f (suc k)
-unfolding centred corner
+middle_is : (f : ℤ → ℤ → ℕ) (k : ℕ) → tree (middle_square f (suc k)) ≡ centred_square f (suc k)
+unfolding centred_square corner
 middle_is f k =
-    ap (λ n. tree (square_at f (suc k) (neg_ℤ (pos (2 ^ n))) (neg_ℤ (pos (2 ^ n))))) (less_one k) ∙ square_is f (suc k) (neg_ℤ (pos (2 ^ k)))
+    ap (λ n. tree (claimed_square_at f (suc k) (neg_ℤ (pos (2 ^ n))) (neg_ℤ (pos (2 ^ n))))) (less_one k) ∙ square_is f (suc k) (neg_ℤ (pos (2 ^ k)))
     (neg_ℤ (pos (2 ^ k)))
 
 west_of : (x : ℤ) (h : ℕ) → (int_le (neg_ℤ (pos h)) x && int_lt x (pos h)) ≡ true → neg_ℤ (pos h) ≤ℤ x
@@ -150,4 +152,4 @@ one_text_of pattern s t a b =
     let up = a.least b.level b.high b.holds in
     let down = b.least a.level a.high a.holds in
     let level : a.level ≡ b.level = omega (arith, up, down) in
-    a.is ∙ ap (λ n. square_text pattern.rule pattern.generation (middle_square pattern.cell n)) level ∙ sym b.is
+    a.is ∙ ap (λ n. claimed_square_text pattern.rule pattern.generation (middle_square pattern.cell n)) level ∙ sym b.is

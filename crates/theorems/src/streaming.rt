@@ -1,9 +1,9 @@
 //! A file that comes from a source, and whose canonical text goes to a sink.
 
 ghost use Rattle.std.specs.Prelude.{◌≡◌, ◌≢◌, ◌⊎◌, ◌≤◌, ◌^◌, ◌++◌, ℕ, List, [], length, true, false, Some, IfOk, IfErr, IsErrAnd, OnOk};
-ghost use Rattle.theorems.specs.Words.{IsTextOfFile, Same, IsStreamFault};
+ghost use Rattle.theorems.specs.Words.{IsTextOfFile, SayOnePattern, IsStreamFault};
 
-use crate::room::Room;
+use crate::room::StoreOptions;
 use life_base::{Fault, Kind, Sink, Source};
 use life_canon::laws::{files_are_on_plane, files_are_unique, texts_keep_patterns};
 use life_canon::{canon, run_canon};
@@ -19,7 +19,7 @@ use std::alloc::Global;
 /// source failed; `WriteFault` where the sink failed or took no bytes.
 pub fn stream_to_stream<R: Source, W: Sink>(
     alloc: Global,
-    room: Room,
+    room: StoreOptions,
     reader: &mut R,
     writer: &mut W,
 ) -> Result<(), Fault>
@@ -28,7 +28,7 @@ pub fn stream_to_stream<R: Source, W: Sink>(
     ensures done { (bytes held : List ℕ) → R.remaining reader.old ≡ Some bytes
         → W.contents writer.old ≡ Some held
         → OnOk result
-        ((text : List ℕ) × (W.contents writer.new ≡ Some (held ++ text)) × Same bytes text
+        ((text : List ℕ) × (W.contents writer.new ≡ Some (held ++ text)) × SayOnePattern bytes text
         × IsTextOfFile bytes text) }
     ensures whole { (bytes : List ℕ) → R.remaining reader.old ≡ Some bytes
         → OnOk result ((R.remaining reader.new ≡ Some []) × (length bytes ≤ 2 ^ 30)) }
@@ -51,8 +51,8 @@ pub fn stream_to_stream<R: Source, W: Sink>(
 /// What is written to a sink that reports what it holds is the canonical text that `canon` makes of the bytes of the source.
 pub fn stream_writes_the_text<R: Source, W: Sink>(
     alloc: Global,
-    one: Room,
-    other: Room,
+    one: StoreOptions,
+    other: StoreOptions,
     reader: &mut R,
     writer: &mut W,
     file: &[u8],

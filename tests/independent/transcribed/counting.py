@@ -19,5 +19,5 @@ def has_leaves(data):
 
 
 def is_rival(rule, rival):
-    """Whether a file of the same pattern, under this rule, is one that the canonical text has to be no longer than: `IsRival` without `same`."""
+    """Whether a file of the same pattern, under this rule, is one that the canonical text has to be no longer than: `IsClaimedRival` without `same`."""
     return begins_with(rival, b"[M2]") and (is_counting(rule) or not has_leaves(rival))

@@ -4,7 +4,7 @@ from .pattern import EDGE
 
 
 def shift(columns, rows, cells):
-    """The cells of `q` where `IsShift p q` holds with so many columns and rows: `q.cell (x + columns) (y + rows)` is `p.cell x y`."""
+    """The cells of `q` where `IsClaimedShift p q` holds with so many columns and rows: `q.cell (x + columns) (y + rows)` is `p.cell x y`."""
     return {(x + columns, y + rows): state for (x, y), state in cells.items()}
 
 
@@ -26,7 +26,7 @@ IMAGES = [(exchange, columns, rows) for exchange in (False, True) for columns in
 
 
 def box_of(cells):
-    """The box of `IsLeastBox`, or None where there are no cells."""
+    """The box of `IsClaimedBoundingBox`, or None where there are no cells."""
     if not cells:
         return None
     columns, rows = [x for x, _ in cells], [y for _, y in cells]
@@ -38,13 +38,13 @@ def is_in_place(first, last):
 
 
 def first_in_place(first, last):
-    """The only first column or row that `IsInPlace` allows where the last one is as far from it as here."""
+    """The only first column or row that `IsInClaimedPlace` allows where the last one is as far from it as here."""
     in_place, = {it for it in (0, EDGE - 1 - (last - first)) if is_in_place(it, it + last - first)}
     return in_place
 
 
 def moved(cells):
-    """The cells of the `moved` that `IsMovedText` allows. A pattern without cells is every shift of itself."""
+    """The cells of the `moved` that `IsClaimedMovedText` allows. A pattern without cells is every shift of itself."""
     box = box_of(cells)
     if box is None:
         return cells
@@ -58,12 +58,12 @@ def is_up_to(first, second):
 
 
 def moved_text(cells, text_of):
-    """The only text that `IsMovedText` allows, where `text_of` gives the canonical text of cells."""
+    """The only text that `IsClaimedMovedText` allows, where `text_of` gives the canonical text of cells."""
     return text_of(moved(cells))
 
 
 def turned_text(cells, text_of):
-    """The only text that `IsTurnedText` allows: that of the eight which is up to each of them."""
+    """The only text that `IsClaimedTurnedText` allows: that of the eight which is up to each of them."""
     texts = [moved_text(image(*how, cells), text_of) for how in IMAGES]
     return next(text for text in texts if all(is_up_to(text, other) for other in texts))
 

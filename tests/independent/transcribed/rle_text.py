@@ -72,5 +72,5 @@ def box_lines(rule, generation, box, cells):
 
 
 def rle_of_pattern(rule, generation, box, cells):
-    """The only text that `IsRleOfPattern` allows, by the pattern's box, and by its cells in the order of `AreCells`: by rows, and in a row by columns."""
+    """The only text that `IsRleOfPattern` allows, by the pattern's box, and by its cells in the order of `AreClaimedCells`: by rows, and in a row by columns."""
     return b"".join(line + codes("\n") for line in box_lines(rule, generation, box, cells))

@@ -14,7 +14,7 @@ def box_line(box):
 
 
 def shown(rule, generation, population, box, nodes):
-    """The text of `IsShown`."""
+    """The text of `IsClaimedShown`."""
     return (
         codes("rule ") + rule_text(rule) + codes("\ngeneration ") + decimal(generation) + codes("\npopulation ") + decimal(population) + codes("\n")
         + box_line(box) + codes("nodes ") + decimal(nodes) + codes("\n")

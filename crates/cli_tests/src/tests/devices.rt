@@ -3,7 +3,7 @@
 ghost use Rattle.std.specs.Prelude.{◌≡◌, ◌≤◌, ◌↔◌, Some, IsSome, IfSome, IsTrue, true, false};
 ghost use Rattle.std.proofs.Common.{rules};
 ghost use Rattle.life_base.specs.DeviceState.{has_failed};
-ghost use Rattle.life_base.specs.Devices.{count_of};
+ghost use Rattle.life_base.specs.Devices.{flag_count};
 ghost use Rattle.life_cli.specs.Plans.{HasSecond};
 
 use life_base::{Device, Kind, Sink, Source};
@@ -97,7 +97,7 @@ pub struct Limited {
 }
 
 impl Sink for Limited {
-    ghost failures = { λ s. count_of s.failed };
+    ghost failures = { λ s. flag_count s.failed };
 
     ghost contents = { λ s. Some s.taken.items };
 
@@ -105,7 +105,7 @@ impl Sink for Limited {
 
     ghost flushed = { λ s. s.flushed };
 
-    ghost at_most_one = { λ s. elim s.failed as (λ f. count_of f ≤ 1) [ true ↦ Prim.search rules | false ↦ Prim.search rules ] };
+    ghost at_most_one = { λ s. elim s.failed as (λ f. flag_count f ≤ 1) [ true ↦ Prim.search rules | false ↦ Prim.search rules ] };
 
     fn failed(&self) -> bool {
         self.failed

@@ -2,7 +2,7 @@
 
 ghost use Rattle.std.specs.Prelude.{IfOk, codes, map};
 ghost use Rattle.clap.specs.Words.{fault_of};
-ghost use Rattle.command_line.specs.Words.{App, Rule, HasMatchesOf, FailsBy, new_app, with_rule, with_subcommand, required_file, option, required_option, with_explain, one_file_line, two_files_line, canon_line, convert_line, same_line, show_line, step_line, files_rule, files_line, keys_line, flag, short_flag, named, program, HasRule, ReadsAs};
+ghost use Rattle.command_line.specs.Words.{App, Rule, HasMatchesOf, FailsBy, new_app, with_rule, with_subcommand, required_file, option, required_option, with_explain, one_file_line, two_files_line, canon_line, convert_line, same_line, show_line, step_line, files_rule, files_line, keys_line, flag, short_flag, named_program, program, HasRule, ReadsAs};
 
 use super::help::{CANON, CONVERT, DUPLICATES, Help, KEYS, PROGRAM, SAME, SHOW, STEP};
 use clap::{Arg, ArgAction, ArgMatches, Command, Error};
@@ -194,7 +194,7 @@ fn step<'a>(alloc: Global) -> Result<Command<'a>, AllocError>
 
 /// The program without its commands.
 fn bare<'a>(alloc: Global) -> Result<Command<'a>, AllocError>
-    ensures { IfOk result (λ command. ReadsAs named command) }
+    ensures { IfOk result (λ command. ReadsAs named_program command) }
 {
     let command = described(alloc, "golly_canon", PROGRAM).version("0.2.0");
     command.subcommand_required(true).bin_name("golly_canon")

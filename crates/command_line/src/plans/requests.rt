@@ -1,7 +1,7 @@
 //! The plan that the words ask for.
 
 ghost use Rattle.std.specs.Prelude.{◌≡◌, ◌↔◌, ◌<◌, [], IfOk, IfErr, OnOk, MatchOption, Some, IsSome, IsTrue, map, option_map, string_bytes, codes, count_by};
-ghost use Rattle.command_line.specs.Words.{bytes_eq, found_of, first_of, rows_of, subcommand_of, subcommand_rows_of, program, AreOfTask, AreWhole, IfWork, IsFound, IsPlanOf, IsRequestOf, IsTaskPlanOf, TakesOtherForm, task_of, task_plan_of, IsValueOf, HasNoForm, HasNoFormat, HasSecond, HoldsFile, HoldsFiles, HoldsFlag, HoldsForm, HoldsKeys, NamesInputTwice, Explains, ExplainsPlan, RefusesAs, RefusesKeys, RefusesWord, form_word, input_count, input_count_under, target_word, values_of};
+ghost use Rattle.command_line.specs.Words.{bytes_eq, found_of, first_of, rows_of, subcommand_of, subcommand_rows_of, program, AreOfTask, AreWhole, IfWork, IsFoundAmong, IsPlanOf, IsRequestOf, IsTaskPlanOf, TakesOtherForm, task_of, task_plan_of, IsValueOf, HasNoForm, HasNoFormat, HasSecond, HasOneFile, HoldsFiles, HoldsFlag, HoldsForm, HoldsKeys, NamesInputTwice, Explains, ExplainsPlan, RefusesAs, RefusesKeys, RefusesWord, form_word, input_count, input_count_under, target_word, values_of};
 ghost use Rattle.clap.specs.Words.{fault_of, kind_of};
 
 use super::commands::parse;
@@ -51,7 +51,7 @@ fn value<'a>(found: &ArgMatches<'a>, id: &str) -> Option<&'a str>
 }
 
 fn required(alloc: Global, found: &ArgMatches<'_>, id: &str) -> Result<String, Usage>
-    requires { IsFound id.now (rows_of (found_of found.now)) }
+    requires { IsFoundAmong id.now (rows_of (found_of found.now)) }
     ensures ok { IfOk result
         (λ s. first_of id.now (rows_of (found_of found.now)) ≡ Some (string_bytes s)) }
     ensures err { IfErr result (λ usage. usage ≡ Usage.Memory) }
@@ -75,7 +75,7 @@ fn target_named(word: &str) -> Option<Target>
 
 /// The format that `--to` names.
 fn target(alloc: Global, found: &ArgMatches<'_>) -> Result<Target, Usage>
-    requires { IsFound (codes "to") (rows_of (found_of found.now)) }
+    requires { IsFoundAmong (codes "to") (rows_of (found_of found.now)) }
     ensures ok { IfOk result
         (λ t. first_of (codes "to") (rows_of (found_of found.now)) ≡ Some (target_word t)) }
     ensures err { IfErr result (RefusesWord (HasNoFormat (rows_of (found_of found.now)))) }
@@ -133,8 +133,8 @@ fn is_set(found: &ArgMatches<'_>, id: &str) -> bool
 
 /// The plan of a task over one file.
 fn over_file(alloc: Global, found: &ArgMatches<'_>, task: Task) -> Result<TaskPlan, Usage>
-    requires { IsFound (codes "FILE") (rows_of (found_of found.now)) }
-    ensures ok { IfOk result (λ p. (p.task ≡ task) × HoldsFile (rows_of (found_of found.now)) p
+    requires { IsFoundAmong (codes "FILE") (rows_of (found_of found.now)) }
+    ensures ok { IfOk result (λ p. (p.task ≡ task) × HasOneFile (rows_of (found_of found.now)) p
         × HoldsFlag (codes "explain") (rows_of (found_of found.now)) p.explain) }
     ensures err { IfErr result (λ usage. usage ≡ Usage.Memory) }
 {
@@ -155,8 +155,8 @@ fn over_files(
     first: &str,
     second: &str,
 ) -> Result<TaskPlan, Usage>
-    requires first { IsFound first.now (rows_of (found_of found.now)) }
-    requires second { IsFound second.now (rows_of (found_of found.now)) }
+    requires first { IsFoundAmong first.now (rows_of (found_of found.now)) }
+    requires second { IsFoundAmong second.now (rows_of (found_of found.now)) }
     ensures ok { IfOk result
         (λ p. (p.task ≡ task) × HoldsFiles first.now second.now (rows_of (found_of found.now)) p
         × HoldsFlag (codes "explain") (rows_of (found_of found.now)) p.explain) }
@@ -173,7 +173,7 @@ fn over_files(
 }
 
 fn step(alloc: Global, found: &ArgMatches<'_>) -> Result<TaskPlan, Usage>
-    requires { IsFound (codes "FILE") (rows_of (found_of found.now)) }
+    requires { IsFoundAmong (codes "FILE") (rows_of (found_of found.now)) }
     ensures ok { IfOk result (IsTaskPlanOf (Some (codes "step", rows_of (found_of found.now)))) }
     ensures err { IfErr result (λ usage. usage ≡ Usage.Memory) }
 {

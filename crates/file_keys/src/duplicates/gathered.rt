@@ -1,7 +1,7 @@
 //! What a run of the command `duplicates` keeps of its files.
 
 ghost use Rattle.std.specs.Prelude.{◌≡◌, [], true};
-ghost use Rattle.file_keys.specs.Words.{classes_in, is_empty, IsToldAs, kept_groups, Puts, status_by, with_outcome};
+ghost use Rattle.file_keys.specs.Words.{classes_in, is_empty, IsToldAs, kept_groups, PutsFile, status_by, with_outcome};
 
 use super::groups::Groups;
 use crate::keys::outcome::Outcome;
@@ -52,7 +52,8 @@ impl<'a> Gathered<'a> {
     pub(super) fn put<E: Sink>(&mut self, name: &'a [u8], outcome: Outcome, err: &mut E)
         requires { self.old.tells ≡ true → E.failures err.old ≡ 0 }
         ensures { (told : _) × IsToldAs outcome told
-            × Puts E.contents E.failures E.stalled err.old err.new self.old self.new name.now told }
+            × PutsFile E.contents E.failures E.stalled err.old err.new self.old self.new name.now
+            told }
     {
         let told = keep(&mut self.groups, name, outcome);
         self.tells = tell_outcome(self.tells, err, name, &told);

@@ -1,7 +1,7 @@
 //! The command `duplicates`: its files, one after another, and then the groups.
 
 ghost use Rattle.std.specs.Prelude.{◌≡◌, [], false, map};
-ghost use Rattle.file_keys.specs.Words.{sink_run, CanBegin, CanGather, end_of, Gathers, IsGroupStatus, Listed, names_in, RanDuplicates, Word};
+ghost use Rattle.file_keys.specs.Words.{sink_run, CanBegin, CanGather, end_byte_of_name, Gathers, IsGroupStatus, Listed, names_in, RanDuplicates, Word};
 
 use super::gathered::Gathered;
 use super::texts::write_groups;
@@ -43,7 +43,7 @@ impl<'a, R: Source + Drop, F: FnMut(Origin<'_>) -> IoResult<R> + Drop> Gathering
         requires { CanGather F.IsAlwaysCallable self.old (E.failures err.old) }
         ensures can { CanGather F.IsAlwaysCallable self.new (E.failures err.new) }
         ensures gathers { Gathers F.step R.remaining R.failures E.contents E.failures E.stalled
-            self.old.files.form (map Listed (names_in (end_of zero) list.now)) []
+            self.old.files.form (map Listed (names_in (end_byte_of_name zero) list.now)) []
             self.old.files.opener self.new.files.opener err.old err.new self.old.gathered
             self.new.gathered }
     {

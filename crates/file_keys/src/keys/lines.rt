@@ -1,7 +1,7 @@
 //! The lines of the command `keys`.
 
 ghost use Rattle.std.specs.Prelude.{◌≡◌, ◌<◌, ◌≤◌, ◌⊎◌, [], ◌∷◌, ◌++◌, OnOk, IfErr, true, codes, length, drop, take, slice_index, nat_lt};
-ghost use Rattle.file_keys.specs.Words.{list_any, LeavesSink, WritesText, error_line, escaped, escaped_byte, fault_text, is_special, key_line, name_mark, reason_of, refused_line, unopened_line, IsMemory};
+ghost use Rattle.file_keys.specs.Words.{list_any, LeavesSink, WritesText, error_line, escaped_name, escaped_byte, fault_text, is_special, key_line, name_mark, reason_of, refused_line, unopened_line, IsMemory};
 
 use super::outcome::Outcome;
 use fault_sentences::sentence;
@@ -12,7 +12,7 @@ use std::io::ErrorKind;
 
 /// How many bytes at the beginning of a name are written as they are: those before the first backslash, LF or CR.
 fn plain_front(name: &[u8]) -> usize
-    ensures plain { escaped (take result name.now) ≡ take result name.now }
+    ensures plain { escaped_name (take result name.now) ≡ take result name.now }
     ensures within { result ≤ length name.now }
     ensures next { result < length name.now → is_special (slice_index name.now result) ≡ true }
     ensures any { list_any is_special name.now ≡ nat_lt result (length name.now) }
@@ -39,7 +39,7 @@ fn escape(byte: u8) -> &'static [u8]
 fn first_piece(name: &[u8]) -> (&[u8], usize)
     requires { 0 < length name.now }
     ensures count { (0 < result.1) × (result.1 ≤ length name.now) }
-    ensures piece { escaped name.now ≡ result.0.now ++ escaped (drop result.1 name.now) }
+    ensures piece { escaped_name name.now ≡ result.0.now ++ escaped_name (drop result.1 name.now) }
 {
     match plain_front(name) {
         0 => (escape(name[0]), 1),
@@ -49,7 +49,7 @@ fn first_piece(name: &[u8]) -> (&[u8], usize)
 
 /// Adds a name, with backslash, LF and CR escaped.
 fn append_escaped(line: &mut Vec<u8>, name: &[u8]) -> Result<(), Kind>
-    ensures ok { OnOk result (line.new.items ≡ line.old.items ++ escaped name.now) }
+    ensures ok { OnOk result (line.new.items ≡ line.old.items ++ escaped_name name.now) }
     ensures kind { IfErr result IsMemory }
 {
     let mut rest = name;
@@ -64,7 +64,8 @@ fn append_escaped(line: &mut Vec<u8>, name: &[u8]) -> Result<(), Kind>
 /// Writes a name, with backslash, LF and CR escaped.
 pub(crate) fn write_escaped<E: Sink>(err: &mut E, name: &[u8]) -> Result<(), Kind>
     requires { E.failures err.old ≡ 0 }
-    ensures text { WritesText (E.contents err.old) (E.contents err.new) (escaped name.now) result }
+    ensures text { WritesText (E.contents err.old) (E.contents err.new) (escaped_name name.now)
+        result }
     ensures sink { LeavesSink E.failures E.stalled err.old err.new result }
 {
     let mut rest = name;
@@ -90,7 +91,7 @@ fn mark(name: &[u8]) -> &'static [u8]
 /// Adds the line of a key, which ends in LF.
 fn append_plain_line(line: &mut Vec<u8>, digits: &[u8], name: &[u8]) -> Result<(), Kind>
     ensures ok { OnOk result (line.new.items ≡ line.old.items ++ (name_mark name.now
-        ++ (digits.now ++ (codes "  " ++ (escaped name.now ++ codes "\n"))))) }
+        ++ (digits.now ++ (codes "  " ++ (escaped_name name.now ++ codes "\n"))))) }
     ensures kind { IfErr result IsMemory }
 {
     append(line, mark(name))?;
@@ -135,7 +136,7 @@ pub(super) fn append_key_line(
 fn write_name<E: Sink>(err: &mut E, name: &[u8]) -> Result<(), Kind>
     requires { E.failures err.old ≡ 0 }
     ensures text { WritesText (E.contents err.old) (E.contents err.new)
-        (escaped name.now ++ codes ": ") result }
+        (escaped_name name.now ++ codes ": ") result }
     ensures sink { LeavesSink E.failures E.stalled err.old err.new result }
 {
     write_escaped(err, name)?;

@@ -1,7 +1,7 @@
 //! What a run of the command `keys` writes of its files.
 
 ghost use Rattle.std.specs.Prelude.{◌≡◌, true, false, max};
-ghost use Rattle.file_keys.specs.Words.{LeavesSink, sink_run, fault_of, fault_line, refusal_of, status_of, Tells, error_line, IsToldAs, object_text, outcome_line, outcome_status, output_line, report_line, TellsOn, Writes, WritesText};
+ghost use Rattle.file_keys.specs.Words.{LeavesSink, sink_run, fault_of, fault_line, refusal_of, status_of, Reports, error_line, IsToldAs, object_text, outcome_line, outcome_status, output_line, report_line, TellsOn, WritesFiles, WritesText};
 
 use super::lines::{append_key_line, write_error_line};
 use super::objects::write_object_whole;
@@ -61,7 +61,7 @@ pub(crate) fn tell_outcome<E: Sink>(
 /// Reports why the run ends early, unless `tells` says that `err` takes no more reports, and returns the status of that.
 pub(crate) fn break_off<E: Sink>(tells: bool, err: &mut E, kind: Kind) -> u8
     requires { tells ≡ true → E.failures err.old ≡ 0 }
-    ensures told { tells ≡ true → Tells (sink_run E.contents E.failures E.stalled err.old err.new)
+    ensures told { tells ≡ true → Reports (sink_run E.contents E.failures E.stalled err.old err.new)
         (fault_line (refusal_of (fault_of kind))) }
     ensures silent { tells ≡ false → err.new ≡ err.old }
     ensures status { result ≡ status_of kind }
@@ -127,7 +127,7 @@ impl Outputs {
         requires works { W.failures out.old ≡ 0 }
         requires hears { self.old.tells ≡ true → E.failures err.old ≡ 0 }
         ensures taken { (told : _) × IsToldAs outcome told
-            × Writes W.contents E.contents E.failures E.stalled out.old out.new err.old err.new
+            × WritesFiles W.contents E.contents E.failures E.stalled out.old out.new err.old err.new
             self.old self.new result (outcome_line zero name.now told)
             (error_line name.now told) (outcome_status told) }
         ensures sink { LeavesSink W.failures W.stalled out.old out.new result }
@@ -150,7 +150,7 @@ impl Outputs {
         requires works { W.failures out.old ≡ 0 }
         requires hears { self.old.tells ≡ true → E.failures err.old ≡ 0 }
         ensures taken { (told : _) × IsToldAs outcome told
-            × Writes W.contents E.contents E.failures E.stalled out.old out.new err.old err.new
+            × WritesFiles W.contents E.contents E.failures E.stalled out.old out.new err.old err.new
             self.old self.new result (output_line self.old.style name.now told)
             (report_line self.old.style name.now told) (outcome_status told) }
         ensures sink { LeavesSink W.failures W.stalled out.old out.new result }
@@ -167,7 +167,7 @@ impl Outputs {
     pub(super) fn break_off<E: Sink>(&self, err: &mut E, kind: Kind) -> u8
         requires hears { self.now.tells ≡ true → E.failures err.old ≡ 0 }
         ensures told { self.now.tells ≡ true
-            → Tells (sink_run E.contents E.failures E.stalled err.old err.new)
+            → Reports (sink_run E.contents E.failures E.stalled err.old err.new)
             (fault_line (refusal_of (fault_of kind))) }
         ensures silent { self.now.tells ≡ false → err.new ≡ err.old }
         ensures status { result ≡ status_of kind }

@@ -1,7 +1,7 @@
 //! The command `keys`: its files, one after another.
 
 ghost use Rattle.std.specs.Prelude.{◌≡◌, OnOk, false, true, map};
-ghost use Rattle.file_keys.specs.Words.{sink_run, CanBegin, CanTake, LeavesSink, IsStatus, end_of, Listed, names_among, names_in, Ran, TakesNames, Word};
+ghost use Rattle.file_keys.specs.Words.{sink_run, CanBegin, CanTake, LeavesSink, IsStatus, end_byte_of_name, Listed, names_among, names_in, KeysRan, TakesNames, Word};
 
 use super::files::Files;
 use super::names::first_name;
@@ -57,7 +57,7 @@ impl<R: Source + Drop, F: FnMut(Origin<'_>) -> IoResult<R> + Drop> Run<F> {
         ensures callable { F.IsAlwaysCallable self.new.files.opener }
         ensures took { TakesNames F.step R.remaining R.failures W.contents E.contents E.failures
             E.stalled self.old.files.form
-            (map Listed (names_in (end_of zero) list.now))
+            (map Listed (names_in (end_byte_of_name zero) list.now))
             self.old.files.opener self.new.files.opener out.old out.new err.old err.new
             self.old.outputs self.new.outputs result }
         ensures sink { LeavesSink W.failures W.stalled out.old out.new result }
@@ -119,7 +119,7 @@ where
     E: Sink,
     requires { CanBegin F.IsAlwaysCallable W.failures W.stalled E.failures E.stalled
         opener out.old err.old }
-    ensures ran { Ran F.step R.remaining R.failures plan.now opener
+    ensures ran { KeysRan F.step R.remaining R.failures plan.now opener
         (sink_run W.contents W.failures W.stalled out.old out.new)
         (sink_run E.contents E.failures E.stalled err.old err.new) (W.flushed out.new) result }
     ensures status { IsStatus result }

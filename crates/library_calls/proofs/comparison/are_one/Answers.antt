@@ -2,7 +2,7 @@ use Rattle.std.proofs.Common.{ℕ, ◌∙◌, IfOk, OnOk, sym, subst, ◌↔◌,
 use Rattle.std.proofs.lemmas.Result.{IfOk-weaker, IfErr-weaker, err_from_is_err_and}
 use Rattle.life_forms.specs.Forms.{IsShift, IsTurnedShift}
 use Rattle.library_calls.specs.Comparing.{SomeToReadBoth}
-use Rattle.library_calls.specs.ComparingInForm.{AreOneInForm, HasTooLarge, RefusesEitherInForm}
+use Rattle.library_calls.specs.ComparingInForm.{AreOneInForm, OneHasFormLargerThan, RefusesEitherInForm}
 use Rattle.library_calls.specs.InForm.{form_room}
 use Rattle.library_calls.specs.Texts.{NeedsMore}
 use Rattle.library_calls.specs.declared.pattern_form.PatternForm.{PatternForm}
@@ -60,19 +60,20 @@ returns-in-Moved-clause-answer c =
 
 pub returns-in-Placed-clause-small : goal.returns-in-Placed-clause-small
 returns-in-Placed-clause-small c =
-    λ limit fresh. subst (λ (f : PatternForm). ¬ HasTooLarge f (form_room limit) c.args.first.now c.args.second.now) (sym c.in-Placed.is) (λ large. large)
+    λ limit fresh. subst (λ (f : PatternForm). ¬ OneHasFormLargerThan f (form_room limit) c.args.first.now c.args.second.now) (sym c.in-Placed.is)
+    (λ large. large)
 
 pub returns-in-Moved-clause-small : goal.returns-in-Moved-clause-small
 returns-in-Moved-clause-small c =
     IfOk-weaker c.are_shifts.result _ _ (λ answer small limit fresh.
-    subst (λ (f : PatternForm). ¬ HasTooLarge f (form_room limit) c.args.first.now c.args.second.now) (sym c.in-Moved.is)
+    subst (λ (f : PatternForm). ¬ OneHasFormLargerThan f (form_room limit) c.args.first.now c.args.second.now) (sym c.in-Moved.is)
     (small-moved c.files_are_unique.ensures c.patterns_fit.ensures limit c.args.first.now c.args.second.now c.read_both.new.store _ _
     (c.read_both.ensures.limit ∙ fresh.most) c.in_ok-a.ensures.one c.in_ok-a.ensures.other small)) c.are_shifts.ensures.small
 
 pub returns-clause-small : goal.returns-clause-small
 returns-clause-small c =
     IfOk-weaker c.are_turns.result _ _ (λ answer small limit fresh.
-    subst (λ (f : PatternForm). ¬ HasTooLarge f (form_room limit) c.args.first.now c.args.second.now) (sym c.in-Turned.is)
+    subst (λ (f : PatternForm). ¬ OneHasFormLargerThan f (form_room limit) c.args.first.now c.args.second.now) (sym c.in-Turned.is)
     (small-turned c.files_are_unique.ensures c.patterns_fit.ensures limit c.args.first.now c.args.second.now c.read_both.new.store _ _
     (c.read_both.ensures.limit ∙ fresh.most) c.in_ok-a.ensures.one c.in_ok-a.ensures.other small)) c.are_turns.ensures.small
 

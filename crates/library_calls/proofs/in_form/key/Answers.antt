@@ -1,6 +1,6 @@
 use Rattle.std.proofs.Common.{refl, sym, ap, ◌∙◌, subst}
 use Rattle.sha2.specs.Sha256.{sha256}
-use Rattle.library_calls.specs.Outputs.{IsTextOf, RefusesTextOf}
+use Rattle.library_calls.specs.Outputs.{IsOutputText, RefusesTextOf}
 use Rattle.library_calls.specs.Told.{by_text, by_fault}
 use Rattle.library_calls.specs.declared.texts.Output.{Output}
 use Rattle.library_calls.proofs.Answering.{at-form, no-text}
@@ -12,7 +12,7 @@ returns-in-Ok-clause-answers c =
     at-form _ _ _ c.in-Some.form (sym c.form_of.ensures ∙ c.in-Some.is) (by_text c.digest.result (
       c.in-Ok.text.items,
       in-form c.in-Some.form c.args.options.limit c.args.bytes.now c.in-Ok.text.items
-          (subst (λ (f : Output). IsTextOf f c.args.options.limit c.args.bytes.now c.in-Ok.text.items) c.text_in.ensures c.in-Ok.ensures.text),
+          (subst (λ (f : Output). IsOutputText f c.args.options.limit c.args.bytes.now c.in-Ok.text.items) c.text_in.ensures c.in-Ok.ensures.text),
       c.digest.ensures ∙ ap sha256 c.as_slice.ensures.value,
     ) c.give.ensures.gives c.give.ensures.line)
 

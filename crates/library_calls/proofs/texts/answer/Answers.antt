@@ -1,10 +1,10 @@
-use Rattle.library_calls.specs.Outputs.{IsTextOf, RefusesTextOf}
+use Rattle.library_calls.specs.Outputs.{IsOutputText, RefusesTextOf}
 use Rattle.library_calls.proofs.Answering.{answered, where-told}
 use Rattle.library_calls.proofs.texts.answer.Goals as goal
 
 pub returns-clause-answers : goal.returns-clause-answers
 returns-clause-answers c =
-    answered (λ text. text.items) (IsTextOf c.args.output c.args.options.limit c.args.bytes.now)
+    answered (λ text. text.items) (IsOutputText c.args.output c.args.options.limit c.args.bytes.now)
     (RefusesTextOf c.args.output c.args.options.limit c.args.bytes.now) _ _ _
     c.text_of_file.result c.text_of_file.ensures.text c.text_of_file.ensures.fault c.tell.ensures.gives c.tell.ensures.no_line c.tell.ensures.tells
 

@@ -1,5 +1,5 @@
 use Rattle.std.proofs.Common.{◌++◌, ℕ, List, ◌∙◌, ap, sym, take}
-use Rattle.theorems.specs.Joined.{joined}
+use Rattle.theorems.specs.Joined.{all_bytes}
 use Rattle.theorems.proofs.PieceLaw.{joined_more}
 use Rattle.library_theorems.proofs.Pieces.{fed, took_more, told_at_end}
 use Rattle.library_theorems.proofs.streams.told_of_pieces.Goals as goal
@@ -12,12 +12,12 @@ loop-piece-preserved c = λ form limit begun.
     let i = c.loop-piece.piece-index in
     let pieces = c.args.pieces.now in
     took_more form limit pieces i c.deref.result.now c.loop-piece.stream.held.session c.feed.new.stream.held.session
-    (ap (λ (t : List ℕ). joined (take i pieces) ++ t) (c.deref.ensures.value ∙ ap (λ v. v.items) c.piece-item.is)
+    (ap (λ (t : List ℕ). all_bytes (take i pieces) ++ t) (c.deref.ensures.value ∙ ap (λ v. v.items) c.piece-item.is)
     ∙ sym (joined_more pieces i c.piece-item.result c.loop-piece-test.true))
-    (c.feed.ensures.feeds.takes form limit (joined (take i pieces))) c.feed.ensures.feeds.stays.fault (c.loop-piece.invariant form limit begun)
+    (c.feed.ensures.feeds.takes form limit (all_bytes (take i pieces))) c.feed.ensures.feeds.stays.fault (c.loop-piece.invariant form limit begun)
 
 pub returns : goal.returns
 returns c = λ form limit begun.
     told_at_end c.faults_stay.ensures form limit c.args.pieces.now c.loop-piece.piece-index c.loop-piece.stream.held.session
-    c.finish-told.new.stream.held.session _ _ _ c.loop-piece-test.false (c.finish-told.ensures.finishes.ends form limit (joined c.args.pieces.now))
+    c.finish-told.new.stream.held.session _ _ _ c.loop-piece-test.false (c.finish-told.ensures.finishes.ends form limit (all_bytes c.args.pieces.now))
     c.finish-told.ensures.finishes.stays.fault c.finish-told.ensures.tells (c.loop-piece.invariant form limit begun)

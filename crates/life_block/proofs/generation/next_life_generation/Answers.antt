@@ -4,7 +4,7 @@ use Rattle.life_base.specs.Sets.{OuterTotalistic}
 use Rattle.life_base.specs.Tree.{depth, tree_cell}
 use Rattle.life_base.specs.declared.cell.TheConstants.{MAX_LEVEL}
 use Rattle.life_quad.specs.Cells.{population}
-use Rattle.life_quad.specs.Keeping.{IsWantFault}
+use Rattle.life_quad.specs.Keeping.{IsShortageFault}
 use Rattle.life_quad.proofs.KeepingLemmas.{adds-as}
 use Rattle.life_sweep.specs.Generation.{next_life, LifeAnswers}
 use Rattle.life_sweep.specs.Refused.{SomeNext, GenerationRefusal}
@@ -32,7 +32,7 @@ returns-then-branch-clause-accepted g c =
 pub returns-then-branch-clause-refusals : goal.returns-then-branch-clause-refusals
 returns-then-branch-clause-refusals g c =
     let now = c.next_generation.new.squares in
-    subst (λ (rule : OuterTotalistic). IfErr c.next_generation.result (λ f. IsWantFault (g.S.Squares.stored now) (g.S.Squares.most now) f
+    subst (λ (rule : OuterTotalistic). IfErr c.next_generation.result (λ f. IsShortageFault (g.S.Squares.stored now) (g.S.Squares.most now) f
     ⊎ GenerationRefusal (LifeAnswers rule) 2 c.args.most (g.S.Squares.content c.args.squares.now c.args.id) (Some f)))
     c.new-law.ensures c.next_generation.ensures.refusals
 

@@ -2,7 +2,7 @@ use Rattle.std.proofs.Common.{◌≤◌, ◌⊎◌, Ok, Some, IfErr, ap, arith}
 use Rattle.std.proofs.lemmas.Result.{err_from_is_err_and}
 use Rattle.life_base.specs.Tree.{tree_cell}
 use Rattle.life_quad.specs.Cells.{population}
-use Rattle.life_quad.specs.Keeping.{AddsOnly, IsWantFault}
+use Rattle.life_quad.specs.Keeping.{AddsOnly, IsShortageFault}
 use Rattle.life_sweep.specs.Refused.{GenerationRefusal, SomeNext}
 use Rattle.life_block.proofs.LawPlaneLemmas.{accepted-by, of-equals, of-option}
 use Rattle.life_block.proofs.law_generation.next_law_generation.Goals as goal
@@ -26,7 +26,7 @@ returns-in-Some-clause-accepted g c =
 pub returns-clause-refusals : goal.returns-clause-refusals
 returns-clause-refusals g c =
     let now = c.next_generation.new.squares in
-    of-equals (λ l s. IfErr c.next_generation.result (λ f. IsWantFault (g.S.Squares.stored now) (g.S.Squares.most now) f
+    of-equals (λ l s. IfErr c.next_generation.result (λ f. IsShortageFault (g.S.Squares.stored now) (g.S.Squares.most now) f
     ⊎ GenerationRefusal (g.L.Law.answers l) (g.L.Law.bound l) c.args.most (g.S.Squares.content s c.args.id) (Some f)))
     c.in_ok-next.ensures.same (c.in_ok-next.ensures.unchanged (ap Ok c.in_default.is)) c.next_generation.ensures.refusals
 

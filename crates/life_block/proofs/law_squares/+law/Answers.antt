@@ -2,7 +2,7 @@ use Rattle.std.proofs.Common.{◌≡◌, ◌+◌, ◌-◌, ◌^◌, refl, sym, �
 use Rattle.std.proofs.lemmas.Result.{IfOk-weaker}
 use Rattle.life_quad.proofs.KeepingLemmas.{keeps-then}
 use Rattle.life_block.specs.Laws.{IsNextAt, IsPieceBy}
-use Rattle.life_block.specs.Pieces.{IsAt, AreNine, ahead}
+use Rattle.life_block.specs.Pieces.{IsOfLevel, AreNine, step_ahead}
 use Rattle.life_block.proofs.LawPieceLemmas.{if-some, joined-pieces, next-of_blanks, piece-by, remembers-by, RemembersBy-kept, RemembersBy-more}
 use Rattle.life_block.proofs.PieceLemmas.{first-of_four, last-of_four, western-nine, eastern-nine}
 use Rattle.life_block.proofs.law_squares.+law.Goals as goal
@@ -22,7 +22,7 @@ next_of-returns-clause-remembers g t c =
     (record {
       level = c.args.level;
       known = c.requires.known;
-      at = subst (λ l. IsAt (g.T.Squares.knows c.next_of_middle.new.to) (g.T.Squares.content c.next_of_middle.new.to) l c.in_ok-next.next) level n.at;
+      at = subst (λ l. IsOfLevel (g.T.Squares.knows c.next_of_middle.new.to) (g.T.Squares.content c.next_of_middle.new.to) l c.in_ok-next.next) level n.at;
       right = λ cells x y h. n.next cells x y (c.quarters-sixteen.ensures.pieces cells x y
           (subst (λ l. AreNine (g.S.Squares.content c.args.from.now) cells (2 ^ l) x y c.args.nine.now) (sym level) h));
     })
@@ -66,11 +66,11 @@ next_of_middle-returns-clause-next g t c =
     (λ r is cells x y h. joined-pieces _ (IsNextAt (g.L.Law.answers law) (g.L.Law.bound law) cells) c.args.level x y refl ne.keeps sw.keeps se.keeps
     nw.at ne.at sw.at
     (nw.next cells _ _ (western-nine content cells c.western.ensures (first-of_four c.front.ensures h)))
-    (piece-by g.L.Law.answers g.L.Law.bound second cells (ahead x side) y (next c.next_of-2.new.to c.in_ok-ne.ne)
+    (piece-by g.L.Law.answers g.L.Law.bound second cells (step_ahead x side) y (next c.next_of-2.new.to c.in_ok-ne.ne)
     (ne.next cells _ _ (eastern-nine content cells c.eastern.ensures (first-of_four c.front-2.ensures h))))
-    (piece-by g.L.Law.answers g.L.Law.bound third cells x (ahead y side) (next c.next_of-3.new.to c.in_ok-sw.sw)
+    (piece-by g.L.Law.answers g.L.Law.bound third cells x (step_ahead y side) (next c.next_of-3.new.to c.in_ok-sw.sw)
     (sw.next cells _ _ (western-nine content cells c.western-2.ensures (last-of_four c.rear.ensures h))))
-    (piece-by g.L.Law.answers g.L.Law.bound fourth cells (ahead x side) (ahead y side) (next c.next_of-4.new.to c.in_ok-se.se)
+    (piece-by g.L.Law.answers g.L.Law.bound fourth cells (step_ahead x side) (step_ahead y side) (next c.next_of-4.new.to c.in_ok-se.se)
     (se.next cells _ _ (eastern-nine content cells c.eastern-2.ensures (last-of_four c.rear-2.ensures h))))
     is)
     c.join.ensures.square)

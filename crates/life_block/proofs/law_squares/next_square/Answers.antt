@@ -1,7 +1,7 @@
 use Rattle.std.proofs.Common.{◌≡◌, ◌+◌, ◌-◌, ◌^◌, sym, ◌∙◌, ap, arith}
 use Rattle.life_base.specs.Tree.{depth, tree_cell}
 use Rattle.life_block.specs.Laws.{IsNextAt}
-use Rattle.life_block.specs.Pieces.{ahead}
+use Rattle.life_block.specs.Pieces.{step_ahead}
 use Rattle.life_block.proofs.LawPieceLemmas.{if-some, joined-level, joined-pieces, piece-by, RemembersBy-none, square-next}
 use Rattle.life_block.proofs.RootLemmas.{IsDivided, quarters-at, outer, around-north_west, around-north_east, around-south_west, around-south_east}
 use Rattle.life_block.proofs.law_squares.next_square.Given.{Over}
@@ -55,11 +55,11 @@ returns-clause-next g c =
     (joined-pieces _ (IsNextAt (g.L.Law.answers law) (g.L.Law.bound law) (tree_cell t)) (depth t) (outer t) (outer t) (sym d.level)
     ne.keeps sw.keeps se.keeps nw.at ne.at sw.at
     (nw.next (tree_cell t) _ _ (around-north_west d c.with-around.ensures))
-    (piece-by g.L.Law.answers g.L.Law.bound second (tree_cell t) (ahead start side) start (next c.next_of_middle-2.new.to c.in_ok-north_east.north_east)
+    (piece-by g.L.Law.answers g.L.Law.bound second (tree_cell t) (step_ahead start side) start (next c.next_of_middle-2.new.to c.in_ok-north_east.north_east)
     (ne.next (tree_cell t) _ _ (around-north_east d c.with-around-2.ensures)))
-    (piece-by g.L.Law.answers g.L.Law.bound third (tree_cell t) start (ahead start side) (next c.next_of_middle-3.new.to c.in_ok-south_west.south_west)
+    (piece-by g.L.Law.answers g.L.Law.bound third (tree_cell t) start (step_ahead start side) (next c.next_of_middle-3.new.to c.in_ok-south_west.south_west)
     (sw.next (tree_cell t) _ _ (around-south_west d c.with-around-3.ensures)))
-    (piece-by g.L.Law.answers g.L.Law.bound fourth (tree_cell t) (ahead start side) (ahead start side)
+    (piece-by g.L.Law.answers g.L.Law.bound fourth (tree_cell t) (step_ahead start side) (step_ahead start side)
     (next c.next_of_middle-4.new.to c.in_ok-south_east.south_east)
     (se.next (tree_cell t) _ _ (around-south_east d c.with-around-4.ensures)))
     is))

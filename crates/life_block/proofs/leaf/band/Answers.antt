@@ -1,16 +1,16 @@
 use Rattle.std.proofs.Common.{◌≡◌, refl, arith}
 use Rattle.std.proofs.lemmas.Int.{ints}
-use Rattle.life_block.specs.Pieces.{back, ahead}
+use Rattle.life_block.specs.Pieces.{step_back, step_ahead}
 use Rattle.life_block.proofs.BandLemmas.{band-of_squares}
 use Rattle.life_block.proofs.SquareLemmas.{square-of}
 use Rattle.life_block.proofs.leaf.band.Goals as goal
 
 pub returns : goal.returns
 returns g c cells x y binary h =
-    let start = back x 4 in
-    let second : x ≡ ahead start 4 = omega (arith, ints) in
-    let third : ahead x 4 ≡ ahead start 8 = omega (arith, ints) in
-    let fourth : ahead (ahead x 4) 4 ≡ ahead start 12 = omega (arith, ints) in
+    let start = step_back x 4 in
+    let second : x ≡ step_ahead start 4 = omega (arith, ints) in
+    let third : step_ahead x 4 ≡ step_ahead start 8 = omega (arith, ints) in
+    let fourth : step_ahead (step_ahead x 4) 4 ≡ step_ahead start 12 = omega (arith, ints) in
     let a = c.cells_in-a.ensures in
     let b = c.cells_in-b.ensures in
     let d = c.cells_in-c.ensures in

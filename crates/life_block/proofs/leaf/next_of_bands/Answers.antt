@@ -10,7 +10,7 @@ use Rattle.life_sweep.specs.Generation.{next_life}
 use Rattle.life_sweep.proofs.NeedLemmas.{adds-more}
 use Rattle.life_block.specs.Bits.{AreBands}
 use Rattle.life_block.specs.Needed.{SomeOfBands}
-use Rattle.life_block.specs.Pieces.{back, ahead}
+use Rattle.life_block.specs.Pieces.{step_back, step_ahead}
 use Rattle.life_block.proofs.BandLemmas.{HasBand-moved}
 use Rattle.life_block.proofs.NeedLemmas.{AreParts, is-piece, joined-is, own-part, part-of_parts, still-needs}
 use Rattle.life_block.proofs.leaf.next_of_bands.Given.{Over}
@@ -35,15 +35,15 @@ words : (g : Over) (c : After-next_squares-south g) (cells : ℤ → ℤ → ℕ
     let south = c.next_squares-south.result in
     AreParts (next_life c.args.rule.now cells) 2 x y (four north.0) (four north.1) (four south.0) (four south.1)
 words g c cells x y h =
-    let above : y ≡ back (ahead y 4) 4 = omega (arith, ints) in
+    let above : y ≡ step_back (step_ahead y 4) 4 = omega (arith, ints) in
     let north = c.next_squares-north.ensures in
     let south = c.next_squares-south.ensures in
-    let over = HasBand-moved cells (back x 4) y (back (ahead y 4) 4) c.args.bands.now.second above h.second in
+    let over = HasBand-moved cells (step_back x 4) y (step_back (step_ahead y 4) 4) c.args.bands.now.second above h.second in
     record {
       nw = north.west cells x y h.first h.second h.third;
       ne = north.east cells x y h.first h.second h.third;
-      sw = south.west cells x (ahead y 4) over h.third h.fourth;
-      se = south.east cells x (ahead y 4) over h.third h.fourth;
+      sw = south.west cells x (step_ahead y 4) over h.third h.fourth;
+      se = south.east cells x (step_ahead y 4) over h.third h.fourth;
     }
 
 -- so the four answers are its quarters

@@ -1,17 +1,17 @@
 use Rattle.std.proofs.Common.{◌≡◌, ℕ, ◌+◌, ◌*◌, ◌/◌, ◌%◌, ◌^◌, ◌≤◌, ℤ, arith, refl, ◌∙◌, ap}
 use Rattle.std.proofs.lemmas.Int.{ints}
 use Rattle.life_sweep.specs.Generation.{next_life}
-use Rattle.life_block.specs.Bits.{HasBand, HasSquare}
+use Rattle.life_block.specs.Bits.{HasBand, HasSquareBits}
 use Rattle.life_block.specs.Needed.{square_from}
-use Rattle.life_block.specs.Pieces.{back, ahead}
+use Rattle.life_block.specs.Pieces.{step_back, step_ahead}
 use Rattle.life_block.proofs.BandLemmas.{next-square}
 use Rattle.life_block.proofs.SquareLemmas.{square-is}
 use Rattle.life_block.proofs.words.next_squares.Goals as goal
 
 -- one of the two squares in the middle
-middle : (c : goal.After-squares_of_rows-next) (cells : ℤ → ℤ → ℕ) (x y : ℤ) → HasBand cells x (back y 4) c.args.above → HasBand cells x y c.args.here
-    → HasBand cells x (ahead y 4) c.args.below → (q k : ℕ) → 1 ≤ q → q ≤ 2 → k + 16 * q ≡ 48
-    → HasSquare (next_life c.args.rule.now cells) (ahead x (4 * q)) y (c.squares_of_rows-next.result / 2 ^ k % 2 ^ 16)
+middle : (c : goal.After-squares_of_rows-next) (cells : ℤ → ℤ → ℕ) (x y : ℤ) → HasBand cells x (step_back y 4) c.args.above → HasBand cells x y c.args.here
+    → HasBand cells x (step_ahead y 4) c.args.below → (q k : ℕ) → 1 ≤ q → q ≤ 2 → k + 16 * q ≡ 48
+    → HasSquareBits (next_life c.args.rule.now cells) (step_ahead x (4 * q)) y (c.squares_of_rows-next.result / 2 ^ k % 2 ^ 16)
 middle c cells x y above here below =
     next-square c.args.rule.now cells x y (record { north = c.one_north.result; here = c.args.here; south = c.one_south.result })
     (c.one_north.ensures cells x y above here) here (c.one_south.ensures cells x y here below) c.next_word.result c.squares_of_rows-next.result
@@ -20,13 +20,13 @@ middle c cells x y above here below =
 pub returns-clause-west : goal.returns-clause-west
 returns-clause-west c cells x y above here below =
     let f = next_life c.args.rule.now cells in
-    let at : ahead (back x 4) 4 ≡ x = omega (arith, ints) in
-    square-is f (ahead (back x 4) 4) y _ (omega arith) (middle c cells (back x 4) y above here below 1 32 (omega arith) (omega arith) refl)
+    let at : step_ahead (step_back x 4) 4 ≡ x = omega (arith, ints) in
+    square-is f (step_ahead (step_back x 4) 4) y _ (omega arith) (middle c cells (step_back x 4) y above here below 1 32 (omega arith) (omega arith) refl)
     ∙ ap (λ z. square_from f 2 z y) at
 
 pub returns-clause-east : goal.returns-clause-east
 returns-clause-east c cells x y above here below =
     let f = next_life c.args.rule.now cells in
-    let at : ahead (back x 4) 8 ≡ ahead x 4 = omega (arith, ints) in
-    square-is f (ahead (back x 4) 8) y _ (omega arith) (middle c cells (back x 4) y above here below 2 16 (omega arith) (omega arith) refl)
+    let at : step_ahead (step_back x 4) 8 ≡ step_ahead x 4 = omega (arith, ints) in
+    square-is f (step_ahead (step_back x 4) 8) y _ (omega arith) (middle c cells (step_back x 4) y above here below 2 16 (omega arith) (omega arith) refl)
     ∙ ap (λ z. square_from f 2 z y) at

@@ -1,6 +1,6 @@
 use Rattle.std.proofs.lemmas.Result.{IfOk-weaker, err_from_is_err_and}
 use Rattle.life_base.specs.Lines.{whole_lines}
-use Rattle.life_quad.specs.Store.{held}
+use Rattle.life_quad.specs.Store.{stored_squares}
 use Rattle.life_quad.proofs.KeepingLemmas.{keeps-then, adds-as, adds-then}
 use Rattle.life_canon.proofs.CallFacts.{feed-fault}
 use Rattle.std.proofs.Common.{ℕ, ◌+◌, ◌<◌, List, [], ◌++◌, length, ap, sym, ◌∙◌, subst, arith, inl, IfErr, OnOk}
@@ -34,7 +34,7 @@ returns-in_err-feed-clause-reads c =
     let none = ap (λ (b : List ℕ). b ++ c.args.bytes.now) c.new-reader.ensures.bytes in
     let feeds = c.in_err-feed.ensures.feeds in
     let lines = subst (λ (b : List ℕ). AddsLines (whole_lines b) c.args.store.now c.feed.new.store) none feeds.adds in
-    let base = held c.args.store.now in
+    let base = stored_squares c.args.store.now in
     rw (p.1, p.2) (record {
       all = tt;
       needed = λ e. whole-needs (IsNew c.feed.new.store) c.args.bytes.now
@@ -53,13 +53,13 @@ returns-clause-reads c =
     let ends = c.finish.ensures.ends in
     let lines = subst (λ (b : List ℕ). AddsLines (whole_lines b) c.args.store.now c.feed.new.store) none feeds.adds in
     let file = subst (λ (b : List ℕ). AddsFile b c.feed.new.store c.finish.new.store) all ends.adds in
-    let base = held c.args.store.now in
+    let base = stored_squares c.args.store.now in
     let front : HoldsFront base c.new-reader.result.bytes c.args.store.now = λ t there. inl there in
     let held_front = (fronts_hold c.new-reader.result.bytes c.args.bytes.now base c.args.store.now c.feed.new.store front).0 feeds.adds in
     let only = (fronts_hold (c.new-reader.result.bytes ++ c.args.bytes.now) [] base c.feed.new.store c.feed.new.store held_front).1 in
     let limit = feeds.keeps.limit in
     record {
-      all = subst (λ (b : List ℕ). OnOk c.finish.result (HoldsFile b (held c.finish.new.store))) all ends.all;
+      all = subst (λ (b : List ℕ). OnOk c.finish.result (HoldsFile b (stored_squares c.finish.new.store))) all ends.all;
       needed = λ e. subst (λ (b : List ℕ). LacksFor MAX_LEVEL b c.finish.new.store) all (ends.needed e);
       adds = adds-then _ lines file (λ P s. whole-needs P c.args.bytes.now s) (λ P a. a);
       room = λ e.

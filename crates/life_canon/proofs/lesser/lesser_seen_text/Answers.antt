@@ -1,6 +1,6 @@
 use Rattle.std.proofs.Common.{refl}
-use Rattle.life_mc.specs.Writing.{front_text}
-use Rattle.life_canon.specs.Listing.{lines_for, listed, square_text}
+use Rattle.life_mc.specs.Writing.{header_lines_text}
+use Rattle.life_canon.specs.Listing.{lines_for, listed_squares, square_text}
 use Rattle.life_canon.specs.Store.{content}
 use Rattle.life_canon.specs.Universe.{least_level}
 use Rattle.life_canon.proofs.LesserFacts.{after-walk}
@@ -10,8 +10,8 @@ pub returns-clause-lesser : goal.returns-clause-lesser
 returns-clause-lesser g c =
     let pattern = c.args.pattern.now in
     let root = g.O.Orientation.seen c.args.orientation.now (content c.args.store.now pattern.root) in
-    let squares = listed root (least_level pattern.rule) in
-    after-walk c.args.best.items (front_text pattern.rule pattern.generation) (square_text pattern.rule pattern.generation root) _
+    let squares = listed_squares root (least_level pattern.rule) in
+    after-walk c.args.best.items (header_lines_text pattern.rule pattern.generation) (square_text pattern.rule pattern.generation root) _
     c.in_ok-text.text.bytes.items c.walk_pattern-walked.new.lines.bytes.items (lines_for pattern.rule squares) c.in_ok-text.text.lesser
     c.walk_pattern-walked.new.lines.lesser c.walk_pattern-walked.result c.in_ok-text.ensures.holds c.walk_pattern-walked.ensures.took
     c.walk_pattern-walked.ensures.broke c.in_ok-finish.ensures.lesser refl

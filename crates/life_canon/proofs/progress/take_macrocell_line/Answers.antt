@@ -9,8 +9,8 @@ use Rattle.life_base.specs.Tree.{Tree}
 use Rattle.life_base.specs.declared.cell.TheConstants.{MAX_LEVEL}
 use Rattle.life_base.specs.declared.kind.Kind.{Kind}
 use Rattle.life_base.specs.declared.rule.Rule.{Rule}
-use Rattle.life_mc.specs.Macrocell.{IsSquare, IsValid, level_of}
-use Rattle.life_mc.specs.Reading.{Accepts, squares_of}
+use Rattle.life_mc.specs.Macrocell.{IsSquare, IsValidMacrocell, level_of}
+use Rattle.life_mc.specs.Reading.{AcceptsMacrocell, squares_of}
 use Rattle.life_mc.specs.Squares.{line_tree, tree_of}
 use Rattle.life_mc.specs.declared.line.Line.{Line}
 use Rattle.life_quad.specs.Moves.{CanJoin, quad_of, quads_of}
@@ -32,7 +32,8 @@ use Rattle.life_canon.proofs.progress.take_macrocell_line.Goals as goal
 -- a node line behind others, which the store and the Ids are ready for
 module _ {X : Type 0} (S : Ghosts X) (old mid : X) (text : List (List ℕ)) (line : List ℕ) {all : LinesRead} {taken : Option Line} {square : Line}
     {ids here : List Id} {waiting left : List Quarters} {most : ℕ} (more : all ≡ record { lines = text ++ line ∷ []; refused = false })
-    (front : Prefix (Accepts MAX_LEVEL) all.lines) (squares : squares_of all.lines ≡ squares_of text ++ cons_option taken []) (is : taken ≡ Some square)
+    (front : Prefix (AcceptsMacrocell MAX_LEVEL) all.lines) (squares : squares_of all.lines ≡ squares_of text ++ cons_option taken [])
+    (is : taken ≡ Some square)
     (were : KeepsLines (S.knows old) (S.content old) text ids waiting)
     (keeps : (id : Id) → S.knows old id → S.knows mid id × (S.content mid id ≡ S.content old id))
     (ready : IsReadyFor S most square old mid ids waiting here left) where
@@ -88,9 +89,9 @@ module _ {X : Type 0} (S : Ghosts X) (old mid : X) (text : List (List ℕ)) (lin
   within : length here ≤ length lines
   within = omega (arith, count-of (S.knows mid) (S.content mid) lines here left kept)
 
-  valid : IsValid MAX_LEVEL (record { rule = next.rule; generation = next.generation; lines = first ++ behind })
+  valid : IsValidMacrocell MAX_LEVEL (record { rule = next.rule; generation = next.generation; lines = first ++ behind })
   valid =
-      subst (λ (ls : List Line). IsValid MAX_LEVEL (record { rule = next.rule; generation = next.generation; lines = ls })) (sym split)
+      subst (λ (ls : List Line). IsValidMacrocell MAX_LEVEL (record { rule = next.rule; generation = next.generation; lines = ls })) (sym split)
       (first-valid next.rule next.generation lines (square ∷ []) next.valid)
 
   first-is : IsSquare MAX_LEVEL next.rule (map level_of first) square
@@ -144,7 +145,7 @@ module _ {X : Type 0} (S : Ghosts X) (old mid : X) (text : List (List ℕ)) (lin
     behind = [];
     square = square;
     are = whole;
-    front = subst (Prefix (Accepts MAX_LEVEL)) whole front;
+    front = subst (Prefix (AcceptsMacrocell MAX_LEVEL)) whole front;
     squares = subst (λ (ls : List (List ℕ)). squares_of ls ≡ lines ++ square ∷ []) whole with-line;
     tree = e;
   }

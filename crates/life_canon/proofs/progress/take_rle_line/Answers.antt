@@ -5,7 +5,7 @@ use Rattle.life_base.specs.Tree.{Tree}
 use Rattle.life_base.specs.declared.cell.TheConstants.{MAX_LEVEL}
 use Rattle.life_base.specs.declared.kind.Kind.{Kind}
 use Rattle.life_rle.specs.File.{HasRuns}
-use Rattle.life_rle.specs.Grammar.{Breaks as BreaksRle}
+use Rattle.life_rle.specs.Grammar.{BreaksRle}
 use Rattle.life_base.specs.declared.cell.Run.{Run}
 use Rattle.life_quad.proofs.KeepingLemmas.{keeps-same, adds-none, adds-as}
 use Rattle.life_canon.specs.Building.{AreNext}

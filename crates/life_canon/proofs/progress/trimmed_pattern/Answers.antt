@@ -2,7 +2,7 @@ use Rattle.std.proofs.Common.{◌≡◌, ℕ, ℤ, ◌≤◌, max, sym, ap, ◌�
 use Rattle.life_base.specs.Tree.{Tree, depth, tree_cell, IsFull}
 use Rattle.life_base.specs.declared.cell.TheConstants.{MAX_LEVEL}
 use Rattle.life_base.specs.declared.rule.Rule.{Rule}
-use Rattle.life_quad.specs.Moves.{trimmed}
+use Rattle.life_quad.specs.Moves.{trimmed_square}
 use Rattle.life_quad.specs.Refused.{TrimmedTo}
 use Rattle.life_quad.proofs.GrowsLemmas.{grows-err, only-grows}
 use Rattle.life_quad.proofs.KeepingLemmas.{keeps-then, adds-as, adds-then}
@@ -27,7 +27,7 @@ returns-clause-pattern g c = λ u rule generation cells.
       rule = sym rule;
       generation = sym generation;
       known = c.in_ok-root-2.ensures.known;
-      root = c.in_ok-root-2.ensures.square ∙ ap (λ (n : ℕ). trimmed t n) (sym least) ∙ whole-is;
+      root = c.in_ok-root-2.ensures.square ∙ ap (λ (n : ℕ). trimmed_square t n) (sym least) ∙ whole-is;
     }
 
 pub returns-clause-grown : goal.returns-clause-grown

@@ -7,9 +7,9 @@ use Rattle.life_base.specs.Writing.{WritesPrefix}
 use Rattle.life_base.specs.declared.cell.TheConstants.{MAX_LEVEL}
 use Rattle.life_base.specs.declared.fault.Fault.{Fault}
 use Rattle.life_base.specs.declared.kind.Kind.TheVariants.{WriteFault}
-use Rattle.life_mc.specs.Writing.{node_text, front_text}
+use Rattle.life_mc.specs.Writing.{node_text, header_lines_text}
 use Rattle.life_quad.specs.Store.{Nodes}
-use Rattle.life_canon.specs.Listing.{canon_text, lines_for, listed}
+use Rattle.life_canon.specs.Listing.{canon_text, lines_for, listed_squares}
 use Rattle.life_canon.specs.Running.{HasRead, Wrote, by_reading, by_writing, by_want}
 use Rattle.life_canon.specs.Store.{content, universe_in}
 use Rattle.life_canon.specs.Universe.{least_level}
@@ -22,8 +22,8 @@ use Rattle.life_canon.proofs.runs.run_canon_within.Goals as goal
 
 -- the front and the lines of the pattern that was read are its text
 wrote : (most : ℕ) (store : Nodes) (source : SourceRun) (pattern : Pattern) (IsWritten : List ℕ → Type 0) (front : List ℕ)
-    → HasRead MAX_LEVEL most store source pattern → front ≡ front_text pattern.rule pattern.generation
-    → IsWritten (front ++ flat_map node_text (lines_for pattern.rule (listed (content store pattern.root) (least_level pattern.rule))))
+    → HasRead MAX_LEVEL most store source pattern → front ≡ header_lines_text pattern.rule pattern.generation
+    → IsWritten (front ++ flat_map node_text (lines_for pattern.rule (listed_squares (content store pattern.root) (least_level pattern.rule))))
     → Wrote MAX_LEVEL most source IsWritten
 wrote most store source pattern IsWritten front has is written = record {
   bytes = has.bytes;

@@ -1,10 +1,10 @@
 use Rattle.std.proofs.Common.{◌≡◌, ◌^◌, refl, rules}
 use Rattle.life_base.specs.declared.cell.TheConstants.{MAX_LEVEL}
 use Rattle.life_canon.specs.Files.{Refuses}
-use Rattle.life_canon.specs.Texts.{IsRleOf, IsShown}
+use Rattle.life_canon.specs.Texts.{IsRleOf, IsShownText}
 use Rattle.life_step.specs.Stepped.{IsStepped}
 use Rattle.pattern_sources.specs.Forms.{IsTextIn}
-use Rattle.life_cli.specs.Jobs.{by_reading, RefusesStep}
+use Rattle.life_cli.specs.Jobs.{by_reading, RefusesLifeStep}
 use Rattle.pattern_sources.specs.Sources.{RefusesInForm, RefusesMany}
 use Rattle.life_cli.specs.declared.jobs.Made.TheVariants.{Text}
 use Rattle.command_line.specs.declared.plans.Task.TheVariants.{Canon, Convert, Show, Step}
@@ -32,12 +32,12 @@ returns g c =
           rw (w.in-Same-Some.is-0, w.result-is, w.first-is, w.second-is, w.in-Same-Some.is-1) (made_of_comparison _ _ _ w.compared.result _
           w.compared.ensures.ok w.compared.ensures.err w.compared.ensures.told w.made_from_comparison.ensures.answer w.made_from_comparison.ensures.fault)
       | in-Show-default w ↦
-          rw (w.in-Show-default.is-0, w.result-is, w.first-is, w.second-is) (made_of_text Text (λ text. text.items) (IsShown MAX_LEVEL) (Refuses MAX_LEVEL)
+          rw (w.in-Show-default.is-0, w.result-is, w.first-is, w.second-is) (made_of_text Text (λ text. text.items) (IsShownText MAX_LEVEL) (Refuses MAX_LEVEL)
           Show _ _ w.five_lines_of_source.result _ (λ x. (refl, refl)) works (λ has. has) (λ bytes text is. (refl, is))
           (λ output refusal h. (h.0, by_reading h.1)) w.five_lines_of_source.ensures w.made_from_text-in-Show-default.ensures.text
           w.made_from_text-in-Show-default.ensures.fault)
       | in-Step-default w ↦
-          rw (w.in-Step-default.is-0, w.result-is, w.first-is, w.second-is) (made_of_text Text (λ text. text.items) IsStepped RefusesStep Step _ _
+          rw (w.in-Step-default.is-0, w.result-is, w.first-is, w.second-is) (made_of_text Text (λ text. text.items) IsStepped RefusesLifeStep Step _ _
           w.next_of.result _ (λ x. (refl, refl)) works (λ has. has) (λ bytes text is. (refl, is)) (λ output refusal h. (h.0, by_reading h.1))
           w.next_of.ensures w.made_from_text-in-Step-default.ensures.text w.made_from_text-in-Step-default.ensures.fault)
       | in-StepTable-Some w ↦

@@ -10,14 +10,14 @@ use Rattle.life_canon.specs.Store.{content, universe_in}
 use Rattle.life_canon.specs.Universe.{Universe, square_universe}
 use Rattle.life_forms.specs.Forms.{IsMoved}
 use Rattle.life_forms.specs.Needed.{HasLargerForm}
-use Rattle.life_forms.specs.Turns.{Turn, column_of, row_of, image}
+use Rattle.life_forms.specs.Turns.{Turn, turned_column, turned_row, image}
 use Rattle.life_forms.proofs.ImageFacts.{turned-cells}
 use Rattle.life_forms.proofs.PatternFacts.{cell-up-to, root-high}
 use Rattle.life_forms.proofs.images.moved_image.Goals as goal
 
 -- the square of an image, as a pattern, is the image of the pattern
 image-universe : (turn : Turn) (generation : ℕ) (rule other : Rule) (s t : Tree) → rule ≡ other
-    → ((x y : ℤ) → tree_cell s x y ≡ tree_cell t (column_of turn x y) (row_of turn x y))
+    → ((x y : ℤ) → tree_cell s x y ≡ tree_cell t (turned_column turn x y) (turned_row turn x y))
     → square_universe rule generation s ≡ image turn (square_universe other generation t)
 image-universe turn generation rule other s t e cells = λ i. record { rule = e i; generation = generation; cell = λ x y. cells x y i }
 
@@ -32,7 +32,7 @@ form_of-requires-clause-states c =
     let cells = turned-cells c.squares_are_centred.ensures c.centred_squares_tell_cells.ensures c.args.turn t s full also high level
     c.in-Ok.ensures.square in
     λ x y. subst₂ (λ (n : ℕ) (r : Rule). n ≤ largest_state r) (sym (cells x y)) (sym c.in_ok-rule.ensures.ok)
-    (cell-up-to _ t c.requires.trimmed.states (column_of c.args.turn x y) (row_of c.args.turn x y))
+    (cell-up-to _ t c.requires.trimmed.states (turned_column c.args.turn x y) (turned_row c.args.turn x y))
 
 pub returns-in-Ok-clause-moved : goal.returns-in-Ok-clause-moved
 returns-in-Ok-clause-moved c =

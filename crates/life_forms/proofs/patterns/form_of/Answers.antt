@@ -2,8 +2,8 @@ use Rattle.std.proofs.Common.{◌≡◌, inl, inr, ℕ, ap, ◌∙◌, subst, Er
 use Rattle.life_base.specs.Refusal.{OrMemory, fault_of}
 use Rattle.life_base.specs.declared.kind.Kind.{Kind}
 use Rattle.life_base.specs.declared.kind.Kind.TheVariants.{Full}
-use Rattle.life_quad.specs.Keeping.{IsWantKind}
-use Rattle.life_quad.specs.Store.{Nodes, held}
+use Rattle.life_quad.specs.Keeping.{IsShortageKind}
+use Rattle.life_quad.specs.Store.{Nodes, stored_squares}
 use Rattle.life_quad.proofs.LawLemmas.{known_squares_are_full}
 use Rattle.life_canon.specs.Store.{content}
 use Rattle.life_canon.specs.Universe.{Universe, square_universe}
@@ -28,7 +28,7 @@ returns-in-Err-clause-fault c = by c.in-Err.ensures.refusals
     new : Nodes
     new = c.moved_pattern-moved.new.to
 
-    by : IsWantKind (held new) new.limit c.in-Err.kind → OrMemory c.of.result ((c.of.result ≡ fault_of Full) × HasLargerForm c.args.most u)
+    by : IsShortageKind (stored_squares new) new.limit c.in-Err.kind → OrMemory c.of.result ((c.of.result ≡ fault_of Full) × HasLargerForm c.args.most u)
     by (inl memory) = inl (c.of.ensures ∙ ap fault_of memory)
     by (inr full) = inr (
       c.of.ensures ∙ ap fault_of full.0,

@@ -1,7 +1,7 @@
 use Rattle.std.proofs.Common.{◌≡◌, ◌++◌, ◌∙◌, ℕ, List, [], ap, append_assoc, append-nil, arith, codes, refl, sym}
 use Rattle.std.proofs.lemmas.Grind.{common_steps}
 use Rattle.life_base.specs.Rules.{rule_text}
-use Rattle.life_mc.specs.Writing.{generation_text}
+use Rattle.life_mc.specs.Writing.{generation_line_text}
 use Rattle.life_mc.proofs.writing.append_front.Goals as goal
 
 -- three texts put behind one another, and none behind them
@@ -13,9 +13,9 @@ three_added out o p q a r n none h k l e =
 
 pub returns-then-generation-eq0-clause-ok : goal.returns-then-generation-eq0-clause-ok
 returns-then-generation-eq0-clause-ok c =
-    let none : generation_text c.args.generation ≡ [] = rw c.if-generation-eq0.true refl in
+    let none : generation_line_text c.args.generation ≡ [] = rw c.if-generation-eq0.true refl in
     three_added c.args.out.now.items c.append.new.out.items c.write.new.out.items c.append-2.new.out.items (codes "[M2] (canonical 1)\n#R ")
-    (rule_text c.args.rule.now) (codes "\n") (generation_text c.args.generation) c.in_ok-append.ensures.ok c.in_ok-write.ensures.ok
+    (rule_text c.args.rule.now) (codes "\n") (generation_line_text c.args.generation) c.in_ok-append.ensures.ok c.in_ok-write.ensures.ok
     c.in_ok-append-2.ensures.ok none
 
 pub returns-clause-ok : goal.returns-clause-ok

@@ -1,10 +1,10 @@
 use Rattle.std.proofs.Common.{◌≡◌, ◌≢◌, ℕ, ◌^◌, ◌+◌, sym, subst, ◌∙◌, arith}
 use Rattle.life_base.specs.Tree.{Tree, depth}
 use Rattle.life_quad.specs.declared.id.Id.{Id}
-use Rattle.life_quad.specs.Distances.{HasCellAt, IsLeast}
+use Rattle.life_quad.specs.Distances.{HasCellAt, IsLeastNumber}
 use Rattle.life_quad.proofs.DistanceLemmas.{blank_nowhere, least_of_cell, least_near, least_behind, least_nowhere, least_of_both}
 use Rattle.life_quad.specs.declared.distances.TheConstants.{UNKNOWN}
-use Rattle.life_quad.specs.IdMap.{value_of}
+use Rattle.life_quad.specs.IdMap.{value_of_id}
 use Rattle.life_quad.proofs.SpanLemmas.{half_of}
 use Rattle.life_quad.proofs.MapLemmas.{after_set}
 use Rattle.life_quad.proofs.distances.+find.Goals as goal
@@ -25,8 +25,8 @@ find-returns-in-Some-clause-least g t c =
 
 pub find-returns-in-Some-clause-right : goal.find-returns-in-Some-clause-right
 find-returns-in-Some-clause-right g t c =
-    let R : Id → ℕ → Type 0 = λ q v. v ≢ UNKNOWN → IsLeast (HasCellAt c.args.side (g.S.Squares.content c.args.squares.now q)) v in
-    after_set R _ (value_of c.set.new.self) _ _ c.in_ok-distance.ensures.right c.set.ensures.only (λ known. find-returns-in-Some-clause-least g t c)
+    let R : Id → ℕ → Type 0 = λ q v. v ≢ UNKNOWN → IsLeastNumber (HasCellAt c.args.side (g.S.Squares.content c.args.squares.now q)) v in
+    after_set R _ (value_of_id c.set.new.self) _ _ c.in_ok-distance.ensures.right c.set.ensures.only (λ known. find-returns-in-Some-clause-least g t c)
 
 pub find-returns-in_default-2-clause-least : goal.find-returns-in_default-2-clause-least
 find-returns-in_default-2-clause-least g t c =
@@ -39,14 +39,14 @@ find-returns-clause-least g t c =
     let C : Id → Tree = g.S.Squares.content c.args.squares.now in
     let f = c.facing.ensures in
     let half : c.half_side.result ≡ 2 ^ depth (C c.facing.result.nw) = c.half_side.ensures.half ∙ half_of _ _ _ c.requires.level f.quarters.nw_level in
-    subst (λ n. IsLeast (HasCellAt c.args.side (C c.args.id)) (c.in-Some-2.distance + n)) (sym half)
+    subst (λ n. IsLeastNumber (HasCellAt c.args.side (C c.args.id)) (c.in-Some-2.distance + n)) (sym half)
     (least_behind _ _ _ _ _ _ (g.met.S.Squares.full _ _ c.requires.known) f.faces (omega (arith, f.quarters.nw_level, f.quarters.ne_level)) _ _ _
     c.in_ok-distance.ensures.least c.in_default.is c.in_ok-distance-2.ensures.least c.in-Some-2.is)
 
 pub find-returns-clause-right : goal.find-returns-clause-right
 find-returns-clause-right g t c =
-    let R : Id → ℕ → Type 0 = λ q v. v ≢ UNKNOWN → IsLeast (HasCellAt c.args.side (g.S.Squares.content c.args.squares.now q)) v in
-    after_set R _ (value_of c.set-2.new.self) _ _ c.in_ok-distance-2.ensures.right c.set-2.ensures.only (λ known. find-returns-clause-least g t c)
+    let R : Id → ℕ → Type 0 = λ q v. v ≢ UNKNOWN → IsLeastNumber (HasCellAt c.args.side (g.S.Squares.content c.args.squares.now q)) v in
+    after_set R _ (value_of_id c.set-2.new.self) _ _ c.in_ok-distance-2.ensures.right c.set-2.ensures.only (λ known. find-returns-clause-least g t c)
 
 pub find_in_two-returns-clause-least : goal.find_in_two-returns-clause-least
 find_in_two-returns-clause-least g t c =

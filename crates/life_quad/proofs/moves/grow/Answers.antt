@@ -2,7 +2,7 @@ use Rattle.std.proofs.Common.{◌≡◌, ℕ, ◌+◌, ◌<◌, List, inl, inr, 
 use Rattle.life_base.specs.declared.cell.TheConstants.{MAX_LEVEL}
 use Rattle.life_base.specs.Tree.{Tree, quad, depth, blank as blank_of}
 use Rattle.life_quad.specs.Keeping.{KeepsSquares, AddsOnly}
-use Rattle.life_quad.specs.Moves.{AreQuarters, grown}
+use Rattle.life_quad.specs.Moves.{AreQuarters, grown_square}
 use Rattle.life_quad.specs.Refused.{SomePart}
 use Rattle.life_quad.specs.declared.id.Id.{Id}
 use Rattle.life_quad.specs.declared.moves.Quarters.{Quarters}
@@ -38,29 +38,29 @@ record Around {S : Type 0} (knows : S → Id → Type 0) (content : S → Id →
 -- what the joins so far keep, and that they add nothing but what the grown square needs
 record Behind {S : Type 0} (knows : S → Id → Type 0) (content : S → Id → Tree) (stored : S → List Tree) (most : S → ℕ) (t : Tree) (old new : S) : Type 0 where
   pub keeps : KeepsSquares knows content stored most old new
-  pub adds : AddsOnly stored (λ P. SomePart P (grown t)) old new
+  pub adds : AddsOnly stored (λ P. SomePart P (grown_square t)) old new
 
 module _ {S : Type 0} {knows : S → Id → Type 0} {content : S → Id → Tree} {o : S} {id e : Id} {q : Quarters} (a : Around knows content o id e q) where
   part : (P : Tree → Type 0) → SomePart P (quad (quad (content o e) (content o e) (content o e) (content o q.nw))
       (quad (content o e) (content o e) (content o q.ne) (content o e)) (quad (content o e) (content o q.sw) (content o e) (content o e))
-      (quad (content o q.se) (content o e) (content o e) (content o e))) → SomePart P (grown (content o id))
+      (quad (content o q.se) (content o e) (content o e) (content o e))) → SomePart P (grown_square (content o id))
   part = SomePart-grown _ _ _ _ _ _ a.square a.side
 
-  needs_1 : (P : Tree → Type 0) → P (quad (content o e) (content o e) (content o e) (content o q.nw)) → SomePart P (grown (content o id))
+  needs_1 : (P : Tree → Type 0) → P (quad (content o e) (content o e) (content o e) (content o q.nw)) → SomePart P (grown_square (content o id))
   needs_1 P n = part P (inr (inl (inl n)))
 
   module _ {stored : S → List Tree} {most : S → ℕ} where
     module _ {s : S} (b : Behind knows content stored most (content o id) o s) where
-      needs_2 : (P : Tree → Type 0) → P (quad (content s e) (content s e) (content s q.ne) (content s e)) → SomePart P (grown (content o id))
+      needs_2 : (P : Tree → Type 0) → P (quad (content s e) (content s e) (content s q.ne) (content s e)) → SomePart P (grown_square (content o id))
       needs_2 P n = part P (inr (inr (inl (inl (needs_before P (λ e q. quad e e q e) b.keeps a.known a.quarters.ne n)))))
 
-      needs_3 : (P : Tree → Type 0) → P (quad (content s e) (content s q.sw) (content s e) (content s e)) → SomePart P (grown (content o id))
+      needs_3 : (P : Tree → Type 0) → P (quad (content s e) (content s q.sw) (content s e) (content s e)) → SomePart P (grown_square (content o id))
       needs_3 P n = part P (inr (inr (inr (inl (inl (needs_before P (λ e q. quad e q e e) b.keeps a.known a.quarters.sw n))))))
 
-      needs_4 : (P : Tree → Type 0) → P (quad (content s q.se) (content s e) (content s e) (content s e)) → SomePart P (grown (content o id))
+      needs_4 : (P : Tree → Type 0) → P (quad (content s q.se) (content s e) (content s e) (content s e)) → SomePart P (grown_square (content o id))
       needs_4 P n = part P (inr (inr (inr (inr (inl (needs_before P (λ e q. quad q e e e) b.keeps a.known a.quarters.se n))))))
 
-      more : {new : S} {t : Tree} → ((P : Tree → Type 0) → P t → SomePart P (grown (content o id))) → KeepsSquares knows content stored most s new
+      more : {new : S} {t : Tree} → ((P : Tree → Type 0) → P t → SomePart P (grown_square (content o id))) → KeepsSquares knows content stored most s new
           → AddsOnly stored (λ P. P t) s new → Behind knows content stored most (content o id) o new
       more why keeps adds = record { keeps = keeps-then b.keeps keeps; adds = adds-then _ b.adds adds (λ P a. a) why }
 

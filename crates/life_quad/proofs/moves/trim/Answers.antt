@@ -1,7 +1,7 @@
 use Rattle.std.proofs.Common.{sym, ◌∙◌, ap, subst}
 use Rattle.life_base.specs.Tree.{Tree}
 use Rattle.life_quad.specs.Refused.{TrimmedTo}
-use Rattle.life_quad.specs.Moves.{AreQuarters, inner, trimmed, can_trim}
+use Rattle.life_quad.specs.Moves.{AreQuarters, inner, trimmed_square, can_trim}
 use Rattle.life_quad.proofs.KeepingLemmas.{keeps-same, adds-none}
 use Rattle.life_quad.proofs.LawLemmas.{trimmed-lower}
 use Rattle.life_quad.proofs.MakingLemmas.{joined-only}
@@ -20,7 +20,7 @@ returns g c =
     let least = c.args.least in
     let full = g.met.S.Squares.full _ _ c.requires.known in
     let can = ap (λ u. can_trim u least) c.divide.ensures.square ∙ sym c.in-Some.ensures.trims in
-    let smaller = c.innermost.ensures.square ∙ ap (λ u. trimmed u least) (sym c.in-Some.ensures.square ∙ sym (ap inner c.divide.ensures.square))
+    let smaller = c.innermost.ensures.square ∙ ap (λ u. trimmed_square u least) (sym c.in-Some.ensures.square ∙ sym (ap inner c.divide.ensures.square))
     ∙ trimmed-smaller t least full c.requires.positive can in
     let Needs : (Tree → Type 0) → Type 0 = λ P. TrimmedTo P t least in
     joined-only Needs c.join.result (keeps-same old) (adds-none Needs old) c.join.ensures smaller

@@ -2,7 +2,7 @@ use Rattle.std.proofs.Common.{◌≡◌, ℕ, ◌<◌, arith, sym, ◌∙◌, ap
 use Rattle.life_base.specs.Tree.{Tree}
 use Rattle.life_quad.specs.declared.id.Id.{Id}
 use Rattle.life_quad.specs.Cells.{population}
-use Rattle.life_quad.specs.IdMap.{value_of}
+use Rattle.life_quad.specs.IdMap.{value_of_id}
 use Rattle.life_quad.proofs.CountLemmas.{population-blank, quarters_small, four-ones}
 use Rattle.life_quad.proofs.MapLemmas.{after_set}
 use Rattle.life_quad.proofs.reads.+count.Goals as goal
@@ -39,12 +39,12 @@ pub returns-clause-right : goal.returns-clause-right
 returns-clause-right g t c =
     let C : Id → Tree = g.S.Squares.content c.args.squares.now in
     let R : Id → ℕ → Type 0 = λ q n. 0 < n → n ≡ population (C q) in
-    after_set R _ (value_of c.set.new.self) _ _ c.in_ok-d.ensures.right c.set.ensures.only (λ some. returns-clause-number g t c)
+    after_set R _ (value_of_id c.set.new.self) _ _ c.in_ok-d.ensures.right c.set.ensures.only (λ some. returns-clause-number g t c)
 
 pub returns-in_err-set-clause-right : goal.returns-in_err-set-clause-right
 returns-in_err-set-clause-right g t c =
     let C : Id → Tree = g.S.Squares.content c.args.squares.now in
     let R : Id → ℕ → Type 0 = λ q n. 0 < n → n ≡ population (C q) in
     let all = ap population c.divide.ensures.square in
-    after_set R _ (value_of c.set.new.self) _ _ c.in_ok-d.ensures.right c.set.ensures.only
+    after_set R _ (value_of_id c.set.new.self) _ _ c.in_ok-d.ensures.right c.set.ensures.only
     (λ some. omega (arith, all, c.in_ok-a.ensures.number, c.in_ok-b.ensures.number, c.in_ok-c.ensures.number, c.in_ok-d.ensures.number))

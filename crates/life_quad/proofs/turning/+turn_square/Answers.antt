@@ -3,9 +3,9 @@ use Rattle.std.proofs.lemmas.Result.{IfOk-weaker}
 use Rattle.life_base.proofs.Squares.{blank_is}
 use Rattle.life_base.proofs.Results.{error_is}
 use Rattle.life_base.specs.Tree.{Tree, blank, depth}
-use Rattle.life_quad.specs.IdMap.{value_of}
+use Rattle.life_quad.specs.IdMap.{value_of_id}
 use Rattle.life_quad.specs.Refused.{SomePart}
-use Rattle.life_quad.specs.Turning.{IsImage, turned_tree}
+use Rattle.life_quad.specs.Turning.{IsRememberedImage, turned_tree}
 use Rattle.life_quad.specs.declared.id.Id.{Id}
 use Rattle.life_quad.proofs.GrowsLemmas.{grows-as, grows-err, grows-same, grows-still, grows-then, join-refused, made-grows}
 use Rattle.life_quad.proofs.KeepingLemmas.{adds-then, keeps-then}
@@ -25,7 +25,7 @@ returns-in-Some-clause-square g t c =
 
 pub returns-in-Some-clause-right : goal.returns-in-Some-clause-right
 returns-in-Some-clause-right g t c =
-    AreImages-kept c.small.ensures.keeps (g.S.Squares.content c.args.from.now) c.args.turn (value_of c.args.known.now) c.requires.right
+    AreImages-kept c.small.ensures.keeps (g.S.Squares.content c.args.from.now) c.args.turn (value_of_id c.args.known.now) c.requires.right
 
 pub returns-in-Some-clause-grows : goal.returns-in-Some-clause-grows
 returns-in-Some-clause-grows g t c =
@@ -105,7 +105,8 @@ returns-in_err-se-clause-grows g t c =
 
 pub returns-in_err-image-clause-right : goal.returns-in_err-image-clause-right
 returns-in_err-image-clause-right g t c =
-    AreImages-kept c.in_err-image.ensures.keeps (g.S.Squares.content c.args.from.now) c.args.turn (value_of c.turn_square-4.new.known) c.in_ok-se.ensures.right
+    AreImages-kept c.in_err-image.ensures.keeps (g.S.Squares.content c.args.from.now) c.args.turn (value_of_id c.turn_square-4.new.known)
+    c.in_ok-se.ensures.right
 
 pub returns-in_err-image-clause-grows : goal.returns-in_err-image-clause-grows
 returns-in_err-image-clause-grows g t c =
@@ -149,7 +150,7 @@ returns-clause-square g t c =
 
 pub returns-in_err-set-clause-right : goal.returns-in_err-set-clause-right
 returns-in_err-set-clause-right g t c =
-    AreImages-kept c.in_ok-image.ensures.keeps (g.S.Squares.content c.args.from.now) c.args.turn (value_of c.set.new.self)
+    AreImages-kept c.in_ok-image.ensures.keeps (g.S.Squares.content c.args.from.now) c.args.turn (value_of_id c.set.new.self)
     (λ id other e. c.in_ok-se.ensures.right id other (sym (c.in_err-set.ensures.same id) ∙ e))
 
 pub returns-in_err-set-clause-grows : goal.returns-in_err-set-clause-grows
@@ -178,9 +179,9 @@ pub returns-clause-right : goal.returns-clause-right
 returns-clause-right g t c =
     let s = c.join.new.self in
     let C : Id → Tree = g.S.Squares.content c.args.from.now in
-    let R : Id → Option Id → Type 0 = λ q o. IsImage (g.T.Squares.knows s) (g.T.Squares.content s) C c.args.turn q o in
-    after_set R _ (value_of c.set.new.self) _ _
-    (AreImages-kept c.in_ok-image.ensures.keeps C c.args.turn (value_of c.turn_square-4.new.known) c.in_ok-se.ensures.right) c.set.ensures.only
+    let R : Id → Option Id → Type 0 = λ q o. IsRememberedImage (g.T.Squares.knows s) (g.T.Squares.content s) C c.args.turn q o in
+    after_set R _ (value_of_id c.set.new.self) _ _
+    (AreImages-kept c.in_ok-image.ensures.keeps C c.args.turn (value_of_id c.turn_square-4.new.known) c.in_ok-se.ensures.right) c.set.ensures.only
     (image-of _ _ C c.args.turn c.args.id c.in_ok-image.image c.in_ok-image.ensures.known (returns-clause-square g t c))
 
 pub returns-clause-grows : goal.returns-clause-grows

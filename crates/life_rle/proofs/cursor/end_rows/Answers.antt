@@ -6,14 +6,14 @@ use Rattle.life_base.specs.declared.rule.Rule.{Rule}
 use Rattle.life_rle.specs.declared.item.Item.TheVariants.{RowEnds}
 use Rattle.life_rle.specs.Cursor.{IsNear}
 use Rattle.life_rle.specs.Pattern.{item_fault}
-use Rattle.life_rle.specs.Plane.{edge}
+use Rattle.life_rle.specs.Plane.{rle_plane_end}
 use Rattle.life_rle.proofs.RowLimits.{moved-near}
 use Rattle.life_rle.proofs.cursor.end_rows.Goals as goal
 
 pub returns-then-cursor-count-le-EDGE-clause-takes : goal.returns-then-cursor-count-le-EDGE-clause-takes
 returns-then-cursor-count-le-EDGE-clause-takes c =
     let here = c.args.cursor in
-    let inside : int_le (here.y +ℤ pos c.args.count) (edge MAX_LEVEL) ≡ true = grind (arith, ints, c.if-cursor-count-le-EDGE.true) in
+    let inside : int_le (here.y +ℤ pos c.args.count) (rle_plane_end MAX_LEVEL) ≡ true = grind (arith, ints, c.if-cursor-count-le-EDGE.true) in
     let sound : (rule : Rule) → item_fault MAX_LEVEL rule here.y here.x (RowEnds c.args.count) ≡ None =
     λ rule. ap (λ b. cond b None (Some OutOfPlane)) inside in
     λ rule runs. record {

@@ -9,9 +9,9 @@ use Rattle.life_base.specs.declared.cell.Run.{Run}
 use Rattle.life_rle.specs.declared.lines.Phase.{Phase}
 use Rattle.life_rle.specs.declared.lines.Phase.TheVariants as phases
 use Rattle.life_rle.specs.declared.line.Later.TheVariants.{Data}
-use Rattle.life_rle.specs.Standing.{StandsAt, is_refused, TakesLine}
+use Rattle.life_rle.specs.Standing.{StandsAt, is_refused, TakesRleLine}
 use Rattle.life_rle.specs.Reader.{ItemsBreak}
-use Rattle.life_rle.specs.Grammar.{Breaks, opening_of, later_of}
+use Rattle.life_rle.specs.Grammar.{BreaksRle, opening_of, later_of}
 use Rattle.life_rle.proofs.Advance.{adv-over, breaks-before, breaks-form, breaks-items}
 use Rattle.life_rle.proofs.lines.after_line.Goals as goal
 
@@ -19,7 +19,7 @@ use Rattle.life_rle.proofs.lines.after_line.Goals as goal
 abbrev Tells : Phase → Cursor → List ℕ → Kind → Type 0
 Tells phase cursor line kind =
     (kind ≡ Memory) ⊎ ((kind ≡ Spent) × (is_refused phase ≡ true))
-    ⊎ ((lines : List (List ℕ)) → StandsAt MAX_LEVEL phase cursor lines → Breaks MAX_LEVEL lines line kind)
+    ⊎ ((lines : List (List ℕ)) → StandsAt MAX_LEVEL phase cursor lines → BreaksRle MAX_LEVEL lines line kind)
 
 pub returns-in-Before-clause-fault : goal.returns-in-Before-clause-fault
 returns-in-Before-clause-fault c =
@@ -52,6 +52,6 @@ returns-in-Items-clause-fault c =
 pub returns-in-Over-clause-advance : goal.returns-in-Over-clause-advance
 returns-in-Over-clause-advance c =
     let runs : List Run = c.args.runs.now.items in
-    subst (λ (p : Phase). TakesLine MAX_LEVEL p c.args.at.1 c.args.line.now (phases.Over c.in-Over.rule c.in-Over.position) c.args.at.1 runs runs)
+    subst (λ (p : Phase). TakesRleLine MAX_LEVEL p c.args.at.1 c.args.line.now (phases.Over c.in-Over.rule c.in-Over.position) c.args.at.1 runs runs)
     (sym c.in-Over.is)
     (record { runs = []; advances = adv-over MAX_LEVEL c.in-Over.rule c.in-Over.position c.args.at.1 c.args.line.now; added = sym (append-nil runs) })

@@ -7,8 +7,8 @@ use Rattle.life_base.specs.declared.cell.Run.{Run}
 use Rattle.life_rle.specs.declared.lines.Phase.{Phase}
 use Rattle.life_rle.specs.declared.lines.Phase.TheVariants as phases
 use Rattle.life_rle.specs.Items.{End, Mark}
-use Rattle.life_rle.specs.Reader.{ItemsBreak, IsRead, last_of}
-use Rattle.life_rle.specs.Standing.{TakesLine}
+use Rattle.life_rle.specs.Reader.{ItemsBreak, AreItemsRead, last_of}
+use Rattle.life_rle.specs.Standing.{TakesRleLine}
 use Rattle.life_base.specs.declared.cell.TheConstants.{MAX_LEVEL}
 use Rattle.life_rle.specs.declared.line.Later.TheVariants.{Passed, Data}
 use Rattle.life_rle.specs.Grammar.{later_of}
@@ -50,13 +50,13 @@ returns-after-read-clause-advance c =
     let after : List Run = c.read_items.new.runs.items in
     elim c.if-read.branch [
       | then-read w ↦
-          let read : IsRead MAX_LEVEL rule c.args.cursor line h.items Mark now h.found = subst
-          (λ b. IsRead MAX_LEVEL rule c.args.cursor line h.items (last_of b) now h.found) w.if-read.true h.read in
-          subst (λ (p : Phase). TakesLine MAX_LEVEL (phases.Items rule position) c.args.cursor line p now before after) (sym w.phase-is)
+          let read : AreItemsRead MAX_LEVEL rule c.args.cursor line h.items Mark now h.found = subst
+          (λ b. AreItemsRead MAX_LEVEL rule c.args.cursor line h.items (last_of b) now h.found) w.if-read.true h.read in
+          subst (λ (p : Phase). TakesRleLine MAX_LEVEL (phases.Items rule position) c.args.cursor line p now before after) (sym w.phase-is)
           (record { runs = h.found; advances = adv-mark MAX_LEVEL rule position c.args.cursor now line h.items h.found e read; added = h.added })
       | else-read w ↦
-          let read : IsRead MAX_LEVEL rule c.args.cursor line h.items End now h.found = subst
-          (λ b. IsRead MAX_LEVEL rule c.args.cursor line h.items (last_of b) now h.found) w.if-read.false h.read in
-          subst (λ (p : Phase). TakesLine MAX_LEVEL (phases.Items rule position) c.args.cursor line p now before after) (sym w.phase-is)
+          let read : AreItemsRead MAX_LEVEL rule c.args.cursor line h.items End now h.found = subst
+          (λ b. AreItemsRead MAX_LEVEL rule c.args.cursor line h.items (last_of b) now h.found) w.if-read.false h.read in
+          subst (λ (p : Phase). TakesRleLine MAX_LEVEL (phases.Items rule position) c.args.cursor line p now before after) (sym w.phase-is)
           (record { runs = h.found; advances = adv-items MAX_LEVEL rule position c.args.cursor now line h.items h.found e read; added = h.added })
     ]

@@ -4,7 +4,7 @@ use Rattle.life_base.specs.declared.kind.Kind.{Kind}
 use Rattle.life_base.specs.declared.cell.TheConstants.{MAX_LEVEL}
 use Rattle.life_rle.specs.declared.position.Position.{Position}
 use Rattle.life_rle.specs.Plane.{is_coordinate}
-use Rattle.life_rle.specs.Position.{Field, signed_number, with_field, and_then, corner_of}
+use Rattle.life_rle.specs.Position.{Field, signed_number, position_with_field, and_then, corner_of}
 use Rattle.life_rle.proofs.Fields.{corner-no_second, corner-left, corner-right, corner-inside}
 use Rattle.life_rle.proofs.position.with_corner.Goals as goal
 
@@ -15,7 +15,7 @@ abbrev made : ℤ → ℤ → ℕ → Position
 made x y g = record { x = x; y = y; generation = g }
 
 abbrev then : Position → Field → Result Position Kind
-then position found = Ok (with_field position found)
+then position found = Ok (position_with_field position found)
 
 -- the two parts of the text are the parts of the definition
 parts : (a b a' b' : List ℕ) (f : Field → Result Position Kind) → a ≡ a' → b ≡ b' → and_then (corner_of MAX_LEVEL (signed_number a) (signed_number b)) f

@@ -12,8 +12,8 @@ use Rattle.life_base.proofs.NumberedLines.{texts, numbered, whole_read, number_a
 use Rattle.life_rle.specs.declared.file.RleFile.{RleFile}
 use Rattle.life_rle.specs.declared.position.Position.{Position}
 use Rattle.life_base.specs.Lines.{LinesRead}
-use Rattle.life_rle.specs.File.{Shows, HasRuns, Refuses}
-use Rattle.life_rle.specs.Grammar.{IsRle, Breaks, is_rle_kind}
+use Rattle.life_rle.specs.File.{Shows, HasRuns, RefusesRle}
+use Rattle.life_rle.specs.Grammar.{IsRle, BreaksRle, is_rle_kind}
 use Rattle.life_rle.specs.Pattern.{Rle}
 use Rattle.life_rle.proofs.Advance.{known-runs}
 use Rattle.life_rle.proofs.LineKinds.{Breaks-kind}
@@ -28,12 +28,12 @@ returns-in_err-take_numbered-clause-fault c =
     let lines : List (List ℕ) = lines_of c.args.bytes.now in
     let front : List (List ℕ) = c.loop-number.reader.lines in
     let fault : Fault = c.in_err-take_numbered.field-0.0 in
-    let told : OrMemory fault (Breaks MAX_LEVEL front c.in-Some.line.now fault.kind × (fault.place.line ≡ c.in-Some.number))
+    let told : OrMemory fault (BreaksRle MAX_LEVEL front c.in-Some.line.now fault.kind × (fault.place.line ≡ c.in-Some.number))
     = c.in_err-take_numbered.ensures.fault in
     let all : pairs ++ (c.in-Some.number, c.in-Some.line.now) ∷ c.next.new.self
     ≡ numbered_from 1 lines =
     ap (λ (t : List (ℕ × List ℕ)). pairs ++ t) (sym c.in-Some.ensures.steps) ∙ c.loop-number.invariant.all in
-    let answer : OrMemory fault (Refuses MAX_LEVEL lines fault) = elim told [
+    let answer : OrMemory fault (RefusesRle MAX_LEVEL lines fault) = elim told [
       | inl m ↦ inl m
       | inr w ↦ inr (refused_here MAX_LEVEL lines pairs c.in-Some.number c.in-Some.line.now _ front fault all c.loop-number.invariant.taken w.0 w.1)
     ] in
@@ -44,7 +44,7 @@ returns-in_err-take_numbered-clause-kinds c =
     let p = err_from_is_err_and c.from_residual.result c.from_residual.ensures.1 in
     let front : List (List ℕ) = c.loop-number.reader.lines in
     let fault : Fault = c.in_err-take_numbered.field-0.0 in
-    let told : OrMemory fault (Breaks MAX_LEVEL front c.in-Some.line.now fault.kind × (fault.place.line ≡ c.in-Some.number))
+    let told : OrMemory fault (BreaksRle MAX_LEVEL front c.in-Some.line.now fault.kind × (fault.place.line ≡ c.in-Some.number))
     = c.in_err-take_numbered.ensures.fault in
     let answer : OrMemory fault (is_rle_kind fault.kind ≡ true) = elim told
     [ inl m ↦ inl m | inr w ↦ inr (Breaks-kind MAX_LEVEL front c.in-Some.line.now fault.kind w.0) ] in
@@ -93,9 +93,9 @@ returns-in-Err-clause-fault c =
     let number : ℕ = c.saturating_add.result in
     let e : c.at.result ≡ fault_at number kind = c.at.ensures in
     let only : (kind ≡ NoHeader) ⊎ (kind ≡ Spent) = c.in-Err.ensures.only in
-    let answer : OrMemory c.at.result (Refuses MAX_LEVEL lines c.at.result) = elim only [
+    let answer : OrMemory c.at.result (RefusesRle MAX_LEVEL lines c.at.result) = elim only [
       | inl m ↦ (let pre = c.in-Err.ensures.missing (ap Err m) in
-          inr (subst (Refuses MAX_LEVEL lines) (sym e)
+          inr (subst (RefusesRle MAX_LEVEL lines) (sym e)
           (refused_at_end MAX_LEVEL lines c.loop-number.reader.lines pre.0 number c.loop-number.last kind
           whole pre.1 m c.loop-number.invariant.counted c.saturating_add.ensures)))
       | inr s ↦ (let refused : c.loop-number.reader.refused ≡ true = c.in-Err.ensures.spent.0 (ap Err s) in

@@ -6,7 +6,7 @@ use Rattle.life_base.specs.declared.fault.Fault.{Fault}
 use Rattle.life_base.specs.declared.cell.TheConstants.{MAX_LEVEL}
 use Rattle.life_base.specs.declared.cell.Run.{Run}
 use Rattle.life_rle.specs.File.{HasRuns}
-use Rattle.life_rle.specs.Grammar.{Breaks}
+use Rattle.life_rle.specs.Grammar.{BreaksRle}
 use Rattle.life_rle.proofs.LineKinds.{Breaks-placed}
 use Rattle.life_rle.proofs.reading.take_numbered.Goals as goal
 
@@ -22,14 +22,14 @@ returns-in-Err-clause-fault c =
     let lines : List (List ℕ) = c.args.reader.now.lines in
     let line : List ℕ = c.args.line.now in
     let e : c.at.result ≡ fault_at number kind = c.at.ensures in
-    let told : (kind ≡ Memory) ⊎ (kind ≡ Spent) ⊎ Breaks MAX_LEVEL lines line kind = c.in-Err.ensures.fault in
-    let answer : OrMemory c.at.result (Breaks MAX_LEVEL lines line c.at.result.kind × (c.at.result.place.line ≡ number)) = elim told [
+    let told : (kind ≡ Memory) ⊎ (kind ≡ Spent) ⊎ BreaksRle MAX_LEVEL lines line kind = c.in-Err.ensures.fault in
+    let answer : OrMemory c.at.result (BreaksRle MAX_LEVEL lines line c.at.result.kind × (c.at.result.place.line ≡ number)) = elim told [
       | inl m ↦ inl (e ∙ ap (fault_at number) m)
       | inr t ↦ elim t [
         | inl s ↦ (let r : c.args.reader.now.refused ≡ true = c.in-Err.ensures.spent.0 (ap Err s) in let q : c.args.reader.now.refused ≡ false = c.requires in
             cc)
         | inr b ↦ inr (
-          subst (Breaks MAX_LEVEL lines line) (sym (ap (λ (f : Fault). f.kind) e)) b,
+          subst (BreaksRle MAX_LEVEL lines line) (sym (ap (λ (f : Fault). f.kind) e)) b,
           ap (λ (f : Fault). f.place.line) e ∙ ap (λ v. cond v 0 number) (Breaks-placed MAX_LEVEL lines line kind b),
         )
       ]

@@ -2,9 +2,9 @@ use Rattle.std.proofs.Common.{◌≡◌, ◌+◌, ◌++◌, ◌∙◌, [], sym, 
 use Rattle.life_base.specs.declared.cell.TheConstants.{MAX_LEVEL}
 use Rattle.life_rle.specs.declared.cursor.Cursor.{Cursor}
 use Rattle.life_rle.specs.declared.item.Item.TheVariants.{Cells}
-use Rattle.life_rle.specs.Cursor.{moved}
+use Rattle.life_rle.specs.Cursor.{cursor_after_item}
 use Rattle.life_rle.specs.Runs.{with_run}
-use Rattle.life_rle.specs.ShortItems.{HasRoom, ReadsOn}
+use Rattle.life_rle.specs.ShortItems.{RowHasSpace, ReadsOn}
 use Rattle.life_rle.proofs.ShortItems.{reads-on, reads-short, still-room}
 use Rattle.life_rle.proofs.short_items.take_short_items.Goals as goal
 use Rattle.life_rle.proofs.short_items.take_short_items.Goals.{else-loop-here-test, then-loop-here-test+then-line-last-ne111}
@@ -31,7 +31,7 @@ loop-here-preserved c =
     let len = c.push_reserved.ensures.len in
     let capacity = c.push_reserved.ensures.capacity in
     let live : get_or line last 0 ≡ 111 = omega (arith, c.if-line-last-ne111.false) in
-    let there : Cursor = moved halfway (Cells count 1) in
+    let there : Cursor = cursor_after_item halfway (Cells count 1) in
     let pushed : c.push_reserved.new.self.items ≡ before ++ with_run halfway.y halfway.x (Cells count 1) [] = search rules in
     let moves = c.moved.ensures in
     record {
@@ -39,7 +39,8 @@ loop-here-preserved c =
       inside = omega (arith, end, on, to, high);
       end = end;
       row = ap (λ (next : Cursor). next.y) moves ∙ passed.row ∙ kept.row;
-      room = subst (HasRoom MAX_LEVEL line (last + 1)) (sym moves) (still-room line middle count 1 (last + 1) halfway passed.room item.few (omega (arith, low))
+      room = subst (RowHasSpace MAX_LEVEL line (last + 1)) (sym moves)
+          (still-room line middle count 1 (last + 1) halfway passed.room item.few (omega (arith, low))
           (omega (arith, end, on, to, high)));
       spare = omega (arith, spare, len, capacity, on, from, low);
       read = λ rule. subst (λ (next : Cursor). ReadsOn MAX_LEVEL rule line c.args.from.at c.args.from.cursor c.args.runs.now.items (last + 1) next

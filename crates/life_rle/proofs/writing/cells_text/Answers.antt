@@ -4,7 +4,7 @@ use Rattle.life_rle.specs.Writer.{IsInPlane, Follow}
 use Rattle.life_rle.proofs.Sorting.{sorted-IsInPlane, sorted-Follow, box-top}
 use Rattle.std.proofs.lemmas.Result.{IfOk-weaker}
 use Rattle.life_rle.specs.declared.position.Position.{Position}
-use Rattle.life_rle.specs.Written.{position_text, header_text, item_lines, items_from, lines_in_box, span}
+use Rattle.life_rle.specs.Written.{position_text, header_text, item_lines, items_from, lines_in_box, box_side}
 use Rattle.life_rle.proofs.PutItems.{lines-text}
 use Rattle.life_rle.proofs.writing.cells_text.Goals as goal
 
@@ -44,6 +44,6 @@ returns-clause-text c =
     ∙ ap (λ (p : Position). text (position_text p.x p.y p.generation ∷ header_text c.width_of.result c.height_of.result rule ∷ item_lines rule items))
     c.corner_of.ensures
     ∙ ap (λ w. text (position_text box.left box.top g ∷ header_text w c.height_of.result rule ∷ item_lines rule items)) c.width_of.ensures
-    ∙ ap (λ h. text (position_text box.left box.top g ∷ header_text (span box.left box.right) h rule ∷ item_lines rule items)) c.height_of.ensures
+    ∙ ap (λ h. text (position_text box.left box.top g ∷ header_text (box_side box.left box.right) h rule ∷ item_lines rule items)) c.height_of.ensures
     ∙ ap (λ (b : Bounds). text (lines_in_box rule g b (items_from b.left b.left b.top all))) c.bounds_of-bounds.ensures)
     c.write_cells.ensures.text

@@ -5,7 +5,7 @@ use Rattle.life_base.specs.Tree.{Tree, depth, blank, quad, tree_cell}
 use Rattle.life_base.specs.declared.bounds.Bounds.{Bounds}
 use Rattle.life_base.proofs.Results.{on_err_any, on_err_both}
 use Rattle.life_base.proofs.Squares.{same_quads}
-use Rattle.life_quad.specs.Cells.{IsLeastBox}
+use Rattle.life_quad.specs.Cells.{IsBoundingBoxOfTree}
 use Rattle.life_quad.specs.Refused.{SomePart}
 use Rattle.life_quad.proofs.KeepingLemmas.{keeps-then, adds-as}
 use Rattle.life_sweep.proofs.NeedLemmas.{adds-more}
@@ -13,7 +13,7 @@ use Rattle.life_block.specs.Needed.{square_from}
 use Rattle.life_block.specs.Pieces.{IsPiece}
 use Rattle.life_block.proofs.NeedLemmas.{still-needs}
 use Rattle.life_block.proofs.PieceLemmas.{IsPiece-moved}
-use Rattle.life_slide.specs.Pieces.{IsNear, root_from}
+use Rattle.life_slide.specs.Pieces.{IsNearMiddle, root_from}
 use Rattle.life_slide.proofs.MovedLemmas.{bottom-read, column-near, columns-inside, inner-part, IsTight, joined-root, left-read, level-fits, on-plane, own-root, right-read, row-near, rows-inside, top-read}
 use Rattle.life_slide.proofs.moved.moved_to_middle.Given.{Over}
 use Rattle.life_slide.proofs.moved.moved_to_middle.Goals as goal
@@ -27,7 +27,7 @@ greatest-below n a b k (inl e) f g = omega (arith, e, f)
 greatest-below n a b k (inr e) f g = omega (arith, e, g)
 
 -- what the code computes with is the number
-module _ (t : Tree) (box : Bounds) (bounds : IsLeastBox t box) (high : 1 ≤ depth t) (low : depth t ≤ 62) where
+module _ (t : Tree) (box : Bounds) (bounds : IsBoundingBoxOfTree t box) (high : 1 ≤ depth t) (low : depth t ≤ 62) where
   is-far : (n : ℕ) → to_z w64 (of_z w64 box.left) +ℤ pos n ≡ to_z w64 (of_z w64 box.right) → box.left +ℤ pos n ≡ box.right
   is-far n e =
       let l = left-read t box bounds high low in
@@ -120,14 +120,14 @@ pub square_at-requires-clause-column : goal.square_at-requires-clause-column
 square_at-requires-clause-column g c =
     let t = g.S.Squares.content c.args.from.now c.args.id in
     let high = high-of _ _ c.requires.positive c.requires.high in
-    subst (IsNear (depth t)) (sym (left-read t c.args.found.now c.requires.bounds high (g.met.S.Squares.low _ _ c.requires.known)))
+    subst (IsNearMiddle (depth t)) (sym (left-read t c.args.found.now c.requires.bounds high (g.met.S.Squares.low _ _ c.requires.known)))
     (column-near t c.args.found.now c.requires.bounds high)
 
 pub square_at-requires-clause-row : goal.square_at-requires-clause-row
 square_at-requires-clause-row g c =
     let t = g.S.Squares.content c.args.from.now c.args.id in
     let high = high-of _ _ c.requires.positive c.requires.high in
-    subst (IsNear (depth t)) (sym (top-read t c.args.found.now c.requires.bounds high (g.met.S.Squares.low _ _ c.requires.known)))
+    subst (IsNearMiddle (depth t)) (sym (top-read t c.args.found.now c.requires.bounds high (g.met.S.Squares.low _ _ c.requires.known)))
     (row-near t c.args.found.now c.requires.bounds high)
 
 -- what is known of the box and the level of its square

@@ -3,7 +3,7 @@ use Rattle.std.proofs.lemmas.Result.{IfOk-weaker, on_err_weaker}
 use Rattle.life_base.specs.Tree.{depth, blank, tree_cell}
 use Rattle.life_quad.specs.declared.id.Id.{Id}
 use Rattle.life_quad.proofs.KeepingLemmas.{adds-as}
-use Rattle.life_block.specs.Pieces.{IsAt, ahead}
+use Rattle.life_block.specs.Pieces.{IsOfLevel, step_ahead}
 use Rattle.life_block.proofs.PieceLemmas.{IsPiece-moved}
 use Rattle.life_slide.specs.Pieces.{HasBlockAt, InBlock, IsBlock}
 use Rattle.life_slide.proofs.PlaneLemmas.{begin, block-corner, known-corner, place-is}
@@ -15,7 +15,7 @@ use Rattle.life_slide.proofs.plane.square_at.Goals.{After-slid}
 pub window-block-requires-clause-known : goal.window-block-requires-clause-known
 window-block-requires-clause-known g c =
     let s = c.args.from.now in
-    let P : Id → Type 0 = IsAt (g.S.Squares.knows s) (g.S.Squares.content s) c.level-whole.result in
+    let P : Id → Type 0 = IsOfLevel (g.S.Squares.knows s) (g.S.Squares.content s) c.level-whole.result in
     subst (InBlock P) (sym c.in_corner-around.ensures)
     (known-corner c.args.id c.empty-blank.result c.placed-column.result.0 c.placed-row.result.0
     (record { known = c.requires.known; level = sym c.level-whole.ensures.level })
@@ -39,13 +39,13 @@ block g c =
     (subst (IsBlock content (tree_cell t) (2 ^ depth t) x y) (sym c.in_corner-around.ensures) corner)
 
 column : (g : Over) (c : After-slid g) → let t = g.S.Squares.content c.args.from.now c.args.id in
-    ahead (begin c.placed-column.result.0 t) (c.placed-column.result.1 % 2 ^ c.level-whole.result) ≡ c.args.x
+    step_ahead (begin c.placed-column.result.0 t) (c.placed-column.result.1 % 2 ^ c.level-whole.result) ≡ c.args.x
 column g c =
     let t = g.S.Squares.content c.args.from.now c.args.id in
     let level = c.level-whole.ensures.level in
     let p = c.placed-column.ensures in
     let n = c.placed-column.result.1 in
-    ap (λ k. ahead (begin c.placed-column.result.0 t) (n % 2 ^ k)) level
+    ap (λ k. step_ahead (begin c.placed-column.result.0 t) (n % 2 ^ k)) level
     ∙ place-is t c.placed-column.result.0 c.args.x n c.requires.high (subst (λ k. n < 2 ^ k) level p.within)
     (subst (λ k. c.placed-column.result.0 ≡ false → pos n ≡ (c.args.x +ℤ pos (2 ^ (k - 1)))) level
     (λ e. p.first e ∙ ap (λ z. z +ℤ pos (2 ^ (c.level-whole.result - 1))) (to_z-of_z c.ranges.x)))
@@ -54,13 +54,13 @@ column g c =
     (to_z-of_z c.ranges.x)))
 
 row : (g : Over) (c : After-slid g) → let t = g.S.Squares.content c.args.from.now c.args.id in
-    ahead (begin c.placed-row.result.0 t) (c.placed-row.result.1 % 2 ^ c.level-whole.result) ≡ c.args.y
+    step_ahead (begin c.placed-row.result.0 t) (c.placed-row.result.1 % 2 ^ c.level-whole.result) ≡ c.args.y
 row g c =
     let t = g.S.Squares.content c.args.from.now c.args.id in
     let level = c.level-whole.ensures.level in
     let p = c.placed-row.ensures in
     let n = c.placed-row.result.1 in
-    ap (λ k. ahead (begin c.placed-row.result.0 t) (n % 2 ^ k)) level
+    ap (λ k. step_ahead (begin c.placed-row.result.0 t) (n % 2 ^ k)) level
     ∙ place-is t c.placed-row.result.0 c.args.y n c.requires.high (subst (λ k. n < 2 ^ k) level p.within)
     (subst (λ k. c.placed-row.result.0 ≡ false → pos n ≡ (c.args.y +ℤ pos (2 ^ (k - 1)))) level
     (λ e. p.first e ∙ ap (λ z. z +ℤ pos (2 ^ (c.level-whole.result - 1))) (to_z-of_z c.ranges.y)))

@@ -1,7 +1,7 @@
 use Rattle.std.proofs.Common.{◌≡◌, ◌%◌, ◌^◌, Bool, true, false, subst}
 use Rattle.life_base.specs.Tree.{depth, IsFull}
 use Rattle.life_quad.specs.declared.id.Id.{Id}
-use Rattle.life_block.specs.Pieces.{IsAt}
+use Rattle.life_block.specs.Pieces.{IsOfLevel}
 use Rattle.life_slide.specs.declared.margins.Margins.{Margins}
 use Rattle.life_slide.specs.Margins.{IsSeenOrOther}
 use Rattle.life_slide.specs.Pieces.{InBlock}
@@ -11,7 +11,7 @@ use Rattle.life_slide.proofs.seen.seen.Goals as goal
 
 pub returns-clause-known : goal.returns-clause-known
 returns-clause-known g c =
-    let P : Id → Type 0 = IsAt (g.S.Squares.knows c.args.squares.now) (g.S.Squares.content c.args.squares.now) c.args.level in
+    let P : Id → Type 0 = IsOfLevel (g.S.Squares.knows c.args.squares.now) (g.S.Squares.content c.args.squares.now) c.args.level in
     let blank : P c.empty-blank.result = record { known = c.empty-blank.ensures.known; level = c.empty-blank.ensures.level } in
     let known = c.requires.known in
     record {

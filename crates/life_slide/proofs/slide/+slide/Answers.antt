@@ -7,12 +7,12 @@ use Rattle.life_quad.specs.Store.{four}
 use Rattle.life_quad.proofs.KeepingLemmas.{keeps-then, adds-as}
 use Rattle.life_sweep.proofs.NeedLemmas.{adds-more}
 use Rattle.life_block.specs.Needed.{square_from}
-use Rattle.life_block.specs.Pieces.{IsAt, IsPiece, ahead}
+use Rattle.life_block.specs.Pieces.{IsOfLevel, IsPiece, step_ahead}
 use Rattle.life_block.proofs.NeedLemmas.{AreParts, is-piece, joined-is, parts-of_pieces, piece-is, own-part, still-needs}
 use Rattle.life_block.proofs.PieceLemmas.{IsPiece-moved}
 use Rattle.life_block.proofs.SquareLemmas.{square-is}
-use Rattle.life_slide.specs.Needed.{SomeOfBlock, SomeOfNine}
-use Rattle.life_slide.specs.Pieces.{AreNine, IsBlock}
+use Rattle.life_slide.specs.Needed.{SomeOfBlock, SomeOfNineSquares}
+use Rattle.life_slide.specs.Pieces.{AreNinePieces, IsBlock}
 use Rattle.life_slide.proofs.NeedLemmas.{nine-of, of_north_east, of_north_west, of_quarters, of_south_east, of_south_west, swapped}
 use Rattle.life_slide.proofs.SlideLemmas.{ahead-none, begins, block-eastern, block-western, recalled-at, recalled-slid, rest-less, Remembers-kept, Remembers-more, slid-blank}
 use Rattle.life_slide.proofs.slide.+slide.Given.{Over}
@@ -28,7 +28,7 @@ slid_of-returns-then-are_all-clause-slid g m c cells x y h =
     let rows = c.args.offset.rows % 2 ^ k in
     let piece = slid-blank (g.S.Squares.content c.args.from.now) cells k x y columns rows c.empty.result
     c.args.block.now c.empty.ensures.square (rest-less _ k) (rest-less _ k) (c.are_all.ensures c.if-are_all.true) h in
-    subst (IsPiece cells (ahead x columns) (ahead y rows)) (c.empty.ensures.square ∙ sym c.empty-then-are_all.ensures.square) piece
+    subst (IsPiece cells (step_ahead x columns) (step_ahead y rows)) (c.empty.ensures.square ∙ sym c.empty-then-are_all.ensures.square) piece
 
 pub slid_of-returns-clause-slid : goal.slid_of-returns-clause-slid
 slid_of-returns-clause-slid g m c =
@@ -60,7 +60,7 @@ slid_of_seen-returns-then-are_all-clause-slid g m c cells x y h =
     let rows = c.args.offset.rows % 2 ^ k in
     let piece = slid-blank (g.S.Squares.content c.args.from.now) cells k x y columns rows c.empty.result
     c.args.block.now c.empty.ensures.square (rest-less _ k) (rest-less _ k) (c.are_all.ensures c.if-are_all.true) h in
-    subst (IsPiece cells (ahead x columns) (ahead y rows)) (c.empty.ensures.square ∙ sym c.empty-then-are_all.ensures.square) piece
+    subst (IsPiece cells (step_ahead x columns) (step_ahead y rows)) (c.empty.ensures.square ∙ sym c.empty-then-are_all.ensures.square) piece
 
 -- a single cell
 mod-one : (n : ℕ) → n % 1 ≡ 0
@@ -85,15 +85,16 @@ slid_of_seen-returns-in-Some-clause-slid g m c cells x y h =
 -- the square whose cells are told is the one that begins there
 leaf-is : (g : Over) (m : ℕ) (c : slid_of_seen-After-small g m) (cells : ℤ → ℤ → ℕ) (x y : ℤ)
     → IsBlock (g.S.Squares.content c.args.from.now) cells (2 ^ c.args.level) x y c.args.block.now
-    → four c.in-Some-leaf_cells.cells ≡ square_from cells c.args.level (ahead x (c.args.offset.columns % 2 ^ c.args.level))
-    (ahead y (c.args.offset.rows % 2 ^ c.args.level))
+    → four c.in-Some-leaf_cells.cells ≡ square_from cells c.args.level (step_ahead x (c.args.offset.columns % 2 ^ c.args.level))
+    (step_ahead y (c.args.offset.rows % 2 ^ c.args.level))
 leaf-is g m c cells x y h =
     let e = c.in-Some-leaf_cells.ensures.level in
     let content = g.S.Squares.content c.args.from.now in
     let n = c.in-Some-leaf_cells.cells in
     let columns = c.args.offset.columns in
     let rows = c.args.offset.rows in
-    subst (λ l. IsBlock content cells (2 ^ l) x y c.args.block.now → four n ≡ square_from cells l (ahead x (columns % 2 ^ l)) (ahead y (rows % 2 ^ l))) (sym e)
+    subst (λ l. IsBlock content cells (2 ^ l) x y c.args.block.now → four n
+    ≡ square_from cells l (step_ahead x (columns % 2 ^ l)) (step_ahead y (rows % 2 ^ l))) (sym e)
     (λ p. square-is cells _ _ n c.in-Some-leaf_cells.ensures.small (c.in-Some-leaf_cells.ensures.cells cells x y p)) h
 
 pub slid_of_seen-returns-in-Some-leaf_cells-clause-at : goal.slid_of_seen-returns-in-Some-leaf_cells-clause-at
@@ -135,7 +136,7 @@ slid_by_quarters-returns-in-Some-clause-slid g m c = recalled-slid c.requires.re
 -- the square that the nine answer
 slid-of : (g : Over) (m : ℕ) (c : slid_by_quarters-After-remember g m) (cells : ℤ → ℤ → ℕ) (x y : ℤ)
     → IsBlock (g.S.Squares.content c.args.from.now) cells (2 ^ c.args.level) x y c.args.block.now
-    → IsPiece cells (ahead x (c.args.offset.columns % 2 ^ c.args.level)) (ahead y (c.args.offset.rows % 2 ^ c.args.level))
+    → IsPiece cells (step_ahead x (c.args.offset.columns % 2 ^ c.args.level)) (step_ahead y (c.args.offset.rows % 2 ^ c.args.level))
     (g.T.Squares.content c.slid_of_nine.new.to c.in_ok-answer.answer)
 slid-of g m c cells x y h =
     let j = c.args.level - 1 in
@@ -154,7 +155,7 @@ slid_by_quarters-returns-clause-remembers g m c =
     let n = c.in_ok-answer.ensures in
     let s = c.slid_of_nine.new.to in
     let level : c.args.level - 1 + 1 ≡ c.args.level = omega (arith, c.requires.low) in
-    let at = subst (λ l. IsAt (g.T.Squares.knows s) (g.T.Squares.content s) l c.in_ok-answer.answer) level n.at in
+    let at = subst (λ l. IsOfLevel (g.T.Squares.knows s) (g.T.Squares.content s) l c.in_ok-answer.answer) level n.at in
     Remembers-more
     (record {
       level = c.args.level;
@@ -166,7 +167,7 @@ slid_by_quarters-returns-clause-remembers g m c =
 
 -- a part of the square of nine quarters is one of the square
 quarters-part : (g : Over) (m : ℕ) (c : slid_by_quarters-After-quarters-nine g m) (P : Tree → Type 0)
-    → SomeOfNine P (g.S.Squares.content c.args.from.now) c.args.offset.columns c.args.offset.rows (c.args.level - 1) c.quarters-nine.result
+    → SomeOfNineSquares P (g.S.Squares.content c.args.from.now) c.args.offset.columns c.args.offset.rows (c.args.level - 1) c.quarters-nine.result
     → SomeOfBlock P (g.S.Squares.content c.args.from.now) c.args.offset.columns c.args.offset.rows c.args.level c.args.block.now
 quarters-part g m c P =
     of_quarters (g.S.Squares.content c.args.from.now) c.args.offset.columns c.args.offset.rows c.args.level c.digit.result c.digit-2.result c.requires.low
@@ -207,9 +208,9 @@ slid_of_nine-returns-clause-keeps g m c =
 
 -- the four answers are the quarters of the square
 parts : (g : Over) (m : ℕ) (c : slid_of_nine-After-join g m) (cells : ℤ → ℤ → ℕ) (x y : ℤ)
-    → AreNine (g.S.Squares.content c.args.from.now) cells (2 ^ c.args.level) x y c.args.nine.now
+    → AreNinePieces (g.S.Squares.content c.args.from.now) cells (2 ^ c.args.level) x y c.args.nine.now
     → let now = g.T.Squares.content c.slid_of-4.new.to in
-    AreParts cells c.args.level (ahead x (c.args.offset.columns % 2 ^ c.args.level)) (ahead y (c.args.offset.rows % 2 ^ c.args.level))
+    AreParts cells c.args.level (step_ahead x (c.args.offset.columns % 2 ^ c.args.level)) (step_ahead y (c.args.offset.rows % 2 ^ c.args.level))
     (now c.in_ok-nw.nw) (now c.in_ok-ne.ne) (now c.in_ok-sw.sw) (now c.in_ok-se.se)
 parts g m c cells x y h =
     let k = c.args.level in

@@ -6,7 +6,7 @@ use Rattle.life_quad.specs.Store.{four}
 use Rattle.life_quad.proofs.KeepingLemmas.{keeps-then, adds-then}
 use Rattle.life_quad.proofs.GrowsLemmas.{grows-behind, grows-err, grows-still, grows-same}
 use Rattle.life_strip.specs.declared.spans.Span.{Span}
-use Rattle.life_strip.specs.Strip.{IsFound, IsPast, AreWithin, HaveColumns}
+use Rattle.life_strip.specs.Strip.{IsFoundStretch, IsPast, AreWithin, HaveColumns}
 use Rattle.life_strip.specs.Band.{four_at, cells_at}
 use Rattle.life_strip.specs.Needed.{SomeColumn}
 use Rattle.life_strip.proofs.SpanLemmas.{past_later, filled-all, filled-skip, before_columns, nearer-both}
@@ -104,10 +104,10 @@ loop-first_column-preserved g c =
     (λ x le lt. four-unbegun C c.args.first.now c.args.second.now c.args.third.now c.args.fourth.now c.loop-first_column.a c.loop-first_column.b
     c.loop-first_column.c c.loop-first_column.d (64 * c.loop-first_column.block) c.in-Some.first_column near x (omega (arith, le)) (omega (arith, lt))) in
     let at : 64 * block ≡ 4 * (16 * block) = omega arith in
-    let fa = subst (λ k. IsFound c.args.first.now k c.empty-blank.result c.stretch_at-a.result) at c.stretch_at-a.ensures in
-    let fb = subst (λ k. IsFound c.args.second.now k c.empty-blank.result c.stretch_at-b.result) at c.stretch_at-b.ensures in
-    let fc = subst (λ k. IsFound c.args.third.now k c.empty-blank.result c.stretch_at-c.result) at c.stretch_at-c.ensures in
-    let fd = subst (λ k. IsFound c.args.fourth.now k c.empty-blank.result c.stretch_at-d.result) at c.stretch_at-d.ensures in
+    let fa = subst (λ k. IsFoundStretch c.args.first.now k c.empty-blank.result c.stretch_at-a.result) at c.stretch_at-a.ensures in
+    let fb = subst (λ k. IsFoundStretch c.args.second.now k c.empty-blank.result c.stretch_at-b.result) at c.stretch_at-b.ensures in
+    let fc = subst (λ k. IsFoundStretch c.args.third.now k c.empty-blank.result c.stretch_at-c.result) at c.stretch_at-c.ensures in
+    let fd = subst (λ k. IsFoundStretch c.args.fourth.now k c.empty-blank.result c.stretch_at-d.result) at c.stretch_at-d.ensures in
     let h = c.in_ok-block.ensures in
     let on : (x : ℕ) → 16 * block < x → 4 * x + 3 < c.in-Some-nearer.end → want x ≡ want (16 * block) =
     λ x lo before.
@@ -137,10 +137,10 @@ returns-clause-squares g c =
     let south = nearer-none c.nearer-in-loop-first_column.result c.loop-first_column.c.start c.loop-first_column.d.start
     c.nearer-in-loop-first_column.ensures over.1 in
     let at : 64 * c.loop-first_column.block ≡ 4 * (16 * c.loop-first_column.block) = omega arith in
-    let fa = subst (λ k. IsFound c.args.first.now k c.empty-blank.result c.loop-first_column.a) at inv.1 in
-    let fb = subst (λ k. IsFound c.args.second.now k c.empty-blank.result c.loop-first_column.b) at inv.2 in
-    let fc = subst (λ k. IsFound c.args.third.now k c.empty-blank.result c.loop-first_column.c) at inv.3 in
-    let fd = subst (λ k. IsFound c.args.fourth.now k c.empty-blank.result c.loop-first_column.d) at inv.4 in
+    let fa = subst (λ k. IsFoundStretch c.args.first.now k c.empty-blank.result c.loop-first_column.a) at inv.1 in
+    let fb = subst (λ k. IsFoundStretch c.args.second.now k c.empty-blank.result c.loop-first_column.b) at inv.2 in
+    let fc = subst (λ k. IsFoundStretch c.args.third.now k c.empty-blank.result c.loop-first_column.c) at inv.3 in
+    let fd = subst (λ k. IsFoundStretch c.args.fourth.now k c.empty-blank.result c.loop-first_column.d) at inv.4 in
     filled-all (g.S.Squares.knows c.loop-first_column.squares) (C c.loop-first_column.squares) 2
     (four_at (C c.args.squares.now) c.args.first.now c.args.second.now c.args.third.now c.args.fourth.now)
     c.loop-first_column.spans.items (16 * c.loop-first_column.block) inv.0

@@ -4,7 +4,7 @@ use Rattle.life_base.specs.Tree.{Tree}
 use Rattle.life_quad.proofs.KeepingLemmas.{keeps-then, keeps-same, adds-none, adds-then}
 use Rattle.life_quad.proofs.GrowsLemmas.{grows-behind, grows-err, grows-still}
 use Rattle.life_strip.specs.declared.spans.Strip.{Strip}
-use Rattle.life_strip.specs.Picture.{picture, height, AreFalling, IsSound}
+use Rattle.life_strip.specs.Picture.{picture, height, AreFalling, IsSoundStrip}
 use Rattle.life_strip.specs.Needed.{SomeSquare}
 use Rattle.life_strip.proofs.NeededLemmas.{SomeSquare-same}
 use Rattle.life_strip.proofs.PictureLemmas.{all_init, all_last, strips-kept, height-push, falling-init, lowest-init, falling-below}
@@ -28,7 +28,7 @@ loop-last-init g c =
 pub merge-requires : goal.merge-requires
 merge-requires g c =
     let now = c.loop-last.squares in
-    let P = IsSound (g.S.Squares.knows now) (g.S.Squares.content now) in
+    let P = IsSoundStrip (g.S.Squares.knows now) (g.S.Squares.content now) in
     let inv = c.loop-last.invariant in
     let xs = c.loop-last.strips.items in
     let first = c.take_last.new.strips.items in
@@ -51,7 +51,7 @@ loop-last-preserved g c =
     let K = g.S.Squares.knows in
     let C = g.S.Squares.content in
     let now = c.loop-last.squares in
-    let P = IsSound (K now) (C now) in
+    let P = IsSoundStrip (K now) (C now) in
     let inv = c.loop-last.invariant in
     let xs = c.loop-last.strips.items in
     let first = c.take_last.new.strips.items in
@@ -106,7 +106,7 @@ below xs ys zs s same items = items ∙ ap (λ z. z ++ s ∷ []) same
 pub returns-clause-strips : goal.returns-clause-strips
 returns-clause-strips g c =
     let now = c.loop-last.squares in
-    let P = IsSound (g.S.Squares.knows now) (g.S.Squares.content now) in
+    let P = IsSoundStrip (g.S.Squares.knows now) (g.S.Squares.content now) in
     let inv = c.loop-last.invariant in
     let xs = c.loop-last.strips.items in
     let lowest = c.loop-last.lowest in

@@ -1,13 +1,13 @@
 use Rattle.std.proofs.Common.{◌≡◌, ℕ, ◌+◌, ◌^◌, ◌++◌, ◌∷◌, [], length}
 use Rattle.life_quad.specs.Keeping.{KeepsSquares, AddsOnly}
-use Rattle.life_strip.specs.Picture.{picture, height, AreStacked, IsLowest, IsSound}
+use Rattle.life_strip.specs.Picture.{picture, height, AreStacked, IsLowest, IsSoundStrip}
 use Rattle.life_strip.specs.Needed.{SomeSquare}
 use Rattle.life_strip.proofs.rows.push_strip.Given as goal
 
 abbrev pub invariant-loop-last : goal.invariant-loop-last
 invariant-loop-last g l = record {
   strips : AreStacked (g.S.Squares.knows l.squares) (g.S.Squares.content l.squares) l.strips.items;
-  strip : IsSound (g.S.Squares.knows l.squares) (g.S.Squares.content l.squares) l.lowest;
+  strip : IsSoundStrip (g.S.Squares.knows l.squares) (g.S.Squares.content l.squares) l.lowest;
   lowest : IsLowest l.lowest.level l.strips.items;
   rows : height l.strips.items + 2 ^ l.lowest.level ≡ height l.fn.strips.items + 2 ^ l.fn.strip.level;
   cells : (i j : ℕ) → picture (g.S.Squares.content l.squares) (l.strips.items ++ l.lowest ∷ []) i j

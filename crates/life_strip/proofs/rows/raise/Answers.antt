@@ -3,7 +3,7 @@ use Rattle.life_base.specs.Tree.{Tree}
 use Rattle.life_quad.proofs.KeepingLemmas.{keeps-then, keeps-same, adds-none, adds-then}
 use Rattle.life_quad.proofs.GrowsLemmas.{grows-behind, grows-err, grows-still}
 use Rattle.life_strip.specs.declared.spans.Strip.{Strip}
-use Rattle.life_strip.specs.Picture.{picture, IsSound}
+use Rattle.life_strip.specs.Picture.{picture, IsSoundStrip}
 use Rattle.life_strip.specs.Needed.{SomeSquare}
 use Rattle.life_strip.proofs.NeededLemmas.{SomeSquare-same}
 use Rattle.life_strip.proofs.PictureLemmas.{picture-blank}
@@ -44,7 +44,7 @@ loop-raised-preserved g c =
       sound = r.sound;
       low = omega (arith, r.level, c.loop-raised-test.true);
       cells = λ i j. merged-cells (last ∷ []) [] last blank refl refl c.in_ok-raised.raised r.level r.grows.keeps
-          (all-one (IsSound (K now) (C now)) last inv.sound) r.stack i j
+          (all-one (IsSoundStrip (K now) (C now)) last inv.sound) r.stack i j
           ∙ picture-blank (C now) (last ∷ []) blank none i j ∙ inv.cells i j;
       keeps = keeps-then inv.keeps r.grows.keeps;
       adds = adds-then _ inv.adds r.grows.adds (λ P n. n)

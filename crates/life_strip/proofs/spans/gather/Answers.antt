@@ -5,7 +5,7 @@ use Rattle.life_base.specs.declared.cell.TheConstants.{MAX_LEVEL}
 use Rattle.life_base.specs.Tree.{blank}
 use Rattle.life_quad.specs.Moves.{CanJoin, quad_of}
 use Rattle.life_strip.specs.declared.spans.Span.{Span}
-use Rattle.life_strip.specs.Strip.{ArePieces, IsPiece, quad_at}
+use Rattle.life_strip.specs.Strip.{ArePieces, IsStripPiece, quad_at}
 use Rattle.life_strip.proofs.SpanLemmas.{before_columns, from-first, quad-blank}
 use Rattle.life_strip.proofs.PlaceLemmas.{IsFront, front, at-later, quad-goes}
 use Rattle.life_strip.proofs.PairLemmas.{IsNextSquare, goes_on, split, pieces-push}
@@ -118,7 +118,7 @@ loop-first-preserved g c =
     quad-goes C level upper lower start x north south hn hs lo (subst (λ z. 2 * x + 1 < z) c.end_of.ensures up)
     (subst (λ z. 2 * x + 1 < z) c.end_of-in-loop-first.ensures down) in
     let piece : Span = record { start = start; end = next; square = c.empty-blank.result } in
-    let is : IsPiece (CanJoin K C) (quad_of C) want (blank (suc level)) side column piece four = record {
+    let is : IsStripPiece (CanJoin K C) (quad_of C) want (blank (suc level)) side column piece four = record {
       can = c.quarters_at-four.ensures.can_join;
       from = begin;
       some = later;

@@ -1,6 +1,6 @@
 use Rattle.std.proofs.Common.{◌≡◌, ℕ, ◌+◌, ◌≤◌, ◌<◌, List, length, true, false, Bool, nat_lt, arith, refl}
 use Rattle.life_strip.specs.declared.spans.Span.{Span}
-use Rattle.life_strip.specs.declared.spans.Place.{Place}
+use Rattle.life_strip.specs.declared.spans.StripPlace.{StripPlace}
 use Rattle.life_strip.specs.declared.spans.TheConstants.{NEVER}
 use Rattle.life_strip.specs.Strip.{IsAt}
 use Rattle.life_strip.proofs.WordLemmas.{past-next}
@@ -19,7 +19,7 @@ returns-then-column-place-clause-place c =
     (omega (arith, c.max.ensures)) (λ lt. omega (arith, c.max.ensures, lt)) (λ le. omega (arith, c.max.ensures, le))
 
 -- a span is left
-inside : (spans : List Span) (before : ℕ) (p : Place) (column : ℕ) → IsAt spans before p → p.end ≤ column → column < NEVER → p.index < length spans
+inside : (spans : List Span) (before : ℕ) (p : StripPlace) (column : ℕ) → IsAt spans before p → p.end ≤ column → column < NEVER → p.index < length spans
 inside spans before p column h end small = by (nat_lt p.index (length spans)) refl
   where
     by : (b : Bool) → nat_lt p.index (length spans) ≡ b → p.index < length spans

@@ -4,14 +4,14 @@ use Rattle.life_base.specs.Tree.{Tree, quad, depth, blank}
 use Rattle.life_quad.specs.declared.id.Id.{Id}
 use Rattle.life_quad.specs.Moves.{CanJoin}
 use Rattle.life_strip.specs.declared.spans.Span.{Span}
-use Rattle.life_strip.specs.declared.spans.Place.{Place}
+use Rattle.life_strip.specs.declared.spans.StripPlace.{StripPlace}
 use Rattle.life_strip.specs.declared.spans.TheConstants.{NEVER}
 use Rattle.life_strip.specs.Strip.{quad_at, square_in, HaveColumns, IsAt, IsStrip, Rise}
 use Rattle.life_strip.proofs.PlaceLemmas.{at-known, at-content, at-depth}
 use Rattle.life_strip.proofs.spans.quarters_at.Goals as goal
 
 -- the squares of two columns of two strips, by the places of the strips in each
-module _ (K : Id → Type 0) (C : Id → Tree) (level : ℕ) (upper lower : List Span) (empty : Id) (column : ℕ) {n e s f : Place} (u : IsStrip K C level upper)
+module _ (K : Id → Type 0) (C : Id → Tree) (level : ℕ) (upper lower : List Span) (empty : Id) (column : ℕ) {n e s f : StripPlace} (u : IsStrip K C level upper)
     (l : IsStrip K C level lower) (known : K empty) (is_blank : C empty ≡ blank level) (hn : IsAt upper (2 * column) n) (he : IsAt upper (2 * column + 1) e)
     (hs : IsAt lower (2 * column) s) (hf : IsAt lower (2 * column + 1) f) (a b c d : Id) (nw : a ≡ square_in n empty (2 * column))
     (ne : b ≡ square_in e empty (2 * column + 1)) (sw : c ≡ square_in s empty (2 * column)) (se : d ≡ square_in f empty (2 * column + 1)) where
@@ -47,7 +47,7 @@ module _ (K : Id → Type 0) (C : Id → Tree) (level : ℕ) (upper lower : List
       }
 
 -- a strip goes on to the eastern column
-eastern : (spans : List Span) (column : ℕ) (p : Place) → column ≤ 2 ^ MAX_LEVEL → HaveColumns spans → Rise spans → IsAt spans (2 * column) p
+eastern : (spans : List Span) (column : ℕ) (p : StripPlace) → column ≤ 2 ^ MAX_LEVEL → HaveColumns spans → Rise spans → IsAt spans (2 * column) p
     → record {
       columns : HaveColumns spans;
       rises : Rise spans;

@@ -3,7 +3,7 @@ use Rattle.life_base.specs.Tree.{Tree}
 use Rattle.life_quad.specs.declared.id.Id.{Id}
 use Rattle.life_strip.specs.declared.spans.Span.{Span}
 use Rattle.life_strip.specs.Strip.{id_at, IsPast, HaveColumns}
-use Rattle.life_strip.specs.Band.{cell_in}
+use Rattle.life_strip.specs.Band.{cell_in_spans}
 use Rattle.life_strip.proofs.WordLemmas.{IsBegun, begun-span, begun-step, begun-less, begun-fits, begun-end, begun-over, span-at, gap-at, past-next, past-none, cell-some, cell-none}
 use Rattle.life_strip.proofs.words.read_word.Given.{Over}
 use Rattle.life_strip.proofs.words.read_word.Goals as goal
@@ -20,9 +20,9 @@ record Meets (s : Span) (column first : ℕ) : Type 0 where
   gap : (c : ℕ) → column ≤ c → c < first → c < s.start
 
 module _ (content : Id → Tree) (row : List Span) (index column start cells first : ℕ) (past : IsPast row index column) (within : index < length row)
-    (p : IsBegun (cell_in content row) start column cells) (m : Meets (slice_index_or row index none) column first) (inside : first < start + 64) where
+    (p : IsBegun (cell_in_spans content row) start column cells) (m : Meets (slice_index_or row index none) column first) (inside : first < start + 64) where
   -- the columns before a span have no cell
-  begun-first : HaveColumns row → IsBegun (cell_in content row) start first cells
+  begun-first : HaveColumns row → IsBegun (cell_in_spans content row) start first cells
   begun-first columns = begun-span content row index column none past within columns start cells first p m.later inside m.gap
 
   -- and those of the span have its square
@@ -41,7 +41,7 @@ bit-requires-clause-cell g c =
 
 -- the word up to the first column of a span that ends in it
 begun-in : (g : Over) (c : goal.In_ok-cells g)
-    → IsBegun (cell_in (g.S.Squares.content c.args.squares.now) c.args.row.now) c.args.start c.max.result c.loop-index.cells
+    → IsBegun (cell_in_spans (g.S.Squares.content c.args.squares.now) c.args.row.now) c.args.start c.max.result c.loop-index.cells
 begun-in g c =
     let within = c.loop-index-test.true in
     let some = c.requires.columns c.loop-index.index none within in
@@ -56,7 +56,7 @@ begun-in g c =
 
 pub overflow_sub-cells : goal.overflow_sub-cells
 overflow_sub-cells g c =
-    let f = cell_in (g.S.Squares.content c.args.squares.now) c.args.row.now in
+    let f = cell_in_spans (g.S.Squares.content c.args.squares.now) c.args.row.now in
     let within = c.loop-index-test.true in
     let some = c.requires.columns c.loop-index.index none within in
     let end = (slice_index_or c.args.row.now c.loop-index.index none).end in
@@ -65,7 +65,7 @@ overflow_sub-cells g c =
 
 pub overflow_add-cells : goal.overflow_add-cells
 overflow_add-cells g c =
-    let f = cell_in (g.S.Squares.content c.args.squares.now) c.args.row.now in
+    let f = cell_in_spans (g.S.Squares.content c.args.squares.now) c.args.row.now in
     let fits = begun-fits f c.args.start c.max.result c.loop-index.cells (begun-in g c) c.bits_after-from.result c.in_ok-cells.field-0
     (c.bits_after-from.result - c.bits_after-after.result) c.bits_after-from.ensures c.in_ok-cells.ensures.small (omega arith) in
     omega (arith, fits)
@@ -74,7 +74,7 @@ pub loop-index-preserved : goal.loop-index-preserved
 loop-index-preserved g c =
     let C = g.S.Squares.content c.args.squares.now in
     let row = c.args.row.now in
-    let f = cell_in C row in
+    let f = cell_in_spans C row in
     let index = c.loop-index.index in
     let column = c.loop-index.column in
     let start = c.args.start in
@@ -127,7 +127,7 @@ bit-requires-then-row-index-2-clause-cell g c =
 
 -- the word up to the first column of its last span
 begun-last : (g : Over) (c : goal.In_ok-cells-2 g)
-    → IsBegun (cell_in (g.S.Squares.content c.args.squares.now) c.args.row.now) c.args.start c.max-then-row-index-2.result c.loop-index.cells
+    → IsBegun (cell_in_spans (g.S.Squares.content c.args.squares.now) c.args.row.now) c.args.start c.max-then-row-index-2.result c.loop-index.cells
 begun-last g c =
     let inv = c.loop-index.invariant in
     let first = c.max-then-row-index-2.ensures in
@@ -138,7 +138,7 @@ begun-last g c =
 
 pub overflow_add-cells-then-row-index-2 : goal.overflow_add-cells-then-row-index-2
 overflow_add-cells-then-row-index-2 g c =
-    let fits = begun-fits (cell_in (g.S.Squares.content c.args.squares.now) c.args.row.now) c.args.start c.max-then-row-index-2.result c.loop-index.cells
+    let fits = begun-fits (cell_in_spans (g.S.Squares.content c.args.squares.now) c.args.row.now) c.args.start c.max-then-row-index-2.result c.loop-index.cells
     (begun-last g c) c.bits_after-from-then-row-index-2.result c.in_ok-cells-2.field-0 c.bits_after-from-then-row-index-2.result
     c.bits_after-from-then-row-index-2.ensures c.in_ok-cells-2.ensures.small (omega arith) in
     omega (arith, fits)
@@ -156,7 +156,7 @@ returns-in_ok-cells-2-clause-cells g c =
       | then-loop-index-test+else-row-index w ↦ w.if-row-index.false
       | else-loop-index-test w ↦ absurd (omega (arith, w.loop-index-test.false, within))
     ] in
-    begun-end (cell_in C row) c.args.start c.max-then-row-index-2.result c.loop-index.cells (begun-last g c) c.bits_after-from-then-row-index-2.result
+    begun-end (cell_in_spans C row) c.args.start c.max-then-row-index-2.result c.loop-index.cells (begun-last g c) c.bits_after-from-then-row-index-2.result
     c.in_ok-cells-2.field-0 c.bits_after-from-then-row-index-2.ensures c.in_ok-cells-2.ensures.small
     (λ x from lt. cell-some C row x (slice_index_or row index none).square c.in_ok-cells-2.field-0
     (span-at row index c.loop-index.column none inv.past within x (omega (arith, first, from)) (omega (arith, first, from)) (omega (arith, lt, late)))
@@ -168,7 +168,7 @@ returns-else-index-row-clause-cells g c =
     let row = c.args.row.now in
     let index = c.loop-index.index in
     let inv = c.loop-index.invariant in
-    begun-over (cell_in C row) c.args.start c.loop-index.column c.loop-index.cells inv.begun
+    begun-over (cell_in_spans C row) c.args.start c.loop-index.column c.loop-index.cells inv.begun
     (elim c.else-index-row.branch [
       | else-index-row-via-then-index-row+else-row-index-2 w ↦ λ x from lt.
           let some = c.requires.columns index none w.if-index-row.true in

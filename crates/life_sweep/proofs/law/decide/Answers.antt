@@ -1,5 +1,5 @@
 use Rattle.std.proofs.Common.{◌∙◌, ap, sym}
-use Rattle.life_table.specs.Around.{cells_of}
+use Rattle.life_table.specs.Around.{states_of_neighbours}
 use Rattle.life_table.specs.declared.table.Table.{Table}
 use Rattle.life_table.specs.declared.table.Neighborhood.TheVariants.{VonNeumann, Moore}
 use Rattle.life_sweep.proofs.LawLemmas.{decided, whole-list}
@@ -12,8 +12,9 @@ returns-clause-next c =
     let v = c.args.around.now in
     let same = ap (λ (z : Table). z.neighborhood) (sym c.table.ensures) in
     elim c.match-table.branch [
-      | in-VonNeumann w ↦ decided t v (cells_of c.match-table.neighbours) VonNeumann c.next.result (same ∙ w.in-VonNeumann.is) (ap cells_of w.neighbours-is)
+      | in-VonNeumann w ↦ decided t v (states_of_neighbours c.match-table.neighbours) VonNeumann c.next.result (same ∙ w.in-VonNeumann.is)
+          (ap states_of_neighbours w.neighbours-is)
           c.next.ensures
-      | in-Moore w ↦ decided t v (cells_of c.match-table.neighbours) Moore c.next.result (same ∙ w.in-Moore.is)
-          (ap cells_of w.neighbours-is ∙ whole-list v c.told-around) c.next.ensures
+      | in-Moore w ↦ decided t v (states_of_neighbours c.match-table.neighbours) Moore c.next.result (same ∙ w.in-Moore.is)
+          (ap states_of_neighbours w.neighbours-is ∙ whole-list v c.told-around) c.next.ensures
     ]

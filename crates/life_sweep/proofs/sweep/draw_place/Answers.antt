@@ -2,7 +2,7 @@ use Rattle.std.proofs.Common.{◌≡◌, inl, inr, sym, ◌∙◌, ap, subst, ar
 use Rattle.std.proofs.lemmas.Int.{ints}
 use Rattle.std.proofs.lemmas.Result.{err_from_is_err_and}
 use Rattle.life_base.specs.Refusal.{fault_of}
-use Rattle.life_strip.specs.Given.{IsOnPlane, state_by}
+use Rattle.life_strip.specs.Given.{IsRunOnPlane, state_by}
 use Rattle.life_table.specs.Meaning.{Becomes, Ambiguous}
 use Rattle.life_sweep.specs.RunBuilder.{drawn_runs}
 use Rattle.life_sweep.proofs.NeedLemmas.{full-kind, not-full}
@@ -60,8 +60,8 @@ pub returns-then-not-is_on_plane-clause-put : goal.returns-then-not-is_on_plane-
 returns-then-not-is_on_plane-clause-put g c zero =
     let ex : c.args.window.now.x ≡ kept c.args.window.now.x = omega (arith, ints, c.requires.place.place.0, c.requires.place.place.1) in
     let ey : c.args.y ≡ kept c.args.y = omega (arith, ints, c.ranges.y) in
-    let outside : ¬ (IsOnPlane c.args.window.now.x c.args.y 1) =
-    λ on. true≢false (sym (c.is_on_plane.ensures.1 (subst (λ z. IsOnPlane (kept c.args.window.now.x) z 1) ey (subst (λ z. IsOnPlane z c.args.y 1) ex on)))
+    let outside : ¬ (IsRunOnPlane c.args.window.now.x c.args.y 1) =
+    λ on. true≢false (sym (c.is_on_plane.ensures.1 (subst (λ z. IsRunOnPlane (kept c.args.window.now.x) z 1) ey (subst (λ z. IsRunOnPlane z c.args.y 1) ex on)))
     ∙ c.if-not-is_on_plane.true) in
     record {
       next = c.in_ok-state.state;

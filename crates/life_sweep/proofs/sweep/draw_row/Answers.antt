@@ -4,8 +4,8 @@ use Rattle.std.proofs.lemmas.Result.{err_from_is_err_and}
 use Rattle.life_quad.specs.Keeping.{AddsOnly}
 use Rattle.life_quad.proofs.KeepingLemmas.{keeps-same, keeps-then, adds-none, adds-as}
 use Rattle.life_strip.specs.Given.{state_by}
-use Rattle.life_sweep.specs.Generation.{after}
-use Rattle.life_sweep.specs.Rows.{IsWindow, IsWindowBelow, first_coordinate, states_of}
+use Rattle.life_sweep.specs.Generation.{one_after}
+use Rattle.life_sweep.specs.Rows.{IsWindow, IsWindowBelow, first_coordinate, states_of_window}
 use Rattle.life_table.specs.Meaning.{Ambiguous}
 use Rattle.life_sweep.specs.Refused.{SomeNext}
 use Rattle.life_sweep.specs.RunBuilder.{drawn_runs}
@@ -22,13 +22,13 @@ loop-window-init g c =
     let y = kept c.args.y in
     let e : c.args.y ≡ y = omega (arith, ints, c.ranges.y) in
     let w = c.new-window.result in
-    let west : after w.x <ℤ first_coordinate = omega (arith, ints, c.new-window.ensures.start) in
+    let west : one_after w.x <ℤ first_coordinate = omega (arith, ints, c.new-window.ensures.start) in
     record {
       sound = c.new-window.ensures.sound;
       below = c.new-window.ensures.below _ (g.met.L.Law.positive c.args.law.now) c.requires.states;
       same = refl;
       holding = c.requires.holding;
-      ready = row-ready (drawn_runs c.args.builder.now) (after w.x) y (subst (λ z. IsReadyRow (drawn_runs c.args.builder.now) z) e c.requires.ready);
+      ready = row-ready (drawn_runs c.args.builder.now) (one_after w.x) y (subst (λ z. IsReadyRow (drawn_runs c.args.builder.now) z) e c.requires.ready);
       swept = λ cells scene rows. (
         c.new-window.ensures.window cells y scene.rows_are (λ column l. west-column cells y column scene.blank l),
         into-row (g.L.Law.answers c.args.law.now) cells (state_by (drawn_runs c.args.builder.now)) c.args.leaves w.x y (g.met.L.Law.quiet c.args.law.now)
@@ -47,7 +47,7 @@ pub draw_place-requires-clause-ready : goal.draw_place-requires-clause-ready
 draw_place-requires-clause-ready g c =
     let y = kept c.args.y in
     let east = c.advance.ensures.east c.loop-window-test.true in
-    ready-later (drawn_runs c.loop-window.builder) (after c.loop-window.window.x) c.advance.new.self.x y
+    ready-later (drawn_runs c.loop-window.builder) (one_after c.loop-window.window.x) c.advance.new.self.x y
     (omega (arith, ints, east)) c.loop-window.invariant.ready
 
 pub loop-window-preserved : goal.loop-window-preserved
@@ -67,8 +67,8 @@ loop-window-preserved g c =
       swept = λ cells scene rows.
           let s = inv.swept cells scene rows in
           let on = c.advance.ensures.window c.loop-window-test.true cells y s.0 in
-          let put : old z.x y ≡ 0 → IsPut (g.L.Law.answers c.args.law.now) (states_of z) new c.loop-window.left c.in_ok-left.left z.x y
-          = (λ e. subst (λ law. IsPut (g.L.Law.answers law) (states_of z) new c.loop-window.left c.in_ok-left.left z.x y) inv.same (h.put e)) in (
+          let put : old z.x y ≡ 0 → IsPut (g.L.Law.answers c.args.law.now) (states_of_window z) new c.loop-window.left c.in_ok-left.left z.x y
+          = (λ e. subst (λ law. IsPut (g.L.Law.answers law) (states_of_window z) new c.loop-window.left c.in_ok-left.left z.x y) inv.same (h.put e)) in (
             on.here,
             step-in-row (g.L.Law.answers c.args.law.now) cells old new c.loop-window.left c.in_ok-left.left y c.loop-window.window z
                 (g.met.L.Law.quiet c.args.law.now) on s.1 put h.others,
@@ -84,7 +84,7 @@ swept : (g : Over) (c : After-advance g) (cells : ℤ → ℤ → ℕ) → IsSce
     → IsSweptRows (g.L.Law.answers c.args.law.now) cells (state_by (drawn_runs c.args.builder.now)) c.args.leaves c.args.y
     → IsWindow cells (kept c.args.y) c.loop-window.window
     × IsSwept (g.L.Law.answers c.args.law.now) cells (state_by (drawn_runs c.loop-window.builder)) c.loop-window.left
-    (after c.loop-window.window.x) (kept c.args.y)
+    (one_after c.loop-window.window.x) (kept c.args.y)
 swept g c cells scene rows =
     let e : c.args.y ≡ kept c.args.y = omega (arith, ints, c.ranges.y) in
     c.loop-window.invariant.swept cells (subst (λ z. IsScene cells z c.args.rows) e scene)
@@ -101,7 +101,8 @@ returns-in_err-left-clause-refusals g c =
         (λ cells scene rows.
             let s = swept g (goal.at.returns-in_err-left-clause-refusals g c).After-advance cells scene rows in
             let on = c.advance.ensures.window c.loop-window-test.true cells (kept c.args.y) s.0 in
-            let here = subst (λ law. g.L.Law.answers law (states_of z) (Ambiguous c.in_err-left.field-0.0.place.line)) c.loop-window.invariant.same d.1 in
+            let here = subst (λ law. g.L.Law.answers law (states_of_window z) (Ambiguous c.in_err-left.field-0.0.place.line)) c.loop-window.invariant.same
+            d.1 in
             ambiguous-here (g.L.Law.answers c.args.law.now) cells _ c.loop-window.left _ c.loop-window.window z _ (g.met.L.Law.quiet c.args.law.now) on s.1
             here),
       )
@@ -111,7 +112,7 @@ pub returns-clause-ready : goal.returns-clause-ready
 returns-clause-ready g c column row l =
     let y = kept c.args.y in
     let e : c.args.y ≡ y = omega (arith, ints, c.ranges.y) in
-    ready-row (drawn_runs c.loop-window.builder) (after c.loop-window.window.x) y c.loop-window.invariant.ready column row (omega (arith, ints, l, e))
+    ready-row (drawn_runs c.loop-window.builder) (one_after c.loop-window.window.x) y c.loop-window.invariant.ready column row (omega (arith, ints, l, e))
 
 pub returns-clause-swept : goal.returns-clause-swept
 returns-clause-swept g c cells scene rows =
@@ -119,7 +120,7 @@ returns-clause-swept g c cells scene rows =
     let drawn = state_by (drawn_runs c.loop-window.builder) in
     let e : c.args.y ≡ kept c.args.y = omega (arith, ints, c.ranges.y) in
     let s = swept g (goal.at.returns-clause-swept g c).After-advance cells scene rows in
-    subst (λ z. IsSweptRows A cells drawn c.loop-window.left (after z)) (sym e)
+    subst (λ z. IsSweptRows A cells drawn c.loop-window.left (one_after z)) (sym e)
     (out-of-row A cells drawn c.loop-window.left c.loop-window.window.x (kept c.args.y) (g.met.L.Law.quiet c.args.law.now)
     (c.advance.ensures.over c.loop-window-test.false cells (kept c.args.y) s.0) s.1)
 

@@ -4,11 +4,11 @@ use Rattle.std.proofs.lemmas.Result.{err_from_is_err_and}
 use Rattle.life_quad.proofs.KeepingLemmas.{keeps-same, keeps-then, adds-none}
 use Rattle.life_strip.specs.Given.{state_by}
 use Rattle.life_table.specs.Meaning.{Becomes}
-use Rattle.life_sweep.specs.Generation.{after, states_at}
+use Rattle.life_sweep.specs.Generation.{one_after, states_at}
 use Rattle.life_sweep.specs.Rows.{AreBelow, AreRows, GoesSouth, first_coordinate}
 use Rattle.life_base.specs.declared.cell.Run.{Run}
 use Rattle.life_sweep.specs.Refused.{SomeNext}
-use Rattle.life_sweep.specs.RunBuilder.{IsOpen, drawn_runs}
+use Rattle.life_sweep.specs.RunBuilder.{IsOpenRun, drawn_runs}
 use Rattle.life_sweep.specs.Sweep.{IsFirstAmbiguous, IsReadyRow, IsScene, IsSorted, IsSweptRows}
 use Rattle.life_sweep.proofs.NeedLemmas.{adds-more, all-needs, full-again, full-kind}
 use Rattle.life_sweep.proofs.RunBuilderLemmas.{kept}
@@ -27,7 +27,7 @@ loop-band-init g c =
       same = refl;
       holding = record {
         filling = c.empty_builder_fills.ensures c.args.squares.now c.new-builder.result.builder c.new-builder.ensures.empty;
-        unclosed = subst (λ (o : Option Run). IfSome o (IsOpen c.new-builder.result.builder.runs)) (sym c.new-builder.ensures.none) tt;
+        unclosed = subst (λ (o : Option Run). IfSome o (IsOpenRun c.new-builder.result.builder.runs)) (sym c.new-builder.ensures.none) tt;
       };
       ready = λ column row l. nothing-given (drawn_runs c.new-builder.result) c.new-builder.ensures.drawn column row;
       swept = λ plane sorted. (
@@ -74,7 +74,7 @@ before g c plane sorted =
     let drawn = state_by (drawn_runs c.loop-band.builder) in
     subst (λ z. IsSweptRows (g.L.Law.answers c.loop-band.law) plane drawn c.loop-band.leaves z) (row g c)
     (subst (λ law. IsSweptRows (g.L.Law.answers law) plane drawn c.loop-band.leaves c.advance.new.self.y) (sym inv.same)
-    (pass-rows (g.L.Law.answers c.args.law.now) plane drawn c.loop-band.leaves (after c.loop-band.band.y) c.advance.new.self.y
+    (pass-rows (g.L.Law.answers c.args.law.now) plane drawn c.loop-band.leaves (one_after c.loop-band.band.y) c.advance.new.self.y
     (g.met.L.Law.quiet c.args.law.now) (omega (arith, ints, south)) (λ r l u. on.passed r (omega (arith, ints, l)) u)
     (inv.swept plane sorted).1))
 
@@ -89,11 +89,11 @@ loop-band-preserved g c =
       below = c.advance.ensures.below _ inv.below;
       same = h.same ∙ inv.same;
       holding = h.holding;
-      ready = subst (λ z. IsReadyRow new (after z)) (sym (row g a)) h.ready;
+      ready = subst (λ z. IsReadyRow new (one_after z)) (sym (row g a)) h.ready;
       swept = λ plane sorted. (
         (on g a plane sorted).here,
-        subst (λ z. IsSweptRows (g.L.Law.answers c.args.law.now) plane (state_by new) c.in_ok-leaves.leaves (after z)) (sym (row g a))
-            (subst (λ law. IsSweptRows (g.L.Law.answers law) plane (state_by new) c.in_ok-leaves.leaves (after (kept c.advance.new.self.y))) inv.same
+        subst (λ z. IsSweptRows (g.L.Law.answers c.args.law.now) plane (state_by new) c.in_ok-leaves.leaves (one_after z)) (sym (row g a))
+            (subst (λ law. IsSweptRows (g.L.Law.answers law) plane (state_by new) c.in_ok-leaves.leaves (one_after (kept c.advance.new.self.y))) inv.same
             (h.swept plane (scene g a plane sorted) (before g a plane sorted))),
       );
       keeps = keeps-then inv.keeps h.keeps;

@@ -3,8 +3,8 @@ use Rattle.life_quad.specs.Keeping.{KeepsSquares, AddsOnly}
 use Rattle.life_sweep.specs.Refused.{SomeNext}
 use Rattle.life_sweep.specs.RunBuilder.{IsHolding, drawn_runs}
 use Rattle.life_strip.specs.Given.{state_by}
-use Rattle.life_sweep.specs.Generation.{after}
-use Rattle.life_sweep.specs.Rows.{IsSoundBand, IsBandBelow, IsBand, rows_left}
+use Rattle.life_sweep.specs.Generation.{one_after}
+use Rattle.life_sweep.specs.Rows.{IsSoundBand, IsBandBelow, IsBandOfRows, rows_left}
 use Rattle.life_sweep.specs.Sweep.{IsReadyRow, IsSorted, IsSweptRows}
 use Rattle.life_sweep.proofs.sweep.next_square.Given as goal
 
@@ -15,9 +15,9 @@ invariant-loop-band g l = record {
   below : IsBandBelow (g.L.Law.bound l.fn.law) l.band;
   same : l.law ≡ l.fn.law;
   holding : IsHolding (g.S.Squares.knows l.squares) (g.S.Squares.content l.squares) l.builder;
-  ready : IsReadyRow (drawn_runs l.builder) (after l.band.y);
+  ready : IsReadyRow (drawn_runs l.builder) (one_after l.band.y);
   swept : (plane : ℤ → ℤ → ℕ) → IsSorted plane l.cells
-      → IsBand plane l.band × IsSweptRows (g.L.Law.answers l.fn.law) plane (state_by (drawn_runs l.builder)) l.leaves (after l.band.y);
+      → IsBandOfRows plane l.band × IsSweptRows (g.L.Law.answers l.fn.law) plane (state_by (drawn_runs l.builder)) l.leaves (one_after l.band.y);
   keeps : KeepsSquares g.S.Squares.knows g.S.Squares.content g.S.Squares.stored g.S.Squares.most l.fn.squares l.squares;
   adds : AddsOnly g.S.Squares.stored
       (λ P. (plane : ℤ → ℤ → ℕ) → IsSorted plane l.cells → SomeNext P (g.L.Law.answers l.fn.law) plane) l.fn.squares l.squares;

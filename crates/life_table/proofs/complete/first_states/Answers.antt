@@ -1,5 +1,5 @@
 use Rattle.std.proofs.Common.{◌≡◌, ◌+◌, true, false, refl, sym, ◌∙◌, subst, arith, length}
-use Rattle.life_table.specs.Found.{Tells}
+use Rattle.life_table.specs.Found.{IsFoundOf}
 use Rattle.life_table.specs.Taking.{AreFailed}
 use Rattle.life_table.proofs.Grouping.{no_group}
 use Rattle.life_table.proofs.Searching.{none_failed, IsFoundBy, tell_more, tell_skip, tell_two, tell_all, taken_with, taken_fails, untaken_fails}
@@ -26,7 +26,7 @@ pub loop-place-preserved : goal.loop-place-preserved
 loop-place-preserved c =
     elim c.match-with_place.branch [
       | in-Some+then-completes+in_default-found w ↦ record {
-        tells = subst (Tells (IsFoundBy c.args.vars.now c.args.groups.now c.args.states.now c.args.free (c.loop-place.place + 1))) (sym w.found-is)
+        tells = subst (IsFoundOf (IsFoundBy c.args.vars.now c.args.groups.now c.args.states.now c.args.free (c.loop-place.place + 1))) (sym w.found-is)
             (tell_more c.args.vars.now c.args.groups.now c.args.states.now c.args.free c.loop-place.place c.loop-place.found w.with_state-found.result
             c.loop-place.invariant.tells w.in-Some.ensures.some.is_free
             (taken_with c.args.vars.now c.args.groups.now c.args.states.now c.args.free 0 no_group c.requires.some c.requires.search.are_groups
@@ -36,7 +36,7 @@ loop-place-preserved c =
         failed = subst (AreFailed c.args.vars.now c.args.groups.now c.args.states.now) (sym w.failed-is) w.completes.ensures.failed;
       }
       | in-Some+else-completes w ↦ record {
-        tells = subst (Tells (IsFoundBy c.args.vars.now c.args.groups.now c.args.states.now c.args.free (c.loop-place.place + 1))) (sym w.found-is)
+        tells = subst (IsFoundOf (IsFoundBy c.args.vars.now c.args.groups.now c.args.states.now c.args.free (c.loop-place.place + 1))) (sym w.found-is)
             (tell_skip c.args.vars.now c.args.groups.now c.args.states.now c.args.free c.loop-place.place c.loop-place.found c.loop-place.invariant.tells
             (λ _. taken_fails c.args.vars.now c.args.groups.now c.args.states.now c.args.free 0 no_group c.requires.some c.requires.search.are_groups
             c.loop-place.place w.in-Some.rest w.in-Some.ensures.some
@@ -44,7 +44,7 @@ loop-place-preserved c =
         failed = subst (AreFailed c.args.vars.now c.args.groups.now c.args.states.now) (sym w.failed-is) w.completes.ensures.failed;
       }
       | in_default w ↦ record {
-        tells = subst (Tells (IsFoundBy c.args.vars.now c.args.groups.now c.args.states.now c.args.free (c.loop-place.place + 1))) (sym w.found-is)
+        tells = subst (IsFoundOf (IsFoundBy c.args.vars.now c.args.groups.now c.args.states.now c.args.free (c.loop-place.place + 1))) (sym w.found-is)
             (tell_skip c.args.vars.now c.args.groups.now c.args.states.now c.args.free c.loop-place.place c.loop-place.found c.loop-place.invariant.tells
             (untaken_fails c.args.vars.now c.args.groups.now c.args.states.now c.args.free 0 no_group c.requires.some c.requires.search.are_groups
             c.loop-place.place (w.in_default.ensures.none refl)));
@@ -56,4 +56,4 @@ pub returns : goal.returns
 returns c =
     let all : c.loop-place.place ≡ length c.args.states.now = omega (arith, c.loop-place-test.false, c.loop-place.auto.place-end) in
     tell_all c.args.vars.now c.args.groups.now c.args.states.now c.args.free c.requires.some c.requires.search.are_groups c.loop-place.found
-    (subst (λ n. Tells (IsFoundBy c.args.vars.now c.args.groups.now c.args.states.now c.args.free n) c.loop-place.found) all c.loop-place.invariant.tells)
+    (subst (λ n. IsFoundOf (IsFoundBy c.args.vars.now c.args.groups.now c.args.states.now c.args.free n) c.loop-place.found) all c.loop-place.invariant.tells)

@@ -1,5 +1,5 @@
 use Rattle.std.proofs.Common.{◌≡◌, ◌+◌, List, length, drop, refl, ap, sym, ◌∙◌, subst, slice_index, arith}
-use Rattle.life_table.specs.Around.{cells_of}
+use Rattle.life_table.specs.Around.{states_of_neighbours}
 use Rattle.life_table.specs.Index.{AreBlocks}
 use Rattle.life_table.specs.Meaning.{Becomes, Decides, DecidesAs}
 use Rattle.life_table.specs.Seen.{IsSeen}
@@ -35,7 +35,7 @@ returns-in-Some c =
     let table = c.args.table.now in
     through
     (λ vars cells lines. DecidesAs table.symmetry vars (slice_index cells 0) (drop 1 cells) lines c.in-Some.answer)
-    table.vars c.as_slice-vars.result.now (cells_of c.args.around.now) c.as_slice-cells.result.now table.lines c.as_slice-lines.result.now
+    table.vars c.as_slice-vars.result.now (states_of_neighbours c.args.around.now) c.as_slice-cells.result.now table.lines c.as_slice-lines.result.now
     c.as_slice-vars.ensures c.as_slice-cells.ensures c.as_slice-lines.ensures c.in-Some.ensures
 
 pub returns-in-None : goal.returns-in-None
@@ -45,5 +45,5 @@ returns-in-None c =
     let cells = c.as_slice-cells.result.now in
     let lines = c.as_slice-lines.result.now in
     through (λ v w l. Decides table.symmetry v (slice_index w 0) (drop 1 w) l (Becomes (slice_index cells 0)))
-    table.vars vars (cells_of c.args.around.now) cells table.lines lines c.as_slice-vars.ensures c.as_slice-cells.ensures c.as_slice-lines.ensures
+    table.vars vars (states_of_neighbours c.args.around.now) cells table.lines lines c.as_slice-vars.ensures c.as_slice-cells.ensures c.as_slice-lines.ensures
     (silent_all table.symmetry vars vars cells cells refl refl lines lines refl (length lines) (omega arith) c.in-None.ensures)

@@ -1,5 +1,5 @@
 use Rattle.std.proofs.Common.{◌≡◌, ◌∷◌, drop, map, get_or, true, false, ap, sym, ◌∙◌, subst, slice_index, arith}
-use Rattle.life_table.specs.Found.{Tells}
+use Rattle.life_table.specs.Found.{IsFoundOf}
 use Rattle.life_table.specs.Meaning.{Gives, state_of}
 use Rattle.life_table.specs.Orders.{family}
 use Rattle.life_table.specs.declared.table.Symmetry.{Symmetry}
@@ -19,7 +19,7 @@ returns-then-not-can_be c = λ s g.
 
 pub returns-in-Permute : goal.returns-in-Permute
 returns-in-Permute c =
-    subst (λ (y : Symmetry). Tells (Gives y c.args.site.now.vars.now c.args.line.now (slice_index c.args.site.now.cells.now 0)
+    subst (λ (y : Symmetry). IsFoundOf (Gives y c.args.site.now.vars.now c.args.line.now (slice_index c.args.site.now.cells.now 0)
     (drop 1 c.args.site.now.cells.now)) c.by_counts.result) (sym c.in-Permute.is)
     (tells_permute c.args.site.now.vars.now c.args.line.now (slice_index c.args.site.now.cells.now 0) (drop 1 c.args.site.now.cells.now) c.by_counts.result
     c.by_counts.ensures)

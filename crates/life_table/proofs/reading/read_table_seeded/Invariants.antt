@@ -1,10 +1,10 @@
 use Rattle.std.proofs.Common.{◌≡◌, ◌++◌, ◌+◌, ◌-◌, ◌^◌, min, List, ℕ, map, length, Bor}
 use Rattle.life_base.specs.Text.{lines_of, numbered_from}
-use Rattle.life_table.specs.Reading.{Numbered}
+use Rattle.life_table.specs.Reading.{NumberedLine}
 use Rattle.life_table.proofs.ReadLines.{Reads}
 use Rattle.life_table.proofs.reading.read_table_seeded.Given as goal
 
-abbrev pub numbered : ℕ × Bor (List ℕ) → Numbered
+abbrev pub numbered : ℕ × Bor (List ℕ) → NumberedLine
 numbered p = (p.0, p.1.now)
 
 abbrev pub invariant-loop-number : goal.invariant-loop-number

@@ -1,6 +1,6 @@
 use Rattle.std.proofs.Common.{List, ℕ, sym, subst, ◌∙◌}
 use Rattle.life_canon.specs.Texts.{IsCanonical}
-use Rattle.theorems.specs.Joined.{joined}
+use Rattle.theorems.specs.Joined.{all_bytes}
 use Rattle.theorems.proofs.StreamLaw.{one_text}
 use Rattle.std.proofs.lemmas.Result.{err_from_is_err_and}
 use Rattle.theorems.proofs.RefusalLaw.{refused_as}
@@ -11,10 +11,10 @@ pub returns-clause-equal : goal.returns-clause-equal
 returns-clause-equal c =
     let text = c.in_ok-text.text.items in
     let other = c.in_ok-other.other.items in
-    let whole : IsCanonical 62 (joined c.args.pieces.now) other =
+    let whole : IsCanonical 62 (all_bytes c.args.pieces.now) other =
     subst (λ (b : List ℕ). IsCanonical 62 b other) c.requires.cut c.in_ok-other.ensures.text in
     c.are_equal.ensures.1
-    (c.deref.ensures.value ∙ one_text c.files_are_unique.ensures (joined c.args.pieces.now) text other c.in_ok-text.ensures.text whole
+    (c.deref.ensures.value ∙ one_text c.files_are_unique.ensures (all_bytes c.args.pieces.now) text other c.in_ok-text.ensures.text whole
     ∙ sym c.deref-2.ensures.value)
 
 pub returns-in_err-text-clause-refused : goal.returns-in_err-text-clause-refused

@@ -2,7 +2,7 @@ use Rattle.std.proofs.lemmas.Result.{err_from_is_err_and}
 use Rattle.theorems.proofs.RefusalLaw.{map_err}
 use Rattle.std.proofs.Common.{inr, ◌+◌, ◌≡◌, ◌∙◌, ◌++◌, ℕ, List, sym, ap, subst, take}
 use Rattle.life_canon.specs.Texts.{IsCanonical}
-use Rattle.theorems.specs.Joined.{joined}
+use Rattle.theorems.specs.Joined.{all_bytes}
 use Rattle.theorems.proofs.FileLaw.{map_ok}
 use Rattle.theorems.proofs.PieceLaw.{joined_more, read_text, joined_all, refused_so_far, refused_whole}
 use Rattle.theorems.proofs.feeding.text_of_pieces.Goals as goal
@@ -13,7 +13,7 @@ loop-piece-preserved c =
     let pieces = c.args.pieces.now in
     let e = c.in_ok-feed.ensures in (
       e.bytes ∙ ap (λ (t : List ℕ). t ++ c.deref.result.now) c.loop-piece.invariant.0
-          ∙ ap (λ (t : List ℕ). joined (take i pieces) ++ t) (c.deref.ensures.value ∙ ap (λ v. v.items) c.piece-item.is)
+          ∙ ap (λ (t : List ℕ). all_bytes (take i pieces) ++ t) (c.deref.ensures.value ∙ ap (λ v. v.items) c.piece-item.is)
           ∙ sym (joined_more pieces i c.piece-item.result c.loop-piece-test.true),
       e.open.1,
       e.stands,
@@ -27,9 +27,9 @@ returns-in_err-feed-clause-refused c =
     let i = c.loop-piece.piece-index in
     let pieces = c.args.pieces.now in
     let p = err_from_is_err_and c.from_residual.result c.from_residual.ensures.1 in
-    let front : c.loop-piece.reader.bytes ++ c.deref.result.now ≡ joined (take (i + 1) pieces) =
+    let front : c.loop-piece.reader.bytes ++ c.deref.result.now ≡ all_bytes (take (i + 1) pieces) =
     ap (λ (t : List ℕ). t ++ c.deref.result.now) c.loop-piece.invariant.0
-    ∙ ap (λ (t : List ℕ). joined (take i pieces) ++ t) (c.deref.ensures.value ∙ ap (λ v. v.items) c.piece-item.is)
+    ∙ ap (λ (t : List ℕ). all_bytes (take i pieces) ++ t) (c.deref.ensures.value ∙ ap (λ v. v.items) c.piece-item.is)
     ∙ sym (joined_more pieces i c.piece-item.result c.loop-piece-test.true) in
     let answer = refused_so_far c.faults_stay.ensures pieces (i + 1) _ _ _ front (c.in_err-feed.ensures.fault c.loop-piece.invariant.1) in
     rw (p.1, p.2) answer
@@ -37,7 +37,7 @@ returns-in_err-feed-clause-refused c =
 pub returns-in_err-pattern-clause-refused : goal.returns-in_err-pattern-clause-refused
 returns-in_err-pattern-clause-refused c =
     let p = err_from_is_err_and c.from_residual-in_err-pattern.result c.from_residual-in_err-pattern.ensures.1 in
-    let whole : c.loop-piece.reader.bytes ≡ joined c.args.pieces.now =
+    let whole : c.loop-piece.reader.bytes ≡ all_bytes c.args.pieces.now =
     c.loop-piece.invariant.0 ∙ joined_all c.args.pieces.now c.loop-piece.piece-index c.loop-piece-test.false in
     let answer = refused_whole _ _ _ _ whole (c.in_err-pattern.ensures.fault c.loop-piece.invariant.1) in
     rw (p.1, p.2) answer
@@ -48,7 +48,7 @@ returns-clause-refused c = map_err c.text_of.result (λ fault e. inr (inr e)) c.
 pub returns-clause-text : goal.returns-clause-text
 returns-clause-text c =
     let read = c.in_ok-pattern.ensures.pattern.1 in
-    let whole : c.loop-piece.reader.bytes ≡ joined c.args.pieces.now =
+    let whole : c.loop-piece.reader.bytes ≡ all_bytes c.args.pieces.now =
     c.loop-piece.invariant.0 ∙ joined_all c.args.pieces.now c.loop-piece.piece-index c.loop-piece-test.false in
     map_ok c.text_of.result
     (λ text e. subst (λ (b : List ℕ). IsCanonical 62 b text.items) whole

@@ -1,7 +1,7 @@
 use Rattle.std.proofs.Common.{◌∙◌, ◌++◌, ◌-◌, ap, sym, drop, take, length}
 use Rattle.std.proofs.lemmas.Result.{err_from_is_err_and}
 use Rattle.life_base.proofs.LineEnds.{all_behind}
-use Rattle.file_keys.specs.Keys.{escaped}
+use Rattle.file_keys.specs.Keys.{escaped_name}
 use Rattle.file_keys.proofs.KeyLines.{written_broken, written_further}
 use Rattle.file_keys.proofs.keys.lines.write_escaped.Goals as goal
 
@@ -21,6 +21,6 @@ loop-rest-preserved g c =
       stalled = c.in_ok-write_text.ensures.sink.stalled ∙ c.loop-rest.invariant.stalled;
       written = written_further _ _ _ c.args.name.now rest piece
           (take (length rest - c.first_piece-count.result.1) (drop c.first_piece-count.result.1 rest)) c.loop-rest.invariant.written
-          (c.first_piece-count.ensures.piece ∙ ap (λ l. piece ++ escaped l) (sym (all_behind rest c.first_piece-count.result.1)))
+          (c.first_piece-count.ensures.piece ∙ ap (λ l. piece ++ escaped_name l) (sym (all_behind rest c.first_piece-count.result.1)))
           c.in_ok-write_text.ensures.text;
     }

@@ -4,7 +4,7 @@ use Rattle.life_base.specs.declared.cell.TheConstants.{MAX_LEVEL}
 use Rattle.life_base.specs.declared.fault.Fault.{Fault}
 use Rattle.life_canon.specs.Feeding.{RefusesFront}
 use Rattle.life_canon.specs.Room.{HoldsFront}
-use Rattle.life_canon.specs.Store.{IsWant}
+use Rattle.life_canon.specs.Store.{IsShortageOf}
 use Rattle.library_calls.specs.Outputs.{Piecewise, RefusesPiece}
 use Rattle.library_calls.proofs.NeedFacts.{if-err, on-ok, piece-low}
 use Rattle.library_calls.proofs.StreamFacts.{piece-fault}
@@ -20,7 +20,7 @@ returns-in_err-taken-clause-fault c =
     let only = (c.fronts_hold.ensures before c.args.piece.now [] c.self.inside.store store c.self.invariant.2).0 c.feed-taken.ensures.feeds.adds in
     rw (p.1, p.2) (λ limit is. subst (λ (v : Piecewise). RefusesPiece limit (v.bytes ++ c.args.piece.now) fault) c.self.view_is
     (piece-fault limit bytes store fault (c.feed-taken.ensures.feeds.keeps.limit ∙ ap (λ (v : Piecewise). v.room) c.self.view_is ∙ is)
-    (if-err (λ f. IsWant store f ⊎ RefusesFront MAX_LEVEL bytes f) c.feed-taken.result fault c.in_err-taken.was
+    (if-err (λ f. IsShortageOf store f ⊎ RefusesFront MAX_LEVEL bytes f) c.feed-taken.result fault c.in_err-taken.was
     (c.feed-taken.ensures.fault c.self.invariant.0))
     (piece-low before c.args.piece.now c.self.inside.store store c.feed-taken.result fault c.in_err-taken.was c.self.invariant.2 only
     (record { distinct = c.len.ensures.distinct; live = λ t there. (c.len.ensures.only t there).0 }) c.feed-taken.ensures.feeds)))

@@ -2,7 +2,7 @@ use Rattle.std.proofs.Common.{◌≡◌, ◌∙◌, false, [], ap, subst}
 use Rattle.std.proofs.lemmas.Result.{IfOk-weaker, IfErr-weaker, err_from_is_err_and}
 use Rattle.life_base.specs.declared.cell.TheConstants.{MAX_LEVEL}
 use Rattle.life_canon.specs.Store.{IsRead, RefusesIn}
-use Rattle.library_calls.specs.Outputs.{Piecewise, IsTextOf, RefusesTextOf}
+use Rattle.library_calls.specs.Outputs.{Piecewise, IsOutputText, RefusesTextOf}
 use Rattle.library_calls.specs.Texts.{Fits, SomeToRead}
 use Rattle.library_calls.proofs.NeedFacts.{end-low, file-fits, if-err, if-ok, on-ok, only-more, where-ok}
 use Rattle.library_calls.proofs.TextFacts.{text-fault}
@@ -30,7 +30,7 @@ returns-in_err-pattern-clause-fault c =
 
 pub returns-clause-text : goal.returns-clause-text
 returns-clause-text c =
-    IfOk-weaker c.text_of_read.result _ _ (λ text is limit room. subst (λ (v : Piecewise). IsTextOf v.output limit v.bytes text.items) c.self.view_is
+    IfOk-weaker c.text_of_read.result _ _ (λ text is limit room. subst (λ (v : Piecewise). IsOutputText v.output limit v.bytes text.items) c.self.view_is
     (is limit c.self.inside.reader.bytes (c.finish-found.ensures.ends.keeps.limit ∙ ap (λ (v : Piecewise). v.room) c.self.view_is ∙ room)
     (if-ok (λ pattern. (c.self.inside.reader.spent ≡ false) × IsRead MAX_LEVEL c.self.inside.reader.bytes c.finish-found.new.store pattern)
     c.finish-found.result c.in_ok-pattern.pattern c.in_ok-pattern.was c.finish-found.ensures.pattern).1)) c.text_of_read.ensures.text

@@ -1,6 +1,6 @@
 -- The pointer and what it owns make the box again.
 use Rattle.std.proofs.Common.{Option, true, is_some}
-use Rattle.library_calls.proofs.Pointer.{◌≡◌, [], ◌∷◌, refl, sym, ap, ◌∙◌, ftrue, full_share, id⊢, fact, tables, yes, ptr_val, rawptr_Lawful, nothing, called, Stays, stay_dropped, walk_of, ends_at, says, alloc_all, pass_all, free_all, look_at, get, sets, ‵, raw, ◌⊛◌, ◌$◌, ◌∵◌, !, qed, done, move, drop, use1, split, join, suffices, enter, of_opd, and_then, no_more, returns, proved, framed, Some, ghosts, dict, owned, word, word_fits, boxed, boxed_laws, content, content_laws, handle, handle_laws, handle_drop, asks, gives, found}
+use Rattle.library_calls.proofs.Pointer.{◌≡◌, [], ◌∷◌, refl, sym, ap, ◌∙◌, ftrue, full_share, id⊢, fact, tables, yes, ptr_val, rawptr_Lawful, nothing, called, Stays, stay_dropped, walk_of, ends_at, says, alloc_all, pass_all, free_all, look_at, get, sets, ‵, raw, ◌⊛◌, ◌$◌, ◌∵◌, !, qed, done, move, drop, use1, split, join, suffices, enter, of_opd, and_then, no_more, returns, proved, framed, Some, ghosts, dict, owned_session, word, word_fits, boxed, boxed_laws, content, content_laws, handle, handle_laws, handle_drop, asks, gives, found}
 use denote.Laws.{Is, shows}
 use denote.Steps.{heard, peeks}
 use denote.Triple.Call.{calls_at_last}
@@ -42,7 +42,7 @@ into_box_spec {M} 𝓤 𝓛 𝓜 𝓡 wired =
     ∷ raw (fact 𝓤 (is_some state ≡ true)) ∷ []) ∵
     move ! (1 ∷ []) $ heard ! _ (λ there. let session = (found state there).0 in let is_session = (found state there).1 in
     let z : G.Ghost = ((([], ([], tt)), (full_share, (full_share, tt)), tt, (alloc, (at, tt)), (bits ∷ [], (ptr_val at ∷ [], tt))), session) in
-    split ! $ drop ! $ split ! $ fsplit ! $ drop ! $ rewrite ! 0 (λ (s : Option Session). ‵ (owned at s)) is_session refl $
+    split ! $ drop ! $ split ! $ fsplit ! $ drop ! $ rewrite ! 0 (λ (s : Option Session). ‵ (owned_session at s)) is_session refl $
     move ! (1 ∷ []) $ split ! $
     -- [the allocator; nothing; the box in memory]
     feq_i ! _ (ptr_val at ∷ []) (ptr_val at ∷ []) refl $ move ! (0 ∷ 2 ∷ []) $ fjoin ! $ move ! (1 ∷ 0 ∷ []) $ fjoin ! $ asks ! _ _ $

@@ -1,5 +1,5 @@
 -- The pointer of a box keeps what the box owns.
-use Rattle.library_calls.proofs.Pointer.{[], ◌∷◌, refl, ap, ftrue, full_share, id⊢, tables, yes, rawptr_Lawful, nothing, called, framed, Stays, stay_dropped, ends_at, says, alloc_all, pass_all, free_all, look_at, get, sets, ‵, raw, ◌⊛◌, ◌$◌, ◌∵◌, !, qed, done, keep, drop, use1, split, join, suffices, agg, enter, of_opd, and_then, no_more, returns, proved, Some, ghosts, dict, owned, word, word_fits, boxed, boxed_lowers, boxed_laws, content, content_laws, handle, handle_laws, handle_drop, holds, asks, gives}
+use Rattle.library_calls.proofs.Pointer.{[], ◌∷◌, refl, ap, ftrue, full_share, id⊢, tables, yes, rawptr_Lawful, nothing, called, framed, Stays, stay_dropped, ends_at, says, alloc_all, pass_all, free_all, look_at, get, sets, ‵, raw, ◌⊛◌, ◌$◌, ◌∵◌, !, qed, done, keep, drop, use1, split, join, suffices, agg, enter, of_opd, and_then, no_more, returns, proved, Some, ghosts, dict, owned_session, word, word_fits, boxed, boxed_lowers, boxed_laws, content, content_laws, handle, handle_laws, handle_drop, holds, asks, gives}
 use seplogic.Ra.Ura.{Ura}
 use base.Fml.{fsep}
 use base.Logic.{emp, emp∗, sep}
@@ -71,7 +71,7 @@ of_spec {M} 𝓤 𝓛 𝓜 𝓡 wired =
     qed 𝓛 ((‵ ftrue ⊛ ‵ (boxed.own_val b (w ∷ [])) ⊛ ‵ ftrue) ∷ ‵ ftrue ∷ []) ∵ split ! $ drop ! $ asks ! _ _ $ use1 𝓛 (raw (G.pre z)) (id⊢ 𝓤 _) $
     enter ! _ _ _ _ _ $ alloc_all ! (λ l. pass_all ! refl (box_fits, tt) $ sets ! (of_opd ! (get ! refl)) refl box_fits $
     calls_at ! (framed 𝓤 𝓛.H 𝓜 (tables 𝓤 𝓛.H 𝓜 𝓡 γ)) G met z (and_then ! (get ! refl) (no_more !)) (λ v. gives ! tt E asked z v (λ at e.
-    let fits = ((rawptr_Lawful 𝓛).typed at _ refl).0 in feq_l ! (λ is. use1 𝓛 (‵ (owned at (Some b.value))) (id⊢ 𝓤 _) $
+    let fits = ((rawptr_Lawful 𝓛).typed at _ refl).0 in feq_l ! (λ is. use1 𝓛 (‵ (owned_session at (Some b.value))) (id⊢ 𝓤 _) $
     lands_as ! (ap only is) refl fits $ sets ! (of_opd ! (get ! refl)) refl fits $
     sets ! (agg ! (and_then ! (get ! refl) (no_more !))) refl (word_fits 𝓛 at) $ returns ! (look_at ! 0 refl) $ free_all ! refl $
     suffices ! _ (ends_at 𝓛 f.ended stayed c ((κs, qs, bounds, a, (w ∷ [], tt)), tt) (word at) (record { at = at; session = Some b.value }) (_, tt)

@@ -3,7 +3,7 @@ use Rattle.std.proofs.lemmas.Result.{err_from_is_err_and}
 use Rattle.life_base.specs.declared.line_log.LineLog.{LineLog}
 use Rattle.life_quad.proofs.KeepingLemmas.{adds-as}
 use Rattle.life_canon.specs.Needs.{IsNew}
-use Rattle.life_canon.specs.Taking.{bytes_of, taken}
+use Rattle.life_canon.specs.Taking.{bytes_of, taken_lines}
 use Rattle.life_canon.proofs.FrontFacts.{line-told, front-ended, front-along, bytes-more}
 use Rattle.life_canon.proofs.NeedFacts.{ended-needs}
 use Rattle.life_canon.proofs.front.Front.end_line.Goals as goal
@@ -46,9 +46,10 @@ returns-in_err-take_ended-clause-stores c =
     let stores = c.in_err-take_ended.ensures.takes.stores in
     rw (p.1, p.2) (record {
       needed = λ e rest. ended-needs (IsNew c.take_ended.new.store) (bytes_of old.pieces.lines) old.kept.items c.args.end.now rest old.ended
-          (taken old.progress)
+          (taken_lines old.progress)
           (c.requires.front.is.going c.requires.going) c.requires.no_feed (stores.needed e);
-      adds = adds-as _ stores.adds (λ P s rest. ended-needs P (bytes_of old.pieces.lines) old.kept.items c.args.end.now rest old.ended (taken old.progress)
+      adds = adds-as _ stores.adds (λ P s rest. ended-needs P (bytes_of old.pieces.lines) old.kept.items c.args.end.now rest old.ended
+          (taken_lines old.progress)
           (c.requires.front.is.going c.requires.going) c.requires.no_feed s);
       keeps = stores.keeps;
     })
@@ -59,7 +60,8 @@ returns-clause-stores c =
     let stores = c.in_ok-take_ended.ensures.takes.stores in
     record {
       needed = λ e. absurd (cc);
-      adds = adds-as _ stores.adds (λ P s rest. ended-needs P (bytes_of old.pieces.lines) old.kept.items c.args.end.now rest old.ended (taken old.progress)
+      adds = adds-as _ stores.adds (λ P s rest. ended-needs P (bytes_of old.pieces.lines) old.kept.items c.args.end.now rest old.ended
+          (taken_lines old.progress)
           (c.requires.front.is.going c.requires.going) c.requires.no_feed s);
       keeps = stores.keeps;
     }

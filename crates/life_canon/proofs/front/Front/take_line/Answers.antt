@@ -4,8 +4,8 @@ use Rattle.life_base.specs.declared.kind.Kind.{Kind}
 use Rattle.life_base.specs.declared.kind.Kind.TheVariants.{Full}
 use Rattle.life_base.specs.declared.cell.TheConstants.{MAX_LEVEL}
 use Rattle.life_base.specs.declared.fault.Fault.{Fault}
-use Rattle.life_canon.specs.Store.{IsWant}
-use Rattle.life_canon.specs.Taking.{IsLineFault, taken}
+use Rattle.life_canon.specs.Store.{IsShortageOf}
+use Rattle.life_canon.specs.Taking.{IsLineFault, taken_lines}
 use Rattle.life_canon.proofs.FrontFacts.{fault-of-kind}
 use Rattle.life_canon.proofs.NeedFacts.{kind-full}
 use Rattle.life_canon.proofs.front.Front.take_line.Goals as goal
@@ -24,9 +24,9 @@ returns-in-Err-clause-takes c =
     let call = c.in-Err.ensures in
     record {
       line_taken = tt;
-      fault = subst (λ (f : Fault). IsWant c.take_line.new.store f
-          ⊎ IsLineFault MAX_LEVEL (taken c.args.self.now.progress) c.args.line.now c.args.self.now.ended f) (sym c.fault_here.ensures)
-          (fault-of-kind c.take_line.new.store (taken c.args.self.now.progress) c.args.line.now c.args.self.now.ended c.in-Err.kind call.fault);
+      fault = subst (λ (f : Fault). IsShortageOf c.take_line.new.store f
+          ⊎ IsLineFault MAX_LEVEL (taken_lines c.args.self.now.progress) c.args.line.now c.args.self.now.ended f) (sym c.fault_here.ensures)
+          (fault-of-kind c.take_line.new.store (taken_lines c.args.self.now.progress) c.args.line.now c.args.self.now.ended c.in-Err.kind call.fault);
       stores = record {
         needed = λ e.
             let told : c.fault_here.result ≡ fault_of Full = cc in

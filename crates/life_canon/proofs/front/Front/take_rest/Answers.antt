@@ -1,6 +1,6 @@
 use Rattle.std.proofs.Common.{◌≡◌, ℕ, ◌<◌, List, length, sym, subst, arith, OnOk}
 use Rattle.std.proofs.lemmas.Bool.Decides.{nat_tests}
-use Rattle.life_canon.specs.Taking.{IsEnd, bytes_of, taken}
+use Rattle.life_canon.specs.Taking.{IsEnd, bytes_of, taken_lines}
 use Rattle.life_canon.proofs.FrontFacts.{whole-end, kept-end, kept-going, rest-lines, rest-fault, no-length}
 use Rattle.life_canon.proofs.PatternFacts.{on-ok}
 use Rattle.life_base.specs.declared.cell.TheConstants.{MAX_LEVEL}
@@ -50,9 +50,9 @@ returns-clause-stores c =
     let going = c.requires.front.is.going (kept-going bytes kept old.ended old.progress c.requires.front.is some) in
     let stores = c.take_kept.ensures.takes.stores in
     record {
-      needed = λ e. subst (SomeOfFile MAX_LEVEL (IsNew c.take_kept.new.store)) (sym (rest-lines bytes kept old.ended (taken old.progress) going some))
+      needed = λ e. subst (SomeOfFile MAX_LEVEL (IsNew c.take_kept.new.store)) (sym (rest-lines bytes kept old.ended (taken_lines old.progress) going some))
           (of_lines (stores.needed e));
       adds = adds-as _ stores.adds
-          (λ P s. subst (SomeOfFile MAX_LEVEL P) (sym (rest-lines bytes kept old.ended (taken old.progress) going some)) (of_lines s));
+          (λ P s. subst (SomeOfFile MAX_LEVEL P) (sym (rest-lines bytes kept old.ended (taken_lines old.progress) going some)) (of_lines s));
       keeps = stores.keeps;
     }

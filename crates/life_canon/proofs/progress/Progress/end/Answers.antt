@@ -8,8 +8,8 @@ use Rattle.life_base.specs.declared.cell.Run.{Run}
 use Rattle.life_base.specs.declared.cell.TheConstants.{MAX_LEVEL}
 use Rattle.life_base.specs.declared.kind.Kind.{Kind}
 use Rattle.life_mc.specs.Cells.{root_level}
-use Rattle.life_mc.specs.Macrocell.{Macrocell, IsValid}
-use Rattle.life_mc.specs.Grammar.{IsFile}
+use Rattle.life_mc.specs.Macrocell.{Macrocell, IsValidMacrocell}
+use Rattle.life_mc.specs.Grammar.{IsPlainMacrocell}
 use Rattle.life_mc.specs.Reading.{AreMacrocell, squares_of}
 use Rattle.life_mc.proofs.Accepted.{lines_are_valid}
 use Rattle.life_mc.proofs.Grammars.{grammars_agree}
@@ -29,7 +29,7 @@ use Rattle.life_canon.specs.Files.{Says, as_rle, as_macrocell, is_macrocell}
 use Rattle.life_canon.specs.Filling.{AreSquaresOf}
 use Rattle.life_canon.specs.Needs.{SomeRoot, SomeAtEnd, SomeOfLines, SomeOfMacrocell, grown_times, of_plane, of_root, level_of_root}
 use Rattle.life_canon.specs.Store.{IsKnown, content}
-use Rattle.life_canon.specs.Taking.{IsEnd, IsOpen, StandsFor, taken}
+use Rattle.life_canon.specs.Taking.{IsEnd, IsOpen, StandsFor, taken_lines}
 use Rattle.life_canon.specs.Waiting.{KeepsLines}
 use Rattle.life_canon.specs.Universe.{least_level, rle_universe, macrocell_universe}
 use Rattle.life_canon.specs.declared.progress.Progress.{Progress}
@@ -45,48 +45,48 @@ use Rattle.life_base.proofs.Results.{err_again}
 
 -- what the end of an RLE file with these runs gives
 record RleEnd (p : Progress) (runs : List Run) (file : Rle) : Type 1 where
-  says : Says MAX_LEVEL (taken p) (rle_universe file)
-  format : is_macrocell (taken p) ≡ false
+  says : Says MAX_LEVEL (taken_lines p) (rle_universe file)
+  format : is_macrocell (taken_lines p) ≡ false
   cells : (x y : ℤ) → state_by runs x y ≡ (rle_universe file).cell x y
-  plane : (P : Tree → Type 0) → SomeSquare P (2 ^ MAX_LEVEL) (by_columns (state_by runs)) → SomeAtEnd MAX_LEVEL P (taken p)
-  root : {level : ℕ} → level ≡ MAX_LEVEL → (P : Tree → Type 0) → SomeRoot MAX_LEVEL P (rle_universe file) level → SomeAtEnd MAX_LEVEL P (taken p)
+  plane : (P : Tree → Type 0) → SomeSquare P (2 ^ MAX_LEVEL) (by_columns (state_by runs)) → SomeAtEnd MAX_LEVEL P (taken_lines p)
+  root : {level : ℕ} → level ≡ MAX_LEVEL → (P : Tree → Type 0) → SomeRoot MAX_LEVEL P (rle_universe file) level → SomeAtEnd MAX_LEVEL P (taken_lines p)
 
 rle-end : (store : Nodes) {p : Progress} {reader : LinesRead} {builder : Building} {runs : Vec Run} → p ≡ progress.Rle reader builder runs → IsOpen p
     → StandsFor (IsKnown store) (content store) p → (file : Rle) → IsRle MAX_LEVEL reader.lines file → RleEnd p builder.runs file
 rle-end store {p} {reader} {builder} is begun stands file are =
     let u = rle_universe file in
-    let whole : Says MAX_LEVEL (taken p) u = subst (λ (ls : List (List ℕ)). Says MAX_LEVEL ls u) (sym (ap taken is)) (as_rle file are) in
-    let format = ap is_macrocell (ap taken is) ∙ (subst IsOpen is begun).format in
+    let whole : Says MAX_LEVEL (taken_lines p) u = subst (λ (ls : List (List ℕ)). Says MAX_LEVEL ls u) (sym (ap taken_lines is)) (as_rle file are) in
+    let format = ap is_macrocell (ap taken_lines is) ∙ (subst IsOpen is begun).format in
     let same = file-cells reader.lines builder.runs file (subst (StandsFor (IsKnown store) (content store)) is stands).are are in
     record {
       says = whole;
       format = format;
       cells = same;
       plane = λ P s. of_plane u whole format (same-square (2 ^ MAX_LEVEL) (state_by builder.runs) u.cell same s);
-      root = λ e P s. of_root u whole (subst (SomeRoot MAX_LEVEL P u) (e ∙ sym (top-level (taken p) format)) s);
+      root = λ e P s. of_root u whole (subst (SomeRoot MAX_LEVEL P u) (e ∙ sym (top-level (taken_lines p) format)) s);
     }
 
 -- what the end of a macrocell file gives whose squares these Ids name
 record MacrocellEnd (store : Nodes) (p : Progress) (ids : List Id) (file : Macrocell) : Type 1 where
-  valid : IsValid MAX_LEVEL file
+  valid : IsValidMacrocell MAX_LEVEL file
   there : AreSquaresOf (IsKnown store) (content store) file.lines ids
-  says : Says MAX_LEVEL (taken p) (macrocell_universe file)
+  says : Says MAX_LEVEL (taken_lines p) (macrocell_universe file)
   ends : (bytes : List ℕ) (ended : ℕ) → IsEnd bytes ended p → (is_macrocell (lines_of bytes) ≡ true) × AreMacrocell MAX_LEVEL (lines_of bytes) file
   last : {level : ℕ} → level ≡ max 1 (root_level file.lines) → (bytes : List ℕ) (ended : ℕ) → IsEnd bytes ended p
       → level ≡ level_of_root MAX_LEVEL (lines_of bytes)
   root : {level : ℕ} → level ≡ max 1 (root_level file.lines) → (P : Tree → Type 0) → SomeRoot MAX_LEVEL P (macrocell_universe file) level
-      → SomeAtEnd MAX_LEVEL P (taken p)
+      → SomeAtEnd MAX_LEVEL P (taken_lines p)
 
 macrocell-end : (store : Nodes) {p : Progress} {reader : LinesRead} {ids : Vec Id} {waiting : Vec Quarters} {here : List Id}
     → p ≡ progress.Macrocell reader ids waiting → IsOpen p → AreSquaresOf (IsKnown store) (content store) (squares_of reader.lines) here → (file : Macrocell)
-    → IsFile MAX_LEVEL reader.lines file
+    → IsPlainMacrocell MAX_LEVEL reader.lines file
     → MacrocellEnd store p here file
 macrocell-end store {p} {reader} {ids} {waiting} {here} is begun squares file found =
     let u = macrocell_universe file in
     let are = (grammars_agree MAX_LEVEL reader.lines file).0 found in
-    let whole : Says MAX_LEVEL (taken p) u = subst (λ (ls : List (List ℕ)). Says MAX_LEVEL ls u) (sym (ap taken is)) (as_macrocell file are) in
+    let whole : Says MAX_LEVEL (taken_lines p) u = subst (λ (ls : List (List ℕ)). Says MAX_LEVEL ls u) (sym (ap taken_lines is)) (as_macrocell file are) in
     let level = ap (λ (ls : List Line). max 1 (root_level ls)) are.squares
-    ∙ sym (ap (level_of_root MAX_LEVEL) (ap taken is) ∙ macrocell-level reader.lines (subst IsOpen is begun).format) in
+    ∙ sym (ap (level_of_root MAX_LEVEL) (ap taken_lines is) ∙ macrocell-level reader.lines (subst IsOpen is begun).format) in
     record {
       valid = lines_are_valid MAX_LEVEL reader.lines file are;
       there = rw are.squares squares;
@@ -95,7 +95,7 @@ macrocell-end store {p} {reader} {ids} {waiting} {here} is begun squares file fo
           let same = lines bytes ended (subst (IsEnd bytes ended) is e) in
           (ap is_macrocell same ∙ (subst IsOpen is begun).format, subst (λ (ls : List (List ℕ)). AreMacrocell MAX_LEVEL ls file) (sym same) are);
       last = λ e bytes ended end.
-          e ∙ level ∙ ap (level_of_root MAX_LEVEL) (ap taken is ∙ sym (lines bytes ended (subst (IsEnd bytes ended) is end)));
+          e ∙ level ∙ ap (level_of_root MAX_LEVEL) (ap taken_lines is ∙ sym (lines bytes ended (subst (IsEnd bytes ended) is end)));
       root = λ e P s. of_root u whole (subst (SomeRoot MAX_LEVEL P u) (e ∙ level) s);
     }
   where
@@ -114,10 +114,10 @@ joined-squares old new lines {ids} {waiting = waiting} kept keeps joined are kno
 -- and a square of theirs is one of the file
 waited-some : (store : Nodes) {p : Progress} {reader : LinesRead} {ids : Vec Id} {waiting : Vec Quarters} → p ≡ progress.Macrocell reader ids waiting → IsOpen p
     → StandsFor (IsKnown store) (content store) p → (P : Tree → Type 0) → SomeOf P (quads_of (content store) waiting.items)
-    → SomeAtEnd MAX_LEVEL P (taken p) ⊎ SomeOfMacrocell MAX_LEVEL P (taken p)
+    → SomeAtEnd MAX_LEVEL P (taken_lines p) ⊎ SomeOfMacrocell MAX_LEVEL P (taken_lines p)
 waited-some store {p} {reader} {ids} {waiting} is begun stands P s = inr (
-  ap is_macrocell (ap taken is) ∙ (subst IsOpen is begun).format,
-  subst (SomeOfLines MAX_LEVEL P) (sym (ap taken is))
+  ap is_macrocell (ap taken_lines is) ∙ (subst IsOpen is begun).format,
+  subst (SomeOfLines MAX_LEVEL P) (sym (ap taken_lines is))
       (waiting-some reader.lines ids.items waiting.items (subst (StandsFor (IsKnown store) (content store)) is stands) P s),
 )
 
@@ -138,7 +138,7 @@ returns-in_err-rule-in-Rle-clause-fault c =
     let kind : Kind = c.in_err-rule-in-Rle.field-0.0 in
     let begun = subst IsOpen c.in-Rle.is c.requires.begun in
     let e = c.in_err-rule-in-Rle.ensures in
-    rw (p.1, p.2) (inr (end-kind c.args.self c.in-Rle.lines.lines c.in-Rle.lines.refused kind (ap taken c.in-Rle.is) begun.format begun.unrefused e.only
+    rw (p.1, p.2) (inr (end-kind c.args.self c.in-Rle.lines.lines c.in-Rle.lines.refused kind (ap taken_lines c.in-Rle.is) begun.format begun.unrefused e.only
     (λ n. (e.missing begun.unrefused).0 (cc)) (λ s. e.spent.0 (cc))))
 
 pub returns-in-Rle-clause-pattern : goal.returns-in-Rle-clause-pattern

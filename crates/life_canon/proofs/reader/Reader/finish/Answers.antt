@@ -1,6 +1,6 @@
 use Rattle.std.proofs.Common.{◌+◌, ◌<◌, length, subst, rules, OnOk}
 use Rattle.life_base.specs.declared.cell.TheConstants.{MAX_LEVEL}
-use Rattle.life_quad.specs.Store.{held}
+use Rattle.life_quad.specs.Store.{stored_squares}
 use Rattle.life_canon.specs.Feeding.{Fed}
 use Rattle.life_canon.specs.Needs.{LacksFor}
 use Rattle.life_canon.specs.Room.{AddsFile, HoldsFile, HoldsOnly, room_for}
@@ -22,7 +22,7 @@ pub returns-clause-ends : goal.returns-clause-ends
 returns-clause-ends c =
     let call = c.finish-answer.ensures in
     record {
-      all = subst (λ (v : Fed). OnOk c.finish-answer.result (HoldsFile v.bytes (held c.finish-answer.new.store))) c.self.view_is call.all;
+      all = subst (λ (v : Fed). OnOk c.finish-answer.result (HoldsFile v.bytes (stored_squares c.finish-answer.new.store))) c.self.view_is call.all;
       needed = λ e. subst (λ (v : Fed). LacksFor MAX_LEVEL v.bytes c.finish-answer.new.store) c.self.view_is (call.stores.needed e);
       adds = subst (λ (v : Fed). AddsFile v.bytes c.args.store.now c.finish-answer.new.store) c.self.view_is call.stores.adds;
       room = λ e base.

@@ -3,7 +3,7 @@ use Rattle.std.proofs.lemmas.Result.{err_from_is_err_and}
 use Rattle.life_base.specs.Text.{is_too_long}
 use Rattle.life_base.specs.declared.kind.Kind.{Kind}
 use Rattle.life_base.specs.declared.kind.Kind.TheVariants.{Memory}
-use Rattle.life_mc.specs.Reading.{broken, broken_after}
+use Rattle.life_mc.specs.Reading.{broken_rule, broken_after}
 use Rattle.life_mc.specs.Standing.{Standing}
 use Rattle.life_mc.proofs.Stands.{breaks_length, breaks_header, broken_is, stands_first, stands_next, combine}
 use Rattle.life_base.specs.declared.cell.TheConstants.{MAX_LEVEL}
@@ -44,7 +44,7 @@ returns-in_err-parsed-clause-err c = λ lines s.
     ∙ ap (λ (ls : List ℕ). broken_after MAX_LEVEL c.self.inside.rule ls line) (sym c.deref.ensures.value) in
     let parsed : (kind ≡ Memory) ⊎ (broken_after MAX_LEVEL c.self.inside.rule c.deref.result.now line ≡ Some kind) = c.in_err-parsed.ensures in
     let p = err_from_is_err_and c.from_residual.result c.from_residual.ensures.1 in
-    let answer : (kind ≡ Memory) ⊎ (broken MAX_LEVEL lines line ≡ Some kind) = elim parsed [
+    let answer : (kind ≡ Memory) ⊎ (broken_rule MAX_LEVEL lines line ≡ Some kind) = elim parsed [
       | inl m ↦ inl m
       | inr b ↦ inr (broken_is MAX_LEVEL lines line now s (short c.args.line.now c.is_too_long.result c.is_too_long.ensures c.if-is_too_long.false) started
           ∙ same ∙ b)

@@ -3,7 +3,7 @@ use Rattle.std.specs.Option.{ok_or}
 use Rattle.life_base.specs.declared.cell.TheConstants.{MAX_LEVEL}
 use Rattle.life_base.specs.declared.kind.Kind.TheVariants.{NoHeader}
 use Rattle.life_base.specs.declared.rule.Rule.{Rule}
-use Rattle.life_mc.specs.Grammar.{IsFile}
+use Rattle.life_mc.specs.Grammar.{IsPlainMacrocell}
 use Rattle.life_mc.specs.Macrocell.{Macrocell}
 use Rattle.life_base.specs.Lines.{LinesRead}
 use Rattle.life_mc.specs.Standing.{Standing, StandsAfter}
@@ -11,7 +11,7 @@ use Rattle.life_mc.proofs.LinesTaken.{file_said}
 use Rattle.life_mc.proofs.lines.McLines.end.Goals as goal
 
 abbrev IsEnd : List (List ℕ) → Rule × ℕ → Type 0
-IsEnd lines found = (file : Macrocell) × IsFile MAX_LEVEL lines file × (found.0 ≡ file.rule) × (found.1 ≡ file.generation)
+IsEnd lines found = (file : Macrocell) × IsPlainMacrocell MAX_LEVEL lines file × (found.0 ≡ file.rule) × (found.1 ≡ file.generation)
 
 ended : (o : Option (Rule × ℕ)) (lines : List (List ℕ)) (state : Standing) → StandsAfter MAX_LEVEL lines state
     → MatchOption o (state.started ≡ false) (λ found. (state.started ≡ true) × (found.0 ≡ state.rule) × (found.1 ≡ state.generation))

@@ -1,5 +1,5 @@
 use Rattle.std.proofs.Common.{◌≡◌, ◌≢◌, ℕ, ◌<◌, ◌≤◌, List, length, get_or, set, replicate, sym, ◌∙◌, ap, arith, get_or-set_same, get_or-set_other, length-append}
-use Rattle.life_quad.specs.IdMap.{value_of}
+use Rattle.life_quad.specs.IdMap.{value_of_id}
 use Rattle.life_quad.specs.Pages.{start_in, index_in}
 use Rattle.life_quad.proofs.PageLemmas.{one_page, same_values}
 use Rattle.life_quad.proofs.id_map.IdMap.make_room.Goals as goal
@@ -21,7 +21,7 @@ returns-clause-same g c = λ q.
     4294967295 o ∙ c.make_place.ensures.same p in
     let items = c.in_ok-add_page.ensures.page in
     ap (λ l. get_or l (index_in new q.0) absent) items ∙ same_values starts new values absent place c.args.id.0 q.0 c.self.invariant
-    (sym c.place_of-place.ensures) none here others ∙ ap (λ v. value_of v q) c.self.view_is
+    (sym c.place_of-place.ensures) none here others ∙ ap (λ v. value_of_id v q) c.self.view_is
 
 pub invariant_of-self-2 : goal.invariant_of-self-2
 invariant_of-self-2 g c =

@@ -1,7 +1,7 @@
 use Rattle.std.proofs.Common.{◌≡◌, ◌++◌, [], ◌∷◌, arith, sym, ◌∙◌, ap, subst, length, length-append}
 use Rattle.life_base.specs.Tree.{depth}
 use Rattle.life_quad.proofs.StoreLemmas.{levels-push}
-use Rattle.life_quad.specs.Store.{squares, levels_of, node_square, IsNode, IsSound}
+use Rattle.life_quad.specs.Store.{squares, levels_of, node_square, IsNode, IsSoundStore}
 use Rattle.life_quad.specs.contracts.plain.Plain.{the_view}
 use Rattle.life_quad.proofs.GrowLemmas.{IsSound-push}
 use Rattle.life_quad.proofs.plain.Plain.add.Goals as goal
@@ -20,7 +20,7 @@ invariant_of-self-2 c =
     let levels = c.in_ok-push-2.ensures.items ∙ ap (λ l. l ++ c.args.level ∷ []) (c.in_ok-reserve.ensures.items ∙ c.self.invariant.2)
     ∙ ap (λ v. levels_of s.nodes ++ v ∷ []) level
     ∙ sym (ap levels_of e ∙ levels-push s.nodes c.args.node) in (
-      subst (λ z. IsSound (record { nodes = z; log = []; limit = s.limit })) (sym e)
+      subst (λ z. IsSoundStore (record { nodes = z; log = []; limit = s.limit })) (sym e)
           (IsSound-push s c.args.node c.self.invariant.0 node (omega (arith, l, few))),
       omega (arith, l, limit, longer),
       levels,
@@ -33,4 +33,5 @@ returns-clause-sound c =
     let e = c.in_ok-push.ensures.items in
     let l = c.len-index.ensures in
     let few = c.in_default.ensures.room.1 in
-    subst (λ z. IsSound (record { nodes = z; log = []; limit = s.limit })) (sym e) (IsSound-push s c.args.node c.self.invariant.0 node (omega (arith, l, few)))
+    subst (λ z. IsSoundStore (record { nodes = z; log = []; limit = s.limit })) (sym e)
+    (IsSound-push s c.args.node c.self.invariant.0 node (omega (arith, l, few)))

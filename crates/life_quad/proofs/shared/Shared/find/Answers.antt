@@ -1,5 +1,5 @@
 use Rattle.std.proofs.Common.{◌+◌, inl, Some, ap, refl, sym, ◌∙◌, subst}
-use Rattle.life_quad.specs.Store.{id_of, IsFound, as_node}
+use Rattle.life_quad.specs.Store.{id_of, IsFoundId, as_node}
 use Rattle.life_quad.specs.contracts.shared.Shared.{the_view}
 use Rattle.life_quad.proofs.StoreLemmas.{square_of-node}
 use Rattle.life_quad.proofs.CallLemmas.{knows_id, node_of, position_node}
@@ -13,5 +13,5 @@ returns-in-Some c =
     let q = c.args.quarters in
     let node = node_of q.nw q.ne q.sw q.se in
     let at = position_node s.nodes c.of.result i (sym c.get_index_of.ensures.index ∙ c.in-Some.is) ∙ ap Some c.of.ensures in
-    subst (λ v. IsFound v q (id_of (66064 + i))) c.self.view_is
+    subst (λ v. IsFoundId v q (id_of (66064 + i))) c.self.view_is
     (inl ((knows_id s node (id_of (66064 + i)) inv.0 (as_node i refl at), inv.1), square_of-node s i node (id_of (66064 + i)) inv.0 at refl))

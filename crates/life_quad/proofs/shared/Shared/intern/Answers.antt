@@ -1,10 +1,10 @@
 use Rattle.std.proofs.Common.{◌≡◌, ◌+◌, ◌∷◌, [], ◌++◌, length, Contains, arith, true, false, refl, sym, ◌∙◌, ap, subst, Ok, Err, length-append, if◌then◌else◌, is_some, is_ok, not}
 use Rattle.std.proofs.lemmas.List.{same_from_push}
 use Rattle.life_base.specs.declared.kind.Kind.TheVariants.{Memory}
-use Rattle.life_quad.specs.IdMap.{value_of}
+use Rattle.life_quad.specs.IdMap.{value_of_id}
 use Rattle.life_quad.proofs.StoreLemmas.{levels-push}
 use Rattle.life_base.specs.Tree.{depth}
-use Rattle.life_quad.specs.Store.{Nodes, squares, levels_of, node_square, id_of, IsNode, IsSound, IsShared, Answers}
+use Rattle.life_quad.specs.Store.{Nodes, squares, levels_of, node_square, id_of, IsNode, IsSoundStore, IsShared, AnswersJoin}
 use Rattle.life_quad.specs.contracts.shared.Shared.{the_view}
 use Rattle.life_quad.proofs.GrowLemmas.{with_both}
 use Rattle.life_quad.proofs.CallLemmas.{HasRoom, absent_node, node_there, node_added, sound_added, answers_refused, answers_memory, HasSeen-node, position_node, not_there, inserted, found}
@@ -17,7 +17,7 @@ returns-in_default-get_index_of c =
     let node = subst (λ v. IsNode v.log (squares v.nodes) (length v.nodes) c.args.node) (sym c.self.view_is) c.requires.sound in
     let missing : ¬ Contains s.nodes c.args.node = not_there s.nodes c.args.node (sym c.get_index_of.ensures.found ∙ ap is_some c.in_default-get_index_of.is) in
     let same : c.len-nodes.result + c.self.inside.small ≡ length s.log = ap (λ n. n + c.self.inside.small) c.len-nodes.ensures.len ∙ sym inv.3 in
-    subst (λ v. Answers v v (node_square (squares v.nodes) c.args.node) (Err c.in-Some.kind)) c.self.view_is
+    subst (λ v. AnswersJoin v v (node_square (squares v.nodes) c.args.node) (Err c.in-Some.kind)) c.self.view_is
     (answers_refused s s (node_square (squares s.nodes) c.args.node) c.in-Some.kind _ refl inv.1
     (absent_node s c.args.node inv.0 inv.1 node c.requires.large missing) c.in-Some.ensures.room same c.in-Some.ensures.full)
 
@@ -27,7 +27,7 @@ returns-in-Some c =
     let inv = c.self.invariant in
     let i = c.in-Some-get_index_of.i in
     let at = position_node s.nodes c.args.node i (sym c.get_index_of.ensures.index ∙ c.in-Some-get_index_of.is) in
-    subst (λ v. Answers v v (node_square (squares v.nodes) c.args.node) (Ok (id_of (66064 + i)))) c.self.view_is (node_there s c.args.node i inv.0 inv.1 at)
+    subst (λ v. AnswersJoin v v (node_square (squares v.nodes) c.args.node) (Ok (id_of (66064 + i)))) c.self.view_is (node_there s c.args.node i inv.0 inv.1 at)
 
 pub returns-in_err-i : goal.returns-in_err-i
 returns-in_err-i c =
@@ -41,7 +41,7 @@ returns-in_err-i c =
     let len = c.len-nodes.ensures.len in
     let more = inv.3 in
     let room = c.in_default.ensures.room.0 in
-    subst (λ v. Answers v new (node_square (squares v.nodes) c.args.node) c.from_residual.result) c.self.view_is
+    subst (λ v. AnswersJoin v new (node_square (squares v.nodes) c.args.node) c.from_residual.result) c.self.view_is
     (answers_memory s new (node_square (squares s.nodes) c.args.node) c.from_residual.result (λ i. record { nodes = kept i; log = s.log; limit = s.limit })
     inv.1
     (absent_node s c.args.node inv.0 inv.1 node c.requires.large missing) (omega (arith, len, more, room)) _ (λ k e. e) told.0 told.1)
@@ -60,7 +60,7 @@ invariant_of-self-then-is_err c =
     let inv = c.self.invariant in
     let back = sym (dropped c).1 in
     let refused : is_ok c.push.result ≡ false = c.is_err.ensures.negation ∙ ap not c.if-is_err.true in (
-      subst (λ ns. IsSound (record { nodes = ns; log = c.self.inside.log.ids; limit = c.self.inside.limit })) back inv.0,
+      subst (λ ns. IsSoundStore (record { nodes = ns; log = c.self.inside.log.ids; limit = c.self.inside.limit })) back inv.0,
       subst (λ ns. IsShared (record { nodes = ns; log = c.self.inside.log.ids; limit = c.self.inside.limit })) back inv.1,
       inv.2,
       inv.3 ∙ ap (λ ns. length ns + c.self.inside.small) back,
@@ -78,7 +78,7 @@ returns-then-is_err c =
     let len = c.len-nodes.ensures.len in
     let more = inv.3 in
     let room = c.in_default.ensures.room.0 in
-    subst (λ v. Answers v new (node_square (squares v.nodes) c.args.node) (Err Memory)) c.self.view_is
+    subst (λ v. AnswersJoin v new (node_square (squares v.nodes) c.args.node) (Err Memory)) c.self.view_is
     (answers_memory s new (node_square (squares s.nodes) c.args.node) (Err Memory) (λ i. record { nodes = d.1 i; log = s.log; limit = s.limit }) inv.1
     (absent_node s c.args.node inv.0 inv.1 node c.requires.large d.0) (omega (arith, len, more, room)) (λ k. k ≡ Memory) (λ k e. e) refl refl)
 
@@ -127,7 +127,7 @@ invariant_of-self-then-is_new c =
     ∙ sym (ap levels_of nodes ∙ levels-push s.nodes c.args.node) in (
       sound.0,
       sound.1,
-      HasSeen-node (value_of c.self.inside.seen) s.log (new c).log (66064 + length s.nodes) inv.2 (omega arith) last,
+      HasSeen-node (value_of_id c.self.inside.seen) s.log (new c).log (66064 + length s.nodes) inv.2 (omega arith) last,
       omega
           (arith, longer, more, one),
       levels,
@@ -139,7 +139,7 @@ returns-else-is_err c =
     let inv = c.self.invariant in
     let a = added c in
     let i = c.in_ok-i.i in
-    subst (λ v. Answers v (new c) (node_square (squares v.nodes) c.args.node) (Ok (id_of (66064 + i)))) c.self.view_is
+    subst (λ v. AnswersJoin v (new c) (node_square (squares v.nodes) c.args.node) (Ok (id_of (66064 + i)))) c.self.view_is
     (node_added s (new c) c.args.node i inv.0 inv.1 a.0 c.requires.large a.1 a.2 a.3 a.4)
 
 pub returns-else-is_new : goal.returns-else-is_new
@@ -152,5 +152,5 @@ returns-else-is_new c =
     let none : length new.nodes ≡ length s.nodes = omega (arith, len) in
     let is = found s.nodes new.nodes c.args.node i c.in_ok-i.ensures.keys none c.in_ok-i.ensures.stored in
     let same : s ≡ new = λ i. record { nodes = sym is.0 i; log = s.log; limit = s.limit } in
-    subst (λ v. Answers v new (node_square (squares v.nodes) c.args.node) (Ok (id_of (66064 + i)))) c.self.view_is
-    (subst (λ v. Answers s v (node_square (squares s.nodes) c.args.node) (Ok (id_of (66064 + i)))) same (node_there s c.args.node i inv.0 inv.1 is.1))
+    subst (λ v. AnswersJoin v new (node_square (squares v.nodes) c.args.node) (Ok (id_of (66064 + i)))) c.self.view_is
+    (subst (λ v. AnswersJoin s v (node_square (squares s.nodes) c.args.node) (Ok (id_of (66064 + i)))) same (node_there s c.args.node i inv.0 inv.1 is.1))

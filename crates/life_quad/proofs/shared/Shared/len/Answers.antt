@@ -1,5 +1,5 @@
 use Rattle.std.proofs.Common.{◌+◌, sym, ◌∙◌, ap, subst, length}
-use Rattle.life_quad.specs.Store.{held, IsShared}
+use Rattle.life_quad.specs.Store.{stored_squares, IsShared}
 use Rattle.life_quad.proofs.CallLemmas.{length-held, held-distinct, held-complete, held-only}
 use Rattle.life_quad.proofs.shared.Shared.len.Goals as goal
 
@@ -7,7 +7,7 @@ pub returns-clause-len : goal.returns-clause-len
 returns-clause-len c =
     ap (λ n. n + c.self.inside.small) c.len.ensures.len ∙ sym c.self.invariant.3
     ∙ sym (length-held (record { nodes = c.self.inside.nodes.keys; log = c.self.inside.log.ids; limit = c.self.inside.limit }))
-    ∙ ap (λ v. length (held v)) c.self.view_is
+    ∙ ap (λ v. length (stored_squares v)) c.self.view_is
 
 pub returns-clause-distinct : goal.returns-clause-distinct
 returns-clause-distinct c = rw (← c.self.view_is) (held-distinct _ c.self.invariant.0 c.self.invariant.1)

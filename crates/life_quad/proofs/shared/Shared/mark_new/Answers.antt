@@ -1,7 +1,7 @@
 use Rattle.std.proofs.Common.{◌≡◌, ◌+◌, ◌<◌, ◌∷◌, [], ◌++◌, length, Contains, arith, inl, refl, sym, ◌∙◌, ap, subst, Ok, Err, length-append}
 use Rattle.life_base.specs.declared.kind.Kind.TheVariants.{Full}
-use Rattle.life_quad.specs.IdMap.{value_of}
-use Rattle.life_quad.specs.Store.{Nodes, squares, small_square, id_of, IsSmall, Answers}
+use Rattle.life_quad.specs.IdMap.{value_of_id}
+use Rattle.life_quad.specs.Store.{Nodes, squares, small_square, id_of, IsSmall, AnswersJoin}
 use Rattle.life_quad.specs.contracts.shared.Shared.{the_view}
 use Rattle.life_quad.proofs.GrowLemmas.{with_id}
 use Rattle.life_quad.proofs.CallLemmas.{absent_small, small_added, sound_marked, answers_refused, answers_memory, HasSeen-mark, HasSeen-same}
@@ -16,7 +16,7 @@ returns-then-len-self c =
     let absent = subst (λ (v : Nodes). ¬ Contains v.log c.args.number) (sym c.self.view_is) c.requires.new in
     let same : c.len.result + c.self.inside.small ≡ length s.log = ap (λ n. n + c.self.inside.small) c.len.ensures.len ∙ sym inv.3 in
     let full = c.if-len-self.true in
-    subst (λ v. Answers v v (small_square c.args.number) (Err Full)) v
+    subst (λ v. AnswersJoin v v (small_square c.args.number) (Err Full)) v
     (answers_refused s s (small_square c.args.number) Full _ refl inv.1 (absent_small s c.args.number inv.0 inv.1 small absent) (inl refl) same
     (λ e. full, λ e. refl))
 
@@ -33,14 +33,19 @@ returns-in_err-set c =
     let most = c.self.invariant.1.len in
     let below = c.if-len-self.false in
     let len = c.len.ensures.len in
-    subst (λ v. Answers v s (small_square c.args.number) c.from_residual.result) v
+    subst (λ v. AnswersJoin v s (small_square c.args.number) c.from_residual.result) v
     (answers_memory s s (small_square c.args.number) c.from_residual.result refl inv.1 (absent_small s c.args.number inv.0 inv.1 small absent)
     (omega (arith, len, more, most, below)) _ (λ k e. e ∙ kind) told.0 told.1)
 
 pub invariant_of-self : goal.invariant_of-self
 invariant_of-self c =
-    let inv = c.self.invariant in
-    (inv.0, inv.1, HasSeen-same (value_of c.self.inside.seen) (value_of c.set.new.self) c.self.inside.log.ids inv.2 c.in_err-set.ensures.same, inv.3, inv.4)
+    let inv = c.self.invariant in (
+      inv.0,
+      inv.1,
+      HasSeen-same (value_of_id c.self.inside.seen) (value_of_id c.set.new.self) c.self.inside.log.ids inv.2 c.in_err-set.ensures.same,
+      inv.3,
+      inv.4,
+    )
 
 abbrev old : goal.After-self-2-1 → Nodes
 old c = the_view c.self.inside
@@ -75,7 +80,7 @@ invariant_of-self-2 c =
     let sound = sound_marked s (new c) c.args.number inv.0 inv.1 a.0 a.1 a.2 a.3 in (
       sound.0,
       sound.1,
-      HasSeen-mark (value_of c.self.inside.seen) (value_of c.set.new.self) s.log (new c).log c.args.number inv.2 c.in_ok-set.ensures.marked
+      HasSeen-mark (value_of_id c.self.inside.seen) (value_of_id c.set.new.self) s.log (new c).log c.args.number inv.2 c.in_ok-set.ensures.marked
           c.set.ensures.others grown,
       omega (arith, longer, more),
       inv.4,
@@ -84,5 +89,5 @@ invariant_of-self-2 c =
 pub returns : goal.returns
 returns c =
     let a = added c in
-    subst (λ v. Answers v (new c) (small_square c.args.number) (Ok (id_of c.args.number))) c.self.view_is
+    subst (λ v. AnswersJoin v (new c) (small_square c.args.number) (Ok (id_of c.args.number))) c.self.view_is
     (small_added (old c) (new c) c.args.number c.self.invariant.0 c.self.invariant.1 a.0 a.1 a.2 a.3)

@@ -1,5 +1,5 @@
 use Rattle.std.proofs.Common.{◌≡◌, arith, sym, ◌∙◌, ap, subst, true≢false, ◌+◌, suc}
-use Rattle.life_quad.specs.Store.{squares, content, node_square, number_of, IsNode, Answers}
+use Rattle.life_quad.specs.Store.{squares, content, node_square, small_number_of, IsNode, AnswersJoin}
 use Rattle.life_quad.specs.StoreLaws.{small_node}
 use Rattle.life_quad.proofs.SmallLemmas.{small_range}
 use Rattle.life_base.specs.Tree.{depth, blank}
@@ -53,7 +53,7 @@ returns-in-Some c =
     let s = c.args.self.now in
     let node = node_of c.args.nw c.args.ne c.args.sw c.args.se in
     let not_blank = is_blank-joined _ _ _ _ _ r.nw.0 r.ne.0 r.sw.0 r.se.0 r.ne_level r.sw_level r.se_level ∙ sym c.are_blank.ensures ∙ c.if-are_blank.false in
-    let answers = subst (λ t. Answers s c.mark.new.self t c.mark.result)
+    let answers = subst (λ t. AnswersJoin s c.mark.new.self t c.mark.result)
     (small_node (squares s.nodes) node c.in-Some.number (sym c.small_number.ensures ∙ c.in-Some.is)) c.mark.ensures in
     join_answers s c.mark.new.self (node_square (squares s.nodes) node) (omega arith) not_blank c.mark.result answers
 
@@ -65,7 +65,7 @@ intern-requires c =
     record {
       sound = subst (IsNode _ _ _) (sym c.of.ensures)
           (IsNode-joined _ _ _ _ _ r.nw.0 r.ne.0 r.sw.0 r.se.0 r.ne_level r.sw_level r.se_level r.room (sym c.are_blank.ensures ∙ c.if-are_blank.false));
-      large = ap number_of c.of.ensures ∙ sym c.small_number.ensures ∙ c.in_default.is;
+      large = ap small_number_of c.of.ensures ∙ sym c.small_number.ensures ∙ c.in_default.is;
       level = let e = c.level-level.ensures.level in let d = ap (λ n. depth (node_square (squares c.args.self.now.nodes) n)) c.of.ensures in omega arith;
     }
 
@@ -75,4 +75,4 @@ returns c =
     let s = c.args.self.now in
     let not_blank = is_blank-joined _ _ _ _ _ r.nw.0 r.ne.0 r.sw.0 r.se.0 r.ne_level r.sw_level r.se_level ∙ sym c.are_blank.ensures ∙ c.if-are_blank.false in
     join_answers s c.intern.new.self (node_square (squares s.nodes) (node_of c.args.nw c.args.ne c.args.sw c.args.se)) (omega arith) not_blank
-    c.intern.result (subst (λ n. Answers s c.intern.new.self (node_square (squares s.nodes) n) c.intern.result) c.of.ensures c.intern.ensures)
+    c.intern.result (subst (λ n. AnswersJoin s c.intern.new.self (node_square (squares s.nodes) n) c.intern.result) c.of.ensures c.intern.ensures)

@@ -4,7 +4,7 @@ use Rattle.std.proofs.lemmas.Bool.Decides.{eqb_tells}
 use Rattle.std.proofs.lemmas.List.{get_or_default}
 use Rattle.life_quad.specs.declared.id.Id.{Id}
 use Rattle.life_quad.specs.declared.moves.Quarters.{Quarters}
-use Rattle.life_quad.specs.Store.{Nodes, Knows, IsShared, content, held}
+use Rattle.life_quad.specs.Store.{Nodes, Knows, IsShared, content, stored_squares}
 use Rattle.life_quad.proofs.CallLemmas.{is_wanted}
 use Rattle.life_quad.proofs.JoinAllLemmas.{AreJoined, no_quarters, can_join, joined-none, joined-next, joined-skip, joined-all, joined-refused}
 use Rattle.life_quad.proofs.shared.SharedSquaresImpl.join_all.Goals as goal
@@ -12,7 +12,7 @@ use Rattle.life_quad.proofs.shared.SharedSquaresImpl.join_all.Goals.{then-eq+in_
 
 abbrev Joined : Nodes → Nodes → List Quarters → List Id → ℕ → Type 0
 Joined old now qs ids i =
-    AreJoined (λ s id. Knows s id × IsShared s) content held (λ s. s.limit) (λ id. id.0 ≡ 2 ^ 64 - 1) old now qs ids i
+    AreJoined (λ s id. Knows s id × IsShared s) content stored_squares (λ s. s.limit) (λ id. id.0 ≡ 2 ^ 64 - 1) old now qs ids i
 
 pub loop-i-init : goal.loop-i-init
 loop-i-init c =

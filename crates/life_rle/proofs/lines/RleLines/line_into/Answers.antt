@@ -9,7 +9,7 @@ use Rattle.life_rle.specs.declared.lines.Phase.{Phase}
 use Rattle.life_base.specs.Lines.{LinesRead}
 use Rattle.life_rle.specs.File.{HasRuns}
 use Rattle.life_rle.specs.Standing.{StandsAt, is_refused, is_over}
-use Rattle.life_rle.specs.Grammar.{IsSomeRle, IsMarked, Breaks}
+use Rattle.life_rle.specs.Grammar.{IsSomeRle, IsMarked, BreaksRle}
 use Rattle.life_rle.specs.Pattern.{Rle}
 use Rattle.life_rle.proofs.LineKinds.{Breaks-placed}
 use Rattle.life_rle.proofs.Stands.{StandsAt-Prefix, marked-is_over}
@@ -27,8 +27,8 @@ Told phase kind Broken = (kind ≡ Memory) ⊎ ((kind ≡ Spent) × (is_refused 
 -- what a refused line breaks, told of the lines that the reader has taken
 refused-for : (phase was : Phase) (cursor : Cursor) (lines : List (List ℕ)) (line : List ℕ) (kind : Kind) → phase ≡ was
     → StandsAt MAX_LEVEL was cursor lines
-    → Told phase kind ((before : List (List ℕ)) → StandsAt MAX_LEVEL phase cursor before → Breaks MAX_LEVEL before line kind)
-    → Told phase kind (Breaks MAX_LEVEL lines line kind)
+    → Told phase kind ((before : List (List ℕ)) → StandsAt MAX_LEVEL phase cursor before → BreaksRle MAX_LEVEL before line kind)
+    → Told phase kind (BreaksRle MAX_LEVEL lines line kind)
 refused-for phase was cursor lines line kind e h (inl m) = inl m
 refused-for phase was cursor lines line kind e h (inr (inl s)) = inr (inl s)
 refused-for phase was cursor lines line kind e h (inr (inr f)) = inr (inr (f lines (taken-StandsAt phase was cursor lines e h)))
@@ -63,10 +63,10 @@ returns-in_err-phase-clause-fault c =
     let told =
     refused-for c.replace-phase.result inside.phase inside.cursor inside.log.lines line kind c.replace-phase.ensures.value c.self.invariant
     c.in_err-phase.ensures.fault in
-    let answer : (kind ≡ Memory) ⊎ (kind ≡ Spent) ⊎ Breaks MAX_LEVEL c.args.self.now.lines line kind =
+    let answer : (kind ≡ Memory) ⊎ (kind ≡ Spent) ⊎ BreaksRle MAX_LEVEL c.args.self.now.lines line kind =
     elim told [
       | inl m ↦ inl m
-      | inr e ↦ elim e [ inl s ↦ inr (inl s.0) | inr b ↦ inr (inr (subst (λ (v : LinesRead). Breaks MAX_LEVEL v.lines line kind) c.self.view_is b)) ]
+      | inr e ↦ elim e [ inl s ↦ inr (inl s.0) | inr b ↦ inr (inr (subst (λ (v : LinesRead). BreaksRle MAX_LEVEL v.lines line kind) c.self.view_is b)) ]
     ] in
     let p = err_from_is_err_and c.from_residual.result c.from_residual.ensures.1 in
     rw (p.1, p.2) answer

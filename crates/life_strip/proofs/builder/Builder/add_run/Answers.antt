@@ -4,7 +4,7 @@ use Rattle.life_quad.proofs.GrowsLemmas.{grows-err, grows-ok}
 use Rattle.life_base.specs.declared.cell.Run.{Run}
 use Rattle.life_base.specs.declared.cell.TheConstants.{MAX_LEVEL}
 use Rattle.life_base.specs.Tree.{Tree}
-use Rattle.life_strip.specs.Given.{IsNext, by_columns, half_plane, state_by}
+use Rattle.life_strip.specs.Given.{IsNextRunStart, by_columns, half_plane, state_by}
 use Rattle.life_strip.specs.Needed.{SomeSquare}
 use Rattle.life_strip.specs.Plane.{cell_so_far, state_so_far}
 use Rattle.life_strip.specs.Filling.{Building, IsFilling}
@@ -21,7 +21,7 @@ add_run-requires-clause-free g c =
     let inside : Building = record { runs = c.self.inside.log.runs; kept = c.self.inside.plane } in
     let fill : IsFilling K C inside = subst (IsFilling K C) (sym c.self.view_is) c.requires.filling in
     fill.next c.args.run.x c.args.run.y c.requires.inside.north
-    (subst (λ (b : Building). IsNext b.runs c.args.run.x c.args.run.y) (sym c.self.view_is) c.requires.next)
+    (subst (λ (b : Building). IsNextRunStart b.runs c.args.run.x c.args.run.y) (sym c.self.view_is) c.requires.next)
 
 pub returns-clause-filling : goal.returns-clause-filling
 returns-clause-filling g c =
@@ -31,14 +31,14 @@ returns-clause-filling g c =
     let C' = g.S.Squares.content c.add_run.new.squares in
     let inside : Building = record { runs = c.self.inside.log.runs; kept = c.self.inside.plane } in
     let fill : IsFilling K C inside = subst (IsFilling K C) (sym c.self.view_is) c.requires.filling in
-    let next = subst (λ (b : Building). IsNext b.runs c.args.run.x c.args.run.y) (sym c.self.view_is) c.requires.next in
+    let next = subst (λ (b : Building). IsNextRunStart b.runs c.args.run.x c.args.run.y) (sym c.self.view_is) c.requires.next in
     let h = c.in_ok-add_run.ensures in
     subst (λ (runs : List Run). IsFilling K' C' (record { runs = runs; kept = c.add_run.new.self })) (sym c.then-self-inside.ensures)
     (filling-push K' C' c.add_run.new.self (cell_so_far C inside.kept) inside.runs c.args.run fill.order next fill.cells h.filled h.cells h.below h.beside)
 
 pub returns-clause-next : goal.returns-clause-next
 returns-clause-next g c i j h =
-    subst (λ (runs : List Run). IsNext runs i j) (sym c.then-self-inside.ensures) (next-push c.self.inside.log.runs c.args.run i j h)
+    subst (λ (runs : List Run). IsNextRunStart runs i j) (sym c.then-self-inside.ensures) (next-push c.self.inside.log.runs c.args.run i j h)
 
 -- a square that the plane needs is one of the runs before
 needed : (g : Over) (c : After-add_run g) (P : Tree → Type 0) → let rows = nat_abs (c.args.run.y +ℤ pos half_plane) in

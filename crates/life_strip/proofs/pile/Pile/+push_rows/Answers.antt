@@ -4,7 +4,7 @@ use Rattle.life_quad.specs.declared.id.Id.{Id}
 use Rattle.life_quad.specs.Keeping.{KeepsSquares}
 use Rattle.life_quad.proofs.GrowsLemmas.{grows-then, grows-err, grows-same}
 use Rattle.life_strip.specs.declared.spans.Strip.{Strip}
-use Rattle.life_strip.specs.Picture.{picture, height, IsRow, IsSound}
+use Rattle.life_strip.specs.Picture.{picture, height, IsRow, IsSoundStrip}
 use Rattle.life_strip.specs.Needed.{SomeSquare}
 use Rattle.life_strip.proofs.NeededLemmas.{SomeSquare-same}
 use Rattle.life_strip.proofs.PictureLemmas.{on_ok_map3, all_init, all_last, append-last, height-last}
@@ -20,7 +20,7 @@ last-below : {S : Type 0} {knows : S → Id → Type 0} {content : S → Id → 
 last-below {knows = knows} {content = content} {old = old} {new = new} keeps xs ys zs over last items rows same cells i j =
     let P = IsRow (knows old) (content old) in
     picture-under {knows = knows old} {knows' = knows new} {old = content old} {new = content new} keeps.contents over (xs ++ ys) (last ∷ [])
-    (all-one (IsSound (knows old) (content old)) last (all_last P ys last (subst (All P) items rows)).sound) same cells i j
+    (all-one (IsSoundStrip (knows old) (content old)) last (all_last P ys last (subst (All P) items rows)).sound) same cells i j
     ∙ ap (λ z. picture (content old) z i j) (sym (append-last xs ys zs last items))
 
 pub push_rows-requires : goal.push_rows-requires

@@ -6,7 +6,7 @@ use Rattle.life_quad.specs.declared.id.Id.{Id}
 use Rattle.life_quad.specs.Keeping.{KeepsSquares}
 use Rattle.life_quad.proofs.GrowsLemmas.{grows-then, grows-err}
 use Rattle.life_strip.specs.declared.spans.Strip.{Strip}
-use Rattle.life_strip.specs.Picture.{picture, height, IsLowest, IsRow, IsSound}
+use Rattle.life_strip.specs.Picture.{picture, height, IsLowest, IsRow, IsSoundStrip}
 use Rattle.life_strip.specs.Needed.{SomeSquare}
 use Rattle.life_strip.proofs.NeededLemmas.{SomeSquare-same}
 use Rattle.life_strip.proofs.PictureLemmas.{on_ok_map3, stack-kept, rows-kept}
@@ -17,11 +17,11 @@ use Rattle.life_strip.proofs.pile.Pile.close_band.Goals as goal
 -- strips and rows that a call kept have the cells that they had
 kept : {S : Type 0} {knows : S → Id → Type 0} {content : S → Id → Tree} {stored : S → List Tree} {most : S → ℕ} {old new : S}
     → KeepsSquares knows content stored most old new
-    → (xs ys : List Strip) → All (IsSound (knows old) (content old)) xs → All (IsRow (knows old) (content old)) ys
+    → (xs ys : List Strip) → All (IsSoundStrip (knows old) (content old)) xs → All (IsRow (knows old) (content old)) ys
     → (i j : ℕ) → picture (content new) (xs ++ ys) i j ≡ picture (content old) (xs ++ ys) i j
 kept {knows = knows} {content = content} {old = old} {new = new} keeps xs ys over rows =
     picture-keeps {knows = knows old} {knows' = knows new} {old = content old} {new = content new} keeps.contents (xs ++ ys)
-    (All-append (IsSound (knows old) (content old)) xs ys over (λ k d lt. (rows k d lt).sound))
+    (All-append (IsSoundStrip (knows old) (content old)) xs ys over (λ k d lt. (rows k d lt).sound))
 
 -- a strip that was made of the rows has their height
 band-height : (knows : Id → Type 0) (content : Id → Tree) (xs ys : List Strip) (o : Option Strip) (s : Strip) → All (IsRow knows content) ys
@@ -35,7 +35,7 @@ band-height knows content xs ys o s rows whole is level =
 -- and their cells, below the strips that the call kept
 band-cells : {S : Type 0} {knows : S → Id → Type 0} {content : S → Id → Tree} {stored : S → List Tree} {most : S → ℕ} {old new : S}
     → KeepsSquares knows content stored most old new
-    → (xs ys zs : List Strip) (o : Option Strip) (s : Strip) → All (IsSound (knows old) (content old)) xs → o ≡ Some s → zs ≡ ys
+    → (xs ys zs : List Strip) (o : Option Strip) (s : Strip) → All (IsSoundStrip (knows old) (content old)) xs → o ≡ Some s → zs ≡ ys
     → IfSome o (λ b. (i j : ℕ) → picture (content new) (b ∷ []) i j ≡ picture (content old) zs i j)
     → (i j : ℕ) → picture (content new) (xs ++ s ∷ []) i j ≡ picture (content old) (xs ++ ys) i j
 band-cells {knows = knows} {content = content} {old = old} {new = new} keeps xs ys zs o s sound is same cells =

@@ -6,7 +6,7 @@ use Rattle.life_quad.proofs.KeepingLemmas.{keeps-then, keeps-same, adds-none, ad
 use Rattle.life_quad.proofs.GrowsLemmas.{grows-behind, grows-err, grows-still}
 use Rattle.life_strip.specs.declared.spans.Strip.{Strip}
 use Rattle.life_strip.specs.Pile.{strips_of}
-use Rattle.life_strip.specs.Picture.{picture, height, AreFalling, IsLowest, IsSound}
+use Rattle.life_strip.specs.Picture.{picture, height, AreFalling, IsLowest, IsSoundStrip}
 use Rattle.life_strip.specs.Needed.{SomeSquare}
 use Rattle.life_strip.proofs.NeededLemmas.{SomeSquare-same}
 use Rattle.life_strip.proofs.PictureLemmas.{all_init, all_last, falling-init, height-push, lowest-init, picture-blank, positive_power}
@@ -157,7 +157,7 @@ some-rows level top n higher e =
 pub push_and_raise-requires : goal.push_and_raise-requires
 push_and_raise-requires g c =
     let now = c.loop-rest.squares in
-    let P = IsSound (g.S.Squares.knows now) (g.S.Squares.content now) in
+    let P = IsSoundStrip (g.S.Squares.knows now) (g.S.Squares.content now) in
     let inv = c.loop-rest.invariant in
     let xs = c.loop-rest.self.strips.items in
     let ys = c.loop-rest.self.band.items in

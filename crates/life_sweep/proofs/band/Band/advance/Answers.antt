@@ -2,7 +2,7 @@ use Rattle.std.proofs.Common.{◌≡◌, ◌<◌, refl, sym, subst, arith, w64, 
 use Rattle.std.proofs.lemmas.Int.{ints}
 use Rattle.std.proofs.lemmas.List.Elements.{All-take, All-drop}
 use Rattle.life_base.specs.declared.cell.Cell.{Cell}
-use Rattle.life_sweep.specs.Generation.{after}
+use Rattle.life_sweep.specs.Generation.{one_after}
 use Rattle.life_sweep.specs.Rows.{IsNextRow, IsInside, GoesSouth}
 use Rattle.life_sweep.specs.declared.band.Band.{Band}
 use Rattle.life_sweep.proofs.BandLemmas.{IsSplitAtRow, goes-south, last-band, fewer-rows, here-end, south-end}
@@ -12,12 +12,12 @@ pub returns-in_default-clause-over : goal.returns-in_default-clause-over
 returns-in_default-clause-over c e cells blank h = last-band cells c.args.self.now blank h (c.in_default.ensures.none refl)
 
 -- the rows that are left are divided at the next row
-divided : (c : goal.After-rest-2-1) → IsSplitAtRow (after (to_z w64 (of_z w64 c.in-Some.next))) c.args.self.now.rest.now c.split_at.result.0.now
+divided : (c : goal.After-rest-2-1) → IsSplitAtRow (one_after (to_z w64 (of_z w64 c.in-Some.next))) c.args.self.now.rest.now c.split_at.result.0.now
     c.split_at.result.1.now
 divided c =
     let rest = c.args.self.now.rest.now in
     let x = to_z w64 (of_z w64 c.in-Some.next) in
-    let arg : to_z w64 (of_z w64 (x +ℤ pos 1)) ≡ after x = omega (arith, ints, c.in-Some.ensures.within.0, c.in-Some.ensures.within.1) in
+    let arg : to_z w64 (of_z w64 (x +ℤ pos 1)) ≡ one_after x = omega (arith, ints, c.in-Some.ensures.within.0, c.in-Some.ensures.within.1) in
     let n = c.row_length.result in
     let split : IsSplitAtRow (to_z w64 (of_z w64 (x +ℤ pos 1))) rest (take n rest) (drop n rest) = record {
       both = sym (take-append-drop n rest);
@@ -61,7 +61,7 @@ returns-clause-sound c =
       rows = record { north = c.requires.sound.rows.here; here = c.requires.sound.rows.south; south = south };
       rest = behind c;
       here = here-end x b (next-row c) c.requires.sound.south;
-      south = south-end (after x) c.split_at.result.0.now south (divided c).row;
+      south = south-end (one_after x) c.split_at.result.0.now south (divided c).row;
       placed = (c.requires.sound.placed.0, c.requires.sound.placed.1, (moved c).here);
     }
 

@@ -5,7 +5,7 @@ use Rattle.life_table.specs.Meaning.{Answer, Becomes}
 use Rattle.life_table.specs.declared.table.Table.{Table}
 use Rattle.life_sweep.specs.declared.law.Known.{Known}
 use Rattle.life_sweep.specs.Generation.{TableAnswers}
-use Rattle.life_sweep.specs.LawFacts.{Remembers}
+use Rattle.life_sweep.specs.LawFacts.{RemembersAnswers}
 use Rattle.life_sweep.proofs.law.ByTableLaw.next.Goals as goal
 
 pub returns-then-eq-clause-next : goal.returns-then-eq-clause-next
@@ -33,7 +33,7 @@ returns-clause-next c =
     ((alike (Becomes next)).0 (subst (λ (z : Table). TableAnswers z seen (Becomes next)) c.grow.ensures c.in_ok-next.ensures.next))
 
 pub invariant_of-self : goal.invariant_of-self
-invariant_of-self c = subst (λ (z : Table). Remembers z c.self.inside.known.items) (sym c.grow.ensures) c.self.invariant
+invariant_of-self c = subst (λ (z : Table). RemembersAnswers z c.self.inside.known.items) (sym c.grow.ensures) c.self.invariant
 
 pub invariant_of-self-2 : goal.invariant_of-self-2
 invariant_of-self-2 c =
@@ -44,7 +44,7 @@ invariant_of-self-2 c =
     let next = c.in_ok-next.next in
     let new : Known = record { around = seen; next = next } in
     let answered = subst (λ (z : Table). TableAnswers z seen (Becomes next)) c.grow.ensures c.in_ok-next.ensures.next in
-    subst (λ (z : Table). Remembers z (set items place new)) (sym c.grow.ensures) (record {
+    subst (λ (z : Table). RemembersAnswers z (set items place new)) (sym c.grow.ensures) (record {
       places = length-set items place new ∙ c.self.invariant.places;
       each = All-set (λ (k : Known). TableAnswers t k.around (Becomes k.next)) items place new answered c.self.invariant.each;
     })

@@ -1,6 +1,6 @@
 use Rattle.std.proofs.Common.{◌≡◌, ◌+◌, pos, ◌+ℤ◌, List, [], ◌∷◌, ◌++◌, sym, ◌∙◌, ap, subst, arith, Option}
 use Rattle.std.proofs.lemmas.Int.{ints}
-use Rattle.life_strip.specs.Given.{IsBehind, IsNext, IsOnPlane, state_by}
+use Rattle.life_strip.specs.Given.{IsAfterRun, IsNextRunStart, IsRunOnPlane, state_by}
 use Rattle.life_strip.proofs.GivenLemmas.{runs_grow}
 use Rattle.life_base.specs.declared.cell.Run.{Run}
 use Rattle.life_sweep.specs.RunBuilder.{drawn_runs, open_runs, one_cell}
@@ -65,7 +65,7 @@ returns-then-is_continued_by-clause-next g c column row h =
     let run = c.in-Some.run' in
     let on = on g c in
     longer-next runs (kept run.x) (kept run.y) run.len run.state c.args.x (sym (ap (λ z. z +ℤ pos run.len) on.column) ∙ on.more.1) column row
-    (subst (λ z. IsBehind (one_cell c.args.x z run.state) column row) (sym on.more.0 ∙ on.row) h)
+    (subst (λ z. IsAfterRun (one_cell c.args.x z run.state) column row) (sym on.more.0 ∙ on.row) h)
 
 -- the cell's place is one of numbers of 64 bits, and behind the runs that were given
 x-kept : (g : Over) (c : goal.After-self-2-1 g) → c.args.x ≡ kept c.args.x
@@ -74,7 +74,7 @@ x-kept g c = omega (arith, ints, c.ranges.x)
 y-kept : (g : Over) (c : goal.After-self-2-1 g) → c.args.y ≡ kept c.args.y
 y-kept g c = omega (arith, ints, c.ranges.y)
 
-next : (g : Over) (c : goal.After-self-2-1 g) → IsNext c.close.new.self.builder.runs (kept c.args.x) (kept c.args.y)
+next : (g : Over) (c : goal.After-self-2-1 g) → IsNextRunStart c.close.new.self.builder.runs (kept c.args.x) (kept c.args.y)
 next g c = next-kept _ (drawn_runs c.args.self.now) c.args.x c.args.y (x-kept g c) (y-kept g c) c.in_ok-close.ensures.drawn c.requires.next
 
 pub returns-clause-holding : goal.returns-clause-holding
@@ -85,7 +85,7 @@ returns-clause-holding g c =
       filling = c.in_ok-close.ensures.filling;
       unclosed = record {
         some_cell = omega arith;
-        inside = subst (λ z. IsOnPlane z (kept c.args.y) 1) ex (subst (λ z. IsOnPlane c.args.x z 1) ey c.requires.inside);
+        inside = subst (λ z. IsRunOnPlane z (kept c.args.y) 1) ex (subst (λ z. IsRunOnPlane c.args.x z 1) ey c.requires.inside);
         next = next g c;
         nonzero = c.requires.nonzero;
       };
@@ -109,4 +109,4 @@ returns-clause-next g c column row h =
     let ex = x-kept g c in
     let ey = y-kept g c in
     (runs_grow c.close.new.self.builder.runs (one_cell (kept c.args.x) (kept c.args.y) c.args.state) column row).0.1
-    (subst (λ (run : Run). IsBehind run column row) (λ j. one_cell (ex j) (ey j) c.args.state) h)
+    (subst (λ (run : Run). IsAfterRun run column row) (λ j. one_cell (ex j) (ey j) c.args.state) h)

@@ -1,5 +1,5 @@
 use Rattle.std.proofs.Common.{◌≡◌, ◌+◌, length, refl, ap, ◌∙◌, subst, arith}
-use Rattle.life_table.specs.Around.{cells_of}
+use Rattle.life_table.specs.Around.{states_of_neighbours}
 use Rattle.life_table.specs.Meaning.{Becomes, Ambiguous}
 use Rattle.life_table.specs.Seen.{IsSeen}
 use Rattle.life_table.specs.Valid.{neighbour_count}
@@ -22,7 +22,8 @@ given_by-requires-clause-site c =
     }
 
 pub returns-in-One : goal.returns-in-One
-returns-in-One c = answer_here c.args.self.now.symmetry c.args.self.now.vars c.as_slice-vars.result.now (cells_of c.args.around.now) c.as_slice-cells.result.now
+returns-in-One c = answer_here c.args.self.now.symmetry c.args.self.now.vars c.as_slice-vars.result.now (states_of_neighbours c.args.around.now)
+    c.as_slice-cells.result.now
     c.as_slice-vars.ensures c.as_slice-cells.ensures
     c.args.self.now.lines c.as_slice-line-items.result.now c.as_slice-line-items.ensures c.loop-line.line-index c.line-item.result c.loop-line-test.true
     c.line-item.is c.loop-line.invariant (Becomes c.in-One.state) c.in-One.ensures
@@ -31,18 +32,19 @@ pub returns-in-Two : goal.returns-in-Two
 returns-in-Two c =
     let h = c.in-Two.ensures in (
       refl,
-      answer_here c.args.self.now.symmetry c.args.self.now.vars c.as_slice-vars.result.now (cells_of c.args.around.now) c.as_slice-cells.result.now
+      answer_here c.args.self.now.symmetry c.args.self.now.vars c.as_slice-vars.result.now (states_of_neighbours c.args.around.now) c.as_slice-cells.result.now
           c.as_slice-vars.ensures c.as_slice-cells.ensures
           c.args.self.now.lines c.as_slice-line-items.result.now c.as_slice-line-items.ensures c.loop-line.line-index c.line-item.result c.loop-line-test.true
           c.line-item.is c.loop-line.invariant (Ambiguous c.line-item.result.line) (refl, h.0, h.1, h.2, h.3, h.4),
     )
 
 pub loop-line-preserved : goal.loop-line-preserved
-loop-line-preserved c = silent_more c.args.self.now.symmetry c.args.self.now.vars c.as_slice-vars.result.now (cells_of c.args.around.now)
+loop-line-preserved c = silent_more c.args.self.now.symmetry c.args.self.now.vars c.as_slice-vars.result.now (states_of_neighbours c.args.around.now)
     c.as_slice-cells.result.now c.as_slice-vars.ensures c.as_slice-cells.ensures
     c.as_slice-line-items.result.now c.loop-line.line-index c.line-item.result c.loop-line-test.true c.line-item.is c.loop-line.invariant c.in-Nothing.ensures
 
 pub returns : goal.returns
 returns c = rw c.as_slice-cells.ensures
-    (silent_all c.args.self.now.symmetry c.args.self.now.vars c.args.self.now.vars (cells_of c.args.around.now) (cells_of c.args.around.now) refl refl
+    (silent_all c.args.self.now.symmetry c.args.self.now.vars c.args.self.now.vars (states_of_neighbours c.args.around.now)
+    (states_of_neighbours c.args.around.now) refl refl
     c.args.self.now.lines c.as_slice-line-items.result.now c.as_slice-line-items.ensures c.loop-line.line-index c.loop-line-test.false c.loop-line.invariant)

@@ -1,6 +1,6 @@
 use Rattle.std.proofs.Common.{◌++◌, map}
 use Rattle.std.proofs.lemmas.Result.{err_from_is_err_and}
-use Rattle.file_keys.specs.Keys.{end_of}
+use Rattle.file_keys.specs.Keys.{end_byte_of_name}
 use Rattle.file_keys.specs.KeyRuns.{Listed, names_in}
 use Rattle.file_keys.proofs.KeyRunLemmas.{hears_on, on_ok, takes_both, takes_err, takes_flushed, takes_longer}
 use Rattle.file_keys.proofs.keys.runs.Run.take_all.Goals as goal
@@ -20,7 +20,7 @@ returns-in_err-take_words-clause-took g c =
     let p = err_from_is_err_and c.from_residual.result c.from_residual.ensures.1 in
     let first = c.in_err-take_words.ensures.took in
     rw p.1 (
-      first.0 ++ map Listed (names_in (end_of c.args.zero) c.args.list.now),
+      first.0 ++ map Listed (names_in (end_byte_of_name c.args.zero) c.args.list.now),
       tt,
       takes_err _ _ _ _ _ _ _ _ _ _ _ _ _ _ _ _ _ _ _ _ (takes_longer _ _ _ _ _ _ _ _ _ _ _ _ _ _ _ _ _ _ _ _ first.2),
     )

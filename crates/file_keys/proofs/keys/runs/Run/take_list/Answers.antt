@@ -1,6 +1,6 @@
 use Rattle.std.proofs.Common.{◌∙◌, map, refl, rules}
 use Rattle.std.proofs.lemmas.Result.{err_from_is_err_and}
-use Rattle.file_keys.specs.Keys.{end_of}
+use Rattle.file_keys.specs.Keys.{end_byte_of_name}
 use Rattle.file_keys.specs.KeyRuns.{Listed, names_in}
 use Rattle.file_keys.proofs.KeyRunLemmas.{hears_on, names_next, takes_err, takes_next, takes_none}
 use Rattle.file_keys.proofs.keys.runs.Run.take_list.Goals as goal
@@ -40,7 +40,7 @@ pub returns-in_err-put-clause-took : goal.returns-in_err-put-clause-took
 returns-in_err-put-clause-took g c =
     let p = err_from_is_err_and c.from_residual.result c.from_residual.ensures.1 in
     rw p.1 (
-      map Listed (names_in (end_of c.args.zero) c.first_name.result.1.now),
+      map Listed (names_in (end_byte_of_name c.args.zero) c.first_name.result.1.now),
       tt,
       takes_err _ _ _ _ _ _ _ _ _ _ _ _ _ _ _ _ _ _ _ _ (takes_next _ _ _ _ _ _ _ _ _ _ _ _ _ _ _ _ _ _ _ _ _ _ _ _ _ _ _ _
           c.loop-rest.invariant.form c.loop-rest.invariant.style
