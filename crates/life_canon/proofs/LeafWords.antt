@@ -63,14 +63,14 @@ two-of d a b c e h i j k = λ t. quad (point (h t)) (point (i t)) (point (j t)) 
 
 four-of : (q : ℕ) (s : ℕ → ℕ) → q < 65536 → ((p : ℕ) → p < 16 → bit_at q (15 - p) ≡ s p) → four q ≡ square s
 four-of q s l h =
-    let nw = two-of (q / 4096) (s 0) (s 1) (s 2) (s 3) (omega (arith, l, h 0 (omega arith))) (omega (arith, h 1 (omega arith))) (omega (arith, h 2 (omega arith)))
-    (omega (arith, h 3 (omega arith))) in
-    let ne = two-of (q / 256 % 16) (s 4) (s 5) (s 6) (s 7) (omega (arith, h 4 (omega arith))) (omega (arith, h 5 (omega arith))) (omega (arith, h 6 (omega arith)))
-    (omega (arith, h 7 (omega arith))) in
+    let nw = two-of (q / 4096) (s 0) (s 1) (s 2) (s 3) (omega (arith, l, h 0 (omega arith))) (omega (arith, h 1 (omega arith)))
+    (omega (arith, h 2 (omega arith))) (omega (arith, h 3 (omega arith))) in
+    let ne = two-of (q / 256 % 16) (s 4) (s 5) (s 6) (s 7) (omega (arith, h 4 (omega arith))) (omega (arith, h 5 (omega arith)))
+    (omega (arith, h 6 (omega arith))) (omega (arith, h 7 (omega arith))) in
     let sw = two-of (q / 16 % 16) (s 8) (s 9) (s 10) (s 11) (omega (arith, h 8 (omega arith))) (omega (arith, h 9 (omega arith)))
     (omega (arith, h 10 (omega arith))) (omega (arith, h 11 (omega arith))) in
-    let se = two-of (q % 16) (s 12) (s 13) (s 14) (s 15) (omega (arith, h 12 (omega arith))) (omega (arith, h 13 (omega arith))) (omega (arith, h 14 (omega arith)))
-    (omega (arith, h 15 (omega arith))) in
+    let se = two-of (q % 16) (s 12) (s 13) (s 14) (s 15) (omega (arith, h 12 (omega arith))) (omega (arith, h 13 (omega arith)))
+    (omega (arith, h 14 (omega arith))) (omega (arith, h 15 (omega arith))) in
     λ t. quad (nw t) (ne t) (sw t) (se t)
 
 small : (v : ℕ) → v % 2 ^ 16 < 65536
@@ -137,7 +137,8 @@ module _ (word cells : ℕ) (order : (r i : ℕ) → r < 8 → i < 8 → bit_at 
     tested : (i : ℕ) → i < 4 → place_test half y i ≡ true
     tested i li =
         all_below_at 4 (place_test half y) i
-        (all_below_at 4 (λ y. all_below 4 (place_test half y)) y (all_below_at 2 (λ half. all_below 4 (λ y. all_below 4 (place_test half y))) half each_place lh) ly) li
+        (all_below_at 4 (λ y. all_below 4 (place_test half y)) y
+        (all_below_at 2 (λ half. all_below 4 (λ y. all_below 4 (place_test half y))) half each_place lh) ly) li
 
     abbrev row : ℕ
     row = 4 * half + y

@@ -19,7 +19,8 @@ within-part room text at n inside fits size e =
     ∙ take-append-add (take at room) text n
 
 -- a part that was put keeps the length
-put-length : (room text : List ℕ) (at size : ℕ) → at ≤ length room → at + size ≤ length room → length text ≡ size → length (put_mid at size room text) ≡ length room
+put-length : (room text : List ℕ) (at size : ℕ) → at ≤ length room → at + size ≤ length room → length text ≡ size
+    → length (put_mid at size room text) ≡ length room
 put-length room text at size inside fits e =
     same_len_mid at size room text (e ∙ sym (length-take-le size (drop at room) (omega (arith, length-drop at room, inside, fits))))
 
@@ -30,7 +31,8 @@ row-put room text row at n size inside eight e some most is =
     let parts = put_mid at size room text in
     let last : at + n - 1 ≡ at + (n - 1) = omega (arith, some) in
     let more : at + (n - 1) + 1 ≡ at + n = omega (arith, some) in
-    let within : at + (n - 1) < length parts = omega (arith, put-length room text at size (omega (arith, inside)) (omega (arith, inside, e)) (omega (arith, eight, e)), inside, most) in
+    let long = put-length room text at size (omega (arith, inside)) (omega (arith, inside, e)) (omega (arith, eight, e)) in
+    let within : at + (n - 1) < length parts = omega (arith, long, inside, most) in
     ap (λ k. take k (set parts (at + n - 1) 36)) (sym more)
     ∙ ap (λ k. take (at + (n - 1) + 1) (set parts k 36)) last
     ∙ take_more_set parts (at + (n - 1)) 36 within
