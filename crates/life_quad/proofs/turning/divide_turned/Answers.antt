@@ -1,6 +1,5 @@
 use Rattle.std.proofs.Common.{refl, sym}
 use Rattle.life_base.specs.Tree.{Tree}
-use Rattle.life_quad.specs.Moves.{AreQuarters}
 use Rattle.life_quad.specs.declared.id.Id.{Id}
 use Rattle.life_quad.proofs.TurningLemmas.{quad-turned, quarter-known}
 use Rattle.life_quad.proofs.turning.divide_turned.Goals as goal
