@@ -130,16 +130,20 @@ fn rows_of_quarters<S: Squares, O: Orientation>(
 ) -> [u8; 8]
     requires nw { S.knows squares.now parts.now.nw }
     requires nw_level { depth (O.seen orientation.now (S.content squares.now parts.now.nw)) ≡ 2 }
-    requires nw_states { HasStatesUpTo 1 (O.seen orientation.now (S.content squares.now parts.now.nw)) }
+    requires nw_states { HasStatesUpTo 1
+        (O.seen orientation.now (S.content squares.now parts.now.nw)) }
     requires ne { S.knows squares.now parts.now.ne }
     requires ne_level { depth (O.seen orientation.now (S.content squares.now parts.now.ne)) ≡ 2 }
-    requires ne_states { HasStatesUpTo 1 (O.seen orientation.now (S.content squares.now parts.now.ne)) }
+    requires ne_states { HasStatesUpTo 1
+        (O.seen orientation.now (S.content squares.now parts.now.ne)) }
     requires sw { S.knows squares.now parts.now.sw }
     requires sw_level { depth (O.seen orientation.now (S.content squares.now parts.now.sw)) ≡ 2 }
-    requires sw_states { HasStatesUpTo 1 (O.seen orientation.now (S.content squares.now parts.now.sw)) }
+    requires sw_states { HasStatesUpTo 1
+        (O.seen orientation.now (S.content squares.now parts.now.sw)) }
     requires se { S.knows squares.now parts.now.se }
     requires se_level { depth (O.seen orientation.now (S.content squares.now parts.now.se)) ≡ 2 }
-    requires se_states { HasStatesUpTo 1 (O.seen orientation.now (S.content squares.now parts.now.se)) }
+    requires se_states { HasStatesUpTo 1
+        (O.seen orientation.now (S.content squares.now parts.now.se)) }
     ensures { result
         ≡ rows_side_by_side (O.seen orientation.now (S.content squares.now parts.now.nw))
         (O.seen orientation.now (S.content squares.now parts.now.ne))
