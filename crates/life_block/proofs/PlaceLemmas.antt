@@ -1,8 +1,7 @@
 -- Where the bits of words come from whose squares or rows are put together.
-use Rattle.std.proofs.Common.{◌≡◌, ℕ, ◌+◌, ◌*◌, ◌-◌, ◌<◌, Bool, true, refl, ◌==◌}
+use Rattle.std.proofs.Common.{◌≡◌, ℕ, ◌+◌, ◌*◌, ◌-◌, ◌<◌, Bool, true, refl, ◌==◌, eqb-true}
 use Rattle.life_base.proofs.RoundTrip.{all_below, all_below_at}
 use Rattle.life_lanes.specs.Places.{place_in, exchanged}
-use Rattle.life_lanes.proofs.PlaceLemmas.{equal}
 
 -- where a bit of the rows of four squares comes from, and one of four squares of their rows
 abbrev pub row_from : ℕ → ℕ

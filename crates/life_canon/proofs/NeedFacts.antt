@@ -19,7 +19,7 @@ use Rattle.life_canon.specs.Files.{is_macrocell}
 use Rattle.life_canon.specs.Taking.{IsGoing, IsEnd, taken_lines}
 use Rattle.life_canon.specs.declared.progress.Progress.{Progress}
 use Rattle.life_canon.specs.declared.progress.Progress.TheVariants as progress
-use Rattle.life_canon.proofs.Unions.{not-both}
+use Rattle.life_base.proofs.Basics.{true_false}
 use Rattle.life_canon.proofs.FrontFacts.{whole-at, end-says, end-lines}
 use Rattle.life_quad.proofs.LawLemmas.{trimming_stops, depth_grown}
 use Rattle.life_quad.specs.Moves.{grown_square, trimmed_square}
@@ -183,7 +183,7 @@ left-needs P bytes ended p e (inr s) = of_lines (by p e s)
     by progress.Undecided e s = more-lines P [] [] (lines_of bytes) (e.going (λ v. v)).0 s.1
     by (progress.Macrocell reader ids waiting) e s =
         more-lines P reader.lines [] (lines_of bytes) ((e.going (λ v. v)).0 ∙ sym (append-nil reader.lines)) s.1
-    by (progress.Rle reader builder runs) e s = absurd (not-both (is_macrocell reader.lines) s.0 e.begun.format)
+    by (progress.Rle reader builder runs) e s = absurd (true_false (is_macrocell reader.lines) s.0 e.begun.format)
 
 -- ---- kinds
 
