@@ -1,7 +1,7 @@
 use Rattle.std.proofs.Common.{◌≡◌, ℤ, ℕ, ◌+◌, ◌-◌, ◌%◌, ◌^◌, Result, Ok, Err, IfOk, refl, sym, ◌∙◌, ap, subst, arith}
-use Rattle.std.proofs.lemmas.Result.{IfOk-weaker}
+use Rattle.std.proofs.lemmas.Result.{IfOk-weaker, on_err_weaker}
 use Rattle.life_base.specs.Tree.{Tree, point, depth}
-use Rattle.life_base.proofs.Results.{on_err_any, on_err_both}
+use Rattle.life_base.proofs.Results.{on_err_any, on_err_both, if_ok_two}
 use Rattle.life_quad.specs.Refused.{SomePart}
 use Rattle.life_quad.specs.Store.{four}
 use Rattle.life_quad.proofs.KeepingLemmas.{keeps-then, adds-as}
@@ -32,7 +32,7 @@ slid_of-returns-then-are_all-clause-slid g m c cells x y h =
 
 pub slid_of-returns-clause-slid : goal.slid_of-returns-clause-slid
 slid_of-returns-clause-slid g m c =
-    both c.slid_of_seen.result
+    if_ok_two c.slid_of_seen.result
     (λ r at slid cells x y h.
     let i = c.seen-inside.ensures.seen cells x y h in
     is-piece cells c.args.level _ _ _
@@ -41,7 +41,7 @@ slid_of-returns-clause-slid g m c =
 
 pub slid_of-returns-clause-needed : goal.slid_of-returns-clause-needed
 slid_of-returns-clause-needed g m c =
-    on_err_map c.slid_of_seen.result
+    on_err_weaker c.slid_of_seen.result
     (λ some cells x y h.
     let i = c.seen-inside.ensures.seen cells x y h in subst (SomePart (g.T.Squares.needs_node c.slid_of_seen.new.to)) i.same (some i.other x y i.are))
     c.slid_of_seen.ensures.needed
