@@ -338,7 +338,7 @@ def warning(page, folder):
     page.dropped([one, two])
     said = [page.text("answer"), page.text("why"), *[it[1] for it in page.list()], *[it["note"] for it in table(page).values()]]
     holds("two files that lost their line ends", said[0] == "Both files are one pattern." and said[1].endswith("Warning: 2 files seem to be meant as "
-          "another pattern, see the list.") and all("lost its line ends" in it for it in said[2:]), said)
+          "another pattern; see the list.") and all("lost its line ends" in it for it in said[2:]), said)
     for data in (b"[M2]\n#RB36/S23\n$$..*$\n", b"[M2]\n#C a\n#G7\r\n#R B3/S23\n$$..*$\n", b"[M2]\n#R23/3\n"):
         page.dropped(put(folder, comment_mc=data))
         holds(f"a comment that is meant as a rule or a generation: {data}", "a comment here" in page.text("warning"), page.text("warning"))
