@@ -915,7 +915,7 @@ FORMS = [
     # What is written of fewer such cells is compared above.
     *(accepted(f"10^5 single cells in a square of 2^20, {form}", DUST, re.compile(rb"\A%s[.*$]+\n" % re.escape(LIFE)), f"canon input --form {form}",
                times=400, **more) for form, more in (("moved", {"start": 1.5}), ("turned", {"start": 1.5, "each": 8, "seconds": 20}))),
-    Case("10^5 single cells in a square of 2^20 beside themselves, moved", "same input other --form moved", output=b"same\n",
+    Case("10^5 single cells in a square of 2^20 compared with themselves, moved", "same input other --form moved", output=b"same\n",
          files={"input": DUST, "other": rle_of(hundred_thousand)}, start=1.5, each=1.5, times=400),
     *in_both_forms("786,432 cells in chains at random", [LIFE, mixed_blocks], little=60 * MEGABYTE),
     *in_both_forms("a seam of two sequences", [LIFE, SEAM], little=400 * MEGABYTE, each=10),
