@@ -1,5 +1,5 @@
 -- The cells of a leaf in a word: by rows, and by the squares of level 2.
-use Rattle.std.proofs.Common.{◌≡◌, ◌+◌, ◌-◌, ◌*◌, ◌/◌, ◌%◌, ◌^◌, ◌<◌, ◌≤◌, ℕ, zero, suc, List, [], ◌∷◌, ◌++◌, Bool, true, false, ◌&&◌, w64, refl, sym, ap, ◌∙◌, arith, slice_index, ◌==◌}
+use Rattle.std.proofs.Common.{◌≡◌, ◌+◌, ◌-◌, ◌*◌, ◌/◌, ◌%◌, ◌^◌, ◌<◌, ◌≤◌, ℕ, zero, suc, List, [], ◌∷◌, ◌++◌, Bool, true, ◌&&◌, w64, refl, sym, ap, ◌∙◌, arith, slice_index, ◌==◌}
 use Rattle.std.specs.Int.{bit_at, to_be_bytes}
 use Rattle.life_base.specs.Tree.{Tree, point, quad}
 use Rattle.life_base.proofs.RoundTrip.{all_below, all_below_at}

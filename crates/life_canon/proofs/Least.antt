@@ -274,12 +274,6 @@ trim-walk m (suc n) {root = root} (quad_depth (quad_depth {k = k} a b c d) (quad
 
 -- ---- the least file
 
-not_same : (s t : Tree) → depth t < depth s → same_tree s t ≡ false
-not_same s t h = elim (bool_cases (same_tree s t)) [
-  | inl e ↦ absurd (not_less _ _ h (ap depth (same_tree-true s t e)))
-  | inr e ↦ e
-]
-
 not_in : (xs : List Tree) (t : Tree) → (is_in xs t ≡ true → ⊥) → is_in xs t ≡ false
 not_in xs t h = elim (bool_cases (is_in xs t)) [ inl e ↦ absurd (h e) | inr e ↦ e ]
 

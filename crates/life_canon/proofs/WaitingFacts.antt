@@ -268,17 +268,6 @@ kept-joined {knew} {knows} {was} {now} lines ids joined waiting k h known square
 
 -- ---- the lines by their text
 
-pub none-kept : {knows : Id → Type 0} {content : Id → Tree} → KeepsLines knows content [] [] []
-none-kept = record {
-  kept = record {
-    trees = record { count = refl; each = λ index t line at there. cc };
-    known = λ i d lt. absurd (omega (arith, lt));
-    can_join = λ i d lt. absurd (omega (arith, lt));
-    few = omega arith;
-  };
-  named = λ t c. absurd (omega (arith, c.1));
-}
-
 -- a square of a node line has a property
 pub some-line : (P : Tree → Type 0) (lines : List Line) (square : Line) → P (line_tree (tree_of lines (level_of square - 1)) square) → SomeOfLine P lines square
 some-line P lines (Leaf rows) p = inl p

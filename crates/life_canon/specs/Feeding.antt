@@ -13,8 +13,9 @@ use Rattle.life_quad.specs.Store.{Nodes}
 use Rattle.life_quad.specs.declared.id.Id.{Id}
 use Rattle.life_rle.specs.Grammar.{IsMarked}
 use Rattle.life_rle.specs.Pattern.{Rle}
-use Rattle.life_strip.specs.Pile.{strips_of}
 use Rattle.life_strip.specs.Strip.{id_at}
+use Rattle.life_strip.specs.declared.plane.Plane.{Plane}
+use Rattle.life_strip.specs.declared.row.Row.{Row}
 use Rattle.life_strip.specs.declared.spans.Strip.{Strip}
 use Rattle.life_canon.specs.Files.{Refuses, is_macrocell}
 use Rattle.life_canon.specs.Store.{IsKnown, content}
@@ -49,11 +50,19 @@ Stands store fed = StandsFor (IsKnown store) (content store) fed.progress
 abbrev pub IsInStrips : List Strip → Id → Type 0
 IsInStrips strips id = (strip : Strip) × (column : ℕ) × Contains strips strip × (id_at strip.spans.items column ≡ Some id)
 
+-- the Id is that of a cell in a column of one of these rows
+abbrev pub IsInRows : List Row → Id → Type 0
+IsInRows rows id = (row : Row) × (column : ℕ) × Contains rows row × (id_at row.spans.items column ≡ Some id)
+
+-- the Id is kept of the plane: in one of its strips, or in a row below them
+abbrev pub IsPlaneId : Plane → Id → Type 0
+IsPlaneId p id = IsInStrips p.pile.strips.items id ⊎ IsInRows (p.pile.band.items ++ p.row ∷ []) id
+
 -- the Ids that are kept of the lines so far: under RLE those of the squares that aren't part of a larger one yet, and else those of the node lines, and
 -- those of the quarters where a line waits
 abbrev pub IsKeptId : Progress → Id → Type 0
 IsKeptId progress.Undecided id = ⊥
-IsKeptId (progress.Rle reader builder runs) id = IsInStrips (strips_of builder.kept.pile ++ builder.kept.row ∷ []) id
+IsKeptId (progress.Rle reader builder runs) id = IsPlaneId builder.kept id
 IsKeptId (progress.Macrocell reader ids waiting) id = Contains ids.items id ⊎ IsQuarterOfOne waiting.items id
 
 -- each Id that the reader keeps names the square that it named

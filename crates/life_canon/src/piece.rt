@@ -1,79 +1,144 @@
 //! A piece of a text, which is written before it outgrows its capacity.
 
-ghost use Rattle.std.specs.Prelude.{refl, ◌≡◌, ◌⊎◌, ◌+◌, ◌++◌, ◌≤◌, [], true, vec_len, vec_capacity, OnOk, OnErr};
+ghost use Rattle.std.specs.Prelude.{refl, ◌≡◌, ◌⊎◌, ◌+◌, ◌++◌, ◌≤◌, take, length, true, vec_capacity, IfOk, OnOk, OnErr};
 ghost use Rattle.life_canon.specs.Words.{WriteFault, WritesPrefix, LeavesSink, node_text, WritesFront, PieceTakes, PieceBreaks, piece-begins, piece-stops, no_failure};
 
 use crate::line_sink::LineSink;
 use life_base::{Kind, Sink, write_text};
-use life_mc::{LONGEST_NODE_LINE, Line, append_line};
+use life_mc::{LONGEST_NODE_LINE, Line, write_line};
 
 /// How many bytes are read, or held before they are written, at once.
 pub(crate) const PIECE: usize = 65536;
 
-/// Whether a line fits after what the piece holds.
-fn has_room_for_line(piece: &Vec<u8>) -> bool
-    ensures { result ≡ true → vec_len piece.now + 105 ≤ 65536 }
-{
-    piece.len() <= PIECE - LONGEST_NODE_LINE
-}
+/// How many bytes a piece gets at first after twice as many as it has.
+const FIRST_SPACE: usize = 1024;
 
-/// Writes what the piece holds, and empties it. Its capacity stays. It is never inlined, so that a line that fits is written in few steps.
-#[inline(never)]
-fn write_piece<W: Sink>(piece: &mut Vec<u8>, writer: &mut W) -> Result<(), Kind>
-    requires { W.failures writer.old ≡ 0 }
-    ensures front { OnOk result (WritesFront (W.contents writer.old) (W.contents writer.new)
-        piece.old.items piece.new.items) }
-    ensures prefix { OnErr result
-        (WritesPrefix (W.contents writer.old) (W.contents writer.new) piece.old.items) }
-    ensures none { OnOk result (piece.new.items ≡ []) }
-    ensures room { vec_capacity piece.new ≡ vec_capacity piece.old }
-    ensures sink { LeavesSink W.failures W.stalled writer.old writer.new result }
+/// Adds zeros after what a piece has, so that it is more than twice as long, or as long as a piece gets. Short texts need few of them.
+fn lengthen(bytes: &mut Vec<u8>)
+    requires { 65536 ≤ vec_capacity bytes.old }
+    ensures front { take (length bytes.old.items) bytes.new.items ≡ bytes.old.items }
+    ensures longer { length bytes.old.items ≤ length bytes.new.items }
+    ensures some { 1024 ≤ length bytes.new.items }
+    ensures room { 65536 ≤ vec_capacity bytes.new }
 {
-    write_text(writer, piece)?;
-    piece.clear();
-    Ok(())
-}
-
-/// Adds a line, after what the piece holds. Where it may not fit, that is written first.
-#[inline(always)]
-fn write_line<W: Sink>(line: &Line, piece: &mut Vec<u8>, writer: &mut W) -> Result<(), Kind>
-    requires room { 65536 ≤ vec_capacity piece.old }
-    requires works { W.failures writer.old ≡ 0 }
-    ensures front { OnOk result (WritesFront (W.contents writer.old) (W.contents writer.new)
-        (piece.old.items ++ node_text line.now) piece.new.items) }
-    ensures prefix { OnErr result
-        (WritesPrefix (W.contents writer.old) (W.contents writer.new) piece.old.items) }
-    ensures room { 65536 ≤ vec_capacity piece.new }
-    ensures sink { LeavesSink W.failures W.stalled writer.old writer.new result }
-{
-    if has_room_for_line(piece) {
-        return append_line(piece, line);
+    if bytes.len() >= PIECE {
+        return;
     }
-    write_piece(piece, writer)?;
-    append_line(piece, line)
+    let longer = (2 * bytes.len() + FIRST_SPACE).min(PIECE);
+    let _ = bytes.resize(longer, 0);
+}
+
+/// Makes space for a line after the text that a piece holds before `end`, and returns where that text ends then. Either the piece gets longer, or what it
+/// holds is written. It is never inlined, so that a line that fits is written in few steps.
+#[inline(never)]
+fn make_space<W: Sink>(bytes: &mut Vec<u8>, end: usize, writer: &mut W) -> Result<usize, Kind>
+    requires room { 65536 ≤ vec_capacity bytes.old }
+    requires within { end ≤ length bytes.old.items }
+    requires works { W.failures writer.old ≡ 0 }
+    ensures front { IfOk result (λ held. WritesFront (W.contents writer.old) (W.contents writer.new)
+        (take end bytes.old.items) (take held bytes.new.items)) }
+    ensures space { IfOk result (λ held. held + 105 ≤ length bytes.new.items) }
+    ensures prefix { OnErr result
+        (WritesPrefix (W.contents writer.old) (W.contents writer.new) (take end bytes.old.items)) }
+    ensures room { 65536 ≤ vec_capacity bytes.new }
+    ensures sink { LeavesSink W.failures W.stalled writer.old writer.new result }
+{
+    lengthen(bytes);
+    if bytes.len() - end >= LONGEST_NODE_LINE {
+        return Ok(end);
+    }
+    write_text(writer, &bytes[..end])?;
+    Ok(0)
+}
+
+/// Finds space for a line as `make_space` makes it, where there is none yet.
+#[inline(always)]
+fn find_space<W: Sink>(bytes: &mut Vec<u8>, end: usize, writer: &mut W) -> Result<usize, Kind>
+    requires room { 65536 ≤ vec_capacity bytes.old }
+    requires within { end ≤ length bytes.old.items }
+    requires works { W.failures writer.old ≡ 0 }
+    ensures front { IfOk result (λ held. WritesFront (W.contents writer.old) (W.contents writer.new)
+        (take end bytes.old.items) (take held bytes.new.items)) }
+    ensures space { IfOk result (λ held. held + 105 ≤ length bytes.new.items) }
+    ensures prefix { OnErr result
+        (WritesPrefix (W.contents writer.old) (W.contents writer.new) (take end bytes.old.items)) }
+    ensures room { 65536 ≤ vec_capacity bytes.new }
+    ensures sink { LeavesSink W.failures W.stalled writer.old writer.new result }
+{
+    if bytes.len() - end >= LONGEST_NODE_LINE {
+        return Ok(end);
+    }
+    make_space(bytes, end, writer)
+}
+
+/// Adds a line after the text that a piece holds before `end`, and returns where that text ends then.
+#[inline(always)]
+fn add_line<W: Sink>(
+    bytes: &mut Vec<u8>,
+    end: usize,
+    line: &Line,
+    writer: &mut W,
+) -> Result<usize, Kind>
+    requires room { 65536 ≤ vec_capacity bytes.old }
+    requires within { end ≤ length bytes.old.items }
+    requires works { W.failures writer.old ≡ 0 }
+    ensures front { IfOk result (λ held. WritesFront (W.contents writer.old) (W.contents writer.new)
+        (take end bytes.old.items ++ node_text line.now) (take held bytes.new.items)) }
+    ensures within { IfOk result (λ held. held ≤ length bytes.new.items) }
+    ensures prefix { OnErr result
+        (WritesPrefix (W.contents writer.old) (W.contents writer.new) (take end bytes.old.items)) }
+    ensures room { 65536 ≤ vec_capacity bytes.new }
+    ensures sink { LeavesSink W.failures W.stalled writer.old writer.new result }
+{
+    let at = find_space(bytes, end, writer)?;
+    Ok(write_line(bytes, at, line))
 }
 
 /// A text of which a prefix was written. This holds the rest, and has space for 65,536 bytes.
 #[derive(Drop)]
 pub(crate) struct Piece {
-    pub(crate) bytes: Vec<u8>,
+    /// The text, and then space for lines.
+    bytes: Vec<u8>,
+    /// Where the text ends.
+    end: usize,
+}
+
+impl Piece {
+    /// A piece that holds a text.
+    pub(crate) fn new(text: Vec<u8>) -> Piece
+        ensures text { take result.end result.bytes.items ≡ text.items }
+        ensures room { vec_capacity result.bytes ≡ vec_capacity text }
+        ensures within { result.end ≤ length result.bytes.items }
+    {
+        let end = text.len();
+        Piece { bytes: text, end }
+    }
+
+    /// The text that it holds.
+    pub(crate) fn text(&self) -> &[u8]
+        requires { self.now.end ≤ length self.now.bytes.items }
+        ensures { result.now ≡ take self.now.end self.now.bytes.items }
+    {
+        &self.bytes[..self.end]
+    }
 }
 
 impl<W: Sink> LineSink<W> for Piece {
-    ghost ready = { λ a. (65536 ≤ vec_capacity a.0.bytes) × (W.failures a.1 ≡ 0) };
+    ghost ready = { λ a. (65536 ≤ vec_capacity a.0.bytes) × (a.0.end ≤ length a.0.bytes.items) × (W.failures a.1 ≡ 0) };
 
-    ghost took = { λ a b lines. PieceTakes W.contents W.stalled a.1 b.1 a.0.bytes.items b.0.bytes.items lines };
+    ghost took = { λ a b lines. PieceTakes W.contents W.stalled a.1 b.1 (take a.0.end a.0.bytes.items) (take b.0.end b.0.bytes.items) lines };
 
-    ghost broke = { λ a b lines. PieceBreaks W.contents W.failures W.stalled a.1 b.1 a.0.bytes.items lines };
+    ghost broke = { λ a b lines. PieceBreaks W.contents W.failures W.stalled a.1 b.1 (take a.0.end a.0.bytes.items) lines };
 
     ghost refuses = { λ a kind. (kind ≡ WriteFault) × ((W.failures a.1 ≡ 1) ⊎ (W.stalled a.1 ≡ true)) };
 
-    ghost begins = { λ a. record { text = piece-begins (W.contents a.1) a.0.bytes.items; stalled = refl } };
+    ghost begins = { λ a. record { text = piece-begins (W.contents a.1) (take a.0.end a.0.bytes.items); stalled = refl } };
 
-    ghost stops = { λ a ready _ lines more took. record { prefix = piece-stops _ _ _ _ lines took.text more; stalled = no_failure (W.failures a.1) ready.1 } };
+    ghost stops = { λ _ ready _ lines more took. record { prefix = piece-stops _ _ _ _ lines took.text more; stalled = no_failure (W.failures _) ready.2 } };
 
     #[inline(always)]
     fn take(&mut self, device: &mut W, line: &Line) -> Result<(), Kind> {
-        write_line(line, &mut self.bytes, device)
+        self.end = add_line(&mut self.bytes, self.end, line, device)?;
+        Ok(())
     }
 }

@@ -150,7 +150,7 @@ pub(crate) fn deliver_squares<S: SharedSquares, W: Sink>(
     ensures sink { LeavesSink W.failures W.stalled writer.old writer.new result }
     ensures flushed { OnOk result (W.flushed writer.new ≡ true) }
 {
-    let mut piece = Piece { bytes: front };
+    let mut piece = Piece::new(front);
     walk_pattern(squares, &Upright, pattern, numbers, &mut piece, writer)?;
-    deliver(writer, &piece.bytes)
+    deliver(writer, piece.text())
 }

@@ -1,6 +1,5 @@
 -- The lines of a written file that tell its rule and its generation.
-use Rattle.std.proofs.Common.{◌≡◌, ℕ, suc, ◌+◌, ◌-◌, ◌^◌, ◌<◌, ◌≤◌, List, [], ◌∷◌, ◌++◌, length, Bool, true, false, cond, not, ◌&&◌, ◌||◌, refl, ap, sym, subst, ◌∙◌, arith, append_assoc, length-append, decimal, nat_le, nat_lt, ◌==◌, map, filter, codes, Some, None, Ok, Err, ltb-false, le-leb}
-use Rattle.std.specs.List.{list_all}
+use Rattle.std.proofs.Common.{◌≡◌, ℕ, suc, ◌+◌, ◌-◌, ◌^◌, ◌<◌, ◌≤◌, List, [], ◌∷◌, ◌++◌, length, Bool, true, false, cond, not, ◌&&◌, ◌||◌, refl, ap, sym, subst, ◌∙◌, arith, append_assoc, length-append, decimal, nat_le, ◌==◌, map, filter, codes, Some, None, Ok, Err, le-leb}
 use Rattle.std.specs.Result.{result_ok, result_err}
 use Rattle.std.proofs.lemmas.Bool.Decides.{nat_tests}
 use Rattle.std.proofs.lemmas.Bool.{and_from}
@@ -11,7 +10,7 @@ use Rattle.life_base.proofs.ReadBack.{rules_read_back}
 use Rattle.life_base.proofs.RuleTexts.{texts_visible}
 use Rattle.life_base.proofs.RuleValues.{named_is}
 use Rattle.life_base.specs.Sets.{DigitSets}
-use Rattle.life_base.specs.Text.{is_empty, is_digit_text, value_of, trim}
+use Rattle.life_base.specs.Text.{is_digit_text, value_of, trim}
 use Rattle.life_base.specs.Numbers.{u64_of}
 use Rattle.life_base.specs.Rules.{rule_of, rule_text, digits_of, counts, has_digit, is_bad_text, rule_with_sets, IsRule}
 use Rattle.life_base.specs.declared.kind.Kind.TheVariants.{BadNumber, TooLarge}

@@ -1,5 +1,5 @@
 -- Rows and numbers in the room of a node line.
-use Rattle.std.proofs.Common.{◌≡◌, ℕ, ◌+◌, ◌-◌, ◌≤◌, ◌<◌, ◌^◌, List, [], ◌∷◌, ◌++◌, take, drop, set, length, length-drop, decimal, codes, refl, ap, sym, ◌∙◌, arith, take-take, append_assoc, length-take-le}
+use Rattle.std.proofs.Common.{◌≡◌, ℕ, ◌+◌, ◌-◌, ◌≤◌, ◌<◌, ◌^◌, List, [], ◌∷◌, ◌++◌, take, drop, set, length, length-drop, decimal, codes, refl, ap, sym, ◌∙◌, arith, take-take, append_assoc, length-append, length-take-le, take_at}
 use Rattle.std.proofs.lemmas.List.{take_more_set}
 use Rattle.std.proofs.lemmas.Slice.{take-put_mid}
 use Rattle.std.proofs.lemmas.Fmt.{length-decimal-le}
@@ -52,12 +52,50 @@ behind text n old rest e =
     ∙ ap (λ l. l ++ rest) (sym (append_assoc text (codes " ") (decimal n)))
 
 -- the five numbers of a line and its end, each in front of the one after it
-pub quad-in-room : (level nw ne sw se : ℕ) (room r q p o n : List ℕ) → room ≡ decimal level ++ r → r ≡ codes " " ++ decimal nw ++ q
+pub quad-in-room : (level nw ne sw se : ℕ) (rest room r q p o n : List ℕ) → room ≡ decimal level ++ r → r ≡ codes " " ++ decimal nw ++ q
     → q ≡ codes " " ++ decimal ne ++ p
-    → p ≡ codes " " ++ decimal sw ++ o → o ≡ codes " " ++ decimal se ++ n → n ≡ codes "\n" → room ≡ node_text (Quad level nw ne sw se)
-quad-in-room level nw ne sw se room r q p o n a b c d e f =
+    → p ≡ codes " " ++ decimal sw ++ o → o ≡ codes " " ++ decimal se ++ n → n ≡ codes "\n" ++ rest → room ≡ node_text (Quad level nw ne sw se) ++ rest
+quad-in-room level nw ne sw se rest room r q p o n a b c d e f =
     let first = decimal level ++ codes " " ++ decimal nw in
     let second = first ++ codes " " ++ decimal ne in
     let third = second ++ codes " " ++ decimal sw in
+    let fourth = third ++ codes " " ++ decimal se in
     a ∙ behind (decimal level) nw r q b ∙ behind first ne q p c ∙ behind second sw p o d ∙ behind third se o n e
-    ∙ ap (λ l. third ++ codes " " ++ decimal se ++ l) f
+    ∙ ap (λ l. fourth ++ l) f ∙ sym (append_assoc fourth (codes "\n") rest)
+
+-- what two changes behind a place leave in front of it
+pub front-kept : {m n : ℕ} (old mid new : List ℕ) → m ≤ n → take m new ≡ take m mid → take n mid ≡ take n old → take m new ≡ take m old
+front-kept {m} {n} old mid new below second first =
+    second ∙ sym (take-take m n mid below) ∙ ap (take m) first ∙ take-take m n old below
+
+-- the front of a block that was copied
+pub part-put : (text block : List ℕ) (to count size found from more : ℕ) → to ≤ length text → size ≡ more → found ≡ more → count ≤ more
+    → block ≡ take found (drop from text) → from + more ≤ length text
+    → take (to + count) (put_mid to size text block) ≡ take to text ++ take count (drop from text)
+part-put text block to count size found from more inside e f fits is there =
+    let same = is ∙ ap (λ n. take n (drop from text)) f in
+    let all : more ≡ length block = sym
+    (ap (λ (l : List ℕ). length l) same ∙ length-take-le more (drop from text) (omega (arith, length-drop from text, there))) in
+    within-part text block to count inside (omega (arith, all, fits)) size (e ∙ all) ∙ ap (λ b. take to text ++ take count b) same
+    ∙ ap (λ l. take to text ++ l) (take-take count more (drop from text) fits)
+
+-- a line between two places, copied to the end of what is in front of it
+pub line-copied : (old mid new line : List ℕ) (at start end last : ℕ) → at ≤ start → start ≤ end → end ≤ length old → length mid ≡ length old
+    → drop start mid ≡ line ++ drop end old → take start mid ≡ take start old → take last new ≡ take at mid ++ take (end - start) (drop start mid)
+    → take last new ≡ take at old ++ line
+line-copied old mid new line at start end last below ordered inside same behind before copied =
+    let long : length line ≡ end - start = omega (
+      arith,
+      length-drop start mid,
+      ap (λ (l : List ℕ). length l) behind,
+      length-append line (drop end old),
+      length-drop end old,
+      same,
+      inside,
+      ordered,
+    ) in
+    copied
+    ∙ ap (λ l. l ++ take (end - start) (drop start mid)) (sym (take-take at start mid below) ∙ ap (take at) before ∙ take-take at start old below)
+    ∙ ap (λ l. take at old ++ take (end - start) l) behind
+    ∙ ap (λ n. take at old ++ take n (line ++ drop end old)) (sym long)
+    ∙ ap (λ l. take at old ++ l) (take_at line (drop end old) _ refl)

@@ -5,5 +5,5 @@ use Rattle.life_mc.proofs.line_writing.write_leaf.Given as goal
 abbrev pub invariant-loop-row : goal.invariant-loop-row
 invariant-loop-row l = record {
   within : l.end ≤ l.at + 9 * l.row-index;
-  written : take l.end l.room ≡ take l.at l.fn.room ++ flat_map row_text (take l.row-index l.rows);
+  written : take l.end l.text ≡ take l.at l.fn.text ++ flat_map row_text (take l.row-index l.rows);
 }
