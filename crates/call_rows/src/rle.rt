@@ -154,7 +154,7 @@ fn request_of(alloc: Global, input: &[u8]) -> Result<Request, Unanswered> {
 }
 
 /// Whether cells can be written under a rule.
-fn sorted(alloc: Global, out: &mut Answer, input: &[u8]) -> Result<(), Unanswered> {
+fn add_sorted_cells(alloc: Global, out: &mut Answer, input: &[u8]) -> Result<(), Unanswered> {
     let request = request_of(alloc, input)?;
     out.flag(sorted_cells(&request.rule, &request.cells));
     Ok(())
@@ -172,7 +172,7 @@ fn text_of(alloc: Global, request: &Request) -> Result<Vec<u8>, Unanswered> {
 }
 
 /// Cells as RLE.
-fn written(alloc: Global, out: &mut Answer, input: &[u8]) -> Result<(), Unanswered> {
+fn add_written_file(alloc: Global, out: &mut Answer, input: &[u8]) -> Result<(), Unanswered> {
     let request = request_of(alloc, input)?;
     out.bytes(&text_of(alloc, &request)?);
     Ok(())
@@ -222,8 +222,8 @@ pub(crate) fn answer(
         Call::Read => return file(alloc, out, input),
         Call::Lines => return by_lines(alloc, out, input),
         Call::LinesInto => into_one(alloc, out, input),
-        Call::SortedCells => return sorted(alloc, out, input),
-        Call::Write => return written(alloc, out, input),
+        Call::SortedCells => return add_sorted_cells(alloc, out, input),
+        Call::Write => return add_written_file(alloc, out, input),
         Call::WriteAndRead => return read_again(alloc, out, input),
     }
     Ok(())

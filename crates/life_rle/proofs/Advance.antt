@@ -36,14 +36,14 @@ use Rattle.life_rle.proofs.PlaneLemmas.{zero-coordinate}
 use Rattle.life_base.proofs.Basics.{plus_zero}
 
 -- the cursor follows an item
-IsBehind-moved : (c : Cursor) (file : Rle) (item : Item) → IsAfterItems c file → IsAfterItems (cursor_after_item c item) (with_items file (item ∷ []))
-IsBehind-moved c file (Cells n s) b = record {
+IsBehind-cursor : (c : Cursor) (file : Rle) (item : Item) → IsAfterItems c file → IsAfterItems (cursor_after_item c item) (with_items file (item ∷ []))
+IsBehind-cursor c file (Cells n s) b = record {
   left = b.left;
   x = ap (λ z. z +ℤ pos n) b.x ∙ sym (regroup file.position.x (columns_in file.items) n)
       ∙ ap (λ k. file.position.x +ℤ pos k) (sym (columns_in-Cells file.items n s));
   y = b.y ∙ ap (λ k. file.position.y +ℤ pos k) (sym (rows_in-Cells file.items n s));
 }
-IsBehind-moved c file (RowEnds n) b = record {
+IsBehind-cursor c file (RowEnds n) b = record {
   left = b.left;
   x = b.left ∙ sym (plus_zero file.position.x) ∙ ap (λ k. file.position.x +ℤ pos k) (sym (columns_in-RowEnds file.items n));
   y = ap (λ z. z +ℤ pos n) b.y ∙ sym (regroup file.position.y (rows_in file.items) n) ∙ ap (λ k. file.position.y +ℤ pos k) (sym (rows_in-RowEnds file.items n));
@@ -57,7 +57,7 @@ pub behind-items : (c : Cursor) (file : Rle) (items : List Item) → IsAfterItem
     × IsAfterItems (cursor_after_items c items) (with_items file items)
 behind-items c file [] b = (refl, subst (IsAfterItems c) (sym (with_items-nil file)) b)
 behind-items c file (item ∷ items) b =
-    let more = behind-items (cursor_after_item c item) (with_items file (item ∷ [])) items (IsBehind-moved c file item b) in (
+    let more = behind-items (cursor_after_item c item) (with_items file (item ∷ [])) items (IsBehind-cursor c file item b) in (
       ap (λ z. placed_of z c.x item ∷ placed_at (cursor_after_item c item) items) b.y
           ∙ ap (λ z. placed_of (file.position.y +ℤ pos (rows_in file.items)) z item ∷ placed_at (cursor_after_item c item) items) b.x
           ∙ ap (λ ps. placed_item file.position file.items item ∷ ps) more.0,

@@ -54,16 +54,16 @@ up-to : (a b : ℤ) → a <ℤ b → a ≤ℤ b
 up-to a b h = omega (arith, ints)
 
 -- behind an item without a fault
-pub moved-near : (rule : Rule) (c : Cursor) (item : Item) → IsNear MAX_LEVEL c → item_fault MAX_LEVEL rule c.y c.x item ≡ None
+pub cursor-near : (rule : Rule) (c : Cursor) (item : Item) → IsNear MAX_LEVEL c → item_fault MAX_LEVEL rule c.y c.x item ≡ None
     → IsNear MAX_LEVEL (cursor_after_item c item)
-moved-near rule c (Cells n s) near e =
+cursor-near rule c (Cells n s) near e =
     let column = is-inside (is_state_of rule s) (int_lt c.y (rle_plane_end MAX_LEVEL)) (int_le (c.x +ℤ pos n) (rle_plane_end MAX_LEVEL)) e in
     record {
       left = near.left;
       x = (further (neg_ℤ (rle_plane_end MAX_LEVEL)) c.x n near.x.0, int_le-true (c.x +ℤ pos n) (rle_plane_end MAX_LEVEL) column);
       y = near.y;
     }
-moved-near rule c (RowEnds n) near e = record {
+cursor-near rule c (RowEnds n) near e = record {
   left = near.left;
   x = (near.left.0, up-to c.left (rle_plane_end MAX_LEVEL) near.left.1);
   y = (

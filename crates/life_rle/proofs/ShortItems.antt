@@ -1,5 +1,5 @@
 -- Short items: the tables that decide them, held against each of the 256 bytes by computing; what they spell; and one more of them is read.
-use Rattle.std.proofs.Common.{◌≡◌, ◌∙◌, ◌+◌, ◌-◌, ◌*◌, ◌≤◌, ◌<◌, ◌∷◌, ◌++◌, ◌^◌, ℕ, List, [], length, drop, get_or, true, false, cond, refl, ap, sym, arith, pos, neg_ℤ, ℤ, ◌+ℤ◌, ◌≤ℤ◌, None, ◌&&◌, map, append-nil, nat_le, int_lt}
+use Rattle.std.proofs.Common.{◌≡◌, ◌∙◌, ◌+◌, ◌-◌, ◌*◌, ◌≤◌, ◌<◌, ◌∷◌, ◌++◌, ◌^◌, ℕ, List, [], length, drop, get_or, true, false, cond, refl, ap, sym, arith, pos, neg_ℤ, ℤ, ◌+ℤ◌, ◌≤ℤ◌, None, Some, subst, ◌&&◌, map, append-nil, nat_le, int_lt}
 use Rattle.std.proofs.lemmas.Bool.Decides.{nat_tests}
 use Rattle.std.proofs.lemmas.Int.{ints}
 use Rattle.std.proofs.lemmas.List.FromFn.{get_or-map-range_with_len}
@@ -12,14 +12,17 @@ use Rattle.life_rle.specs.declared.cursor.Cursor.{Cursor}
 use Rattle.life_rle.specs.declared.item.Item.{Item}
 use Rattle.life_rle.specs.declared.item.Item.TheVariants.{Cells}
 use Rattle.life_rle.specs.declared.short_items.TheConstants.{COUNTS, DIGITS}
-use Rattle.life_rle.specs.Items.{Spelled, item_after, next_of}
+use Rattle.life_rle.specs.Items.{Spelled, next_of}
 use Rattle.life_rle.specs.Pattern.{item_fault}
 use Rattle.life_rle.specs.Plane.{rle_plane_end}
 use Rattle.life_rle.specs.Runs.{with_run}
-use Rattle.life_rle.specs.States.{is_state_of}
+use Rattle.life_rle.specs.States.{is_state_of, leading_state, prefixed_state, single_state}
 use Rattle.life_rle.specs.Cursor.{IsNear, cursor_after_item, row_limit}
 use Rattle.life_rle.specs.Reader.{ReadsItems}
-use Rattle.life_rle.specs.ShortItems.{short_count, short_digits, IsShortItem, RowHasSpace, ReadsOn}
+use Rattle.life_rle.specs.ShortItems.{short_count, short_digits, IsShortItem, IsStateAt, AreShortCells, RowHasSpace, ReadsOn}
+use Rattle.life_rle.proofs.PlainItems.{IsRead, IsRead-text, state_at-text}
+use Rattle.life_rle.proofs.StatesRead.{one-byte, two-bytes}
+use Rattle.life_rle.proofs.Texts.{next_of-tag}
 use Rattle.life_rle.proofs.DigitInFront.{text_at, digit_in_front}
 use Rattle.life_rle.proofs.ReadItems.{reads-as, reads_more}
 use Rattle.life_rle.proofs.RowLimits.{fault-by, further}
@@ -37,22 +40,35 @@ digits = refl
 pub digits_of : (b : ℕ) → b < 256 → get_or DIGITS b 0 ≡ short_digits b
 digits_of b h = ap (λ (r : List ℕ). get_or r b 0) digits ∙ get_or-map-range_with_len short_digits 0 256 b b 0 h (omega arith)
 
--- `b` and `o` behind a count
-dead-item : (n : ℕ) (rest : List ℕ) → item_after n (98 ∷ rest) ≡ Spelled (Cells n 0) rest
-dead-item n [] = refl
-dead-item n (c ∷ rest) = refl
+-- a state behind a count
+state-item : (count state : ℕ) (bytes rest : List ℕ) → leading_state bytes ≡ Some (state, rest) → IsRead count bytes (Cells count state) rest
+state-item count state bytes rest e =
+    let found = state_at-text bytes rest state e in
+    subst (λ (t : List ℕ). IsRead count t (Cells count state) rest) (sym found.2) (IsRead-text count state found.0 rest found.1)
 
-live-item : (n : ℕ) (rest : List ℕ) → item_after n (111 ∷ rest) ≡ Spelled (Cells n 1) rest
-live-item n [] = refl
-live-item n (c ∷ rest) = refl
+-- a state of one byte at a place
+pub state-byte : (line : List ℕ) (place b state : ℕ) → place < length line → get_or line place 0 ≡ b → single_state b ≡ Some state
+    → leading_state (drop place line) ≡ Some (state, drop (place + 1) line)
+state-byte line place b state h e k =
+    ap leading_state (text_at line place h ∙ ap (λ c. c ∷ drop (place + 1) line) e) ∙ one-byte b state (drop (place + 1) line) k
+
+-- a state of two bytes at a place
+pub state-bytes : (line : List ℕ) (place state : ℕ) → place + 1 < length line → single_state (get_or line place 0) ≡ None
+    → prefixed_state (get_or line place 0) (get_or line (place + 1) 0) ≡ Some state → leading_state (drop place line) ≡ Some (state, drop (place + 2) line)
+state-bytes line place state h none k =
+    let b = get_or line place 0 in
+    let c = get_or line (place + 1) 0 in
+    let two : drop place line ≡ b ∷ c ∷ drop (place + 1 + 1) line =
+    text_at line place (omega (arith, h)) ∙ ap (λ t. b ∷ t) (text_at line (place + 1) h) in
+    let behind : place + 1 + 1 ≡ place + 2 = omega arith in
+    ap leading_state two ∙ two-bytes b c state (drop (place + 1 + 1) line) none k ∙ ap (λ n. Some (state, drop n line)) behind
 
 -- an item without a digit
 no-digit : (line : List ℕ) (at : ℕ) → at + 1 < length line → IsShortItem MAX_LEVEL line at 1 at
 no-digit line at h = record {
   inside = (omega arith, omega arith);
   few = omega arith;
-  dead = λ e. ap (next_of MAX_LEVEL) (text_at line at (omega arith) ∙ ap (λ b. b ∷ drop (at + 1) line) e) ∙ dead-item 1 (drop (at + 1) line);
-  live = λ e. ap (next_of MAX_LEVEL) (text_at line at (omega arith) ∙ ap (λ b. b ∷ drop (at + 1) line) e) ∙ live-item 1 (drop (at + 1) line);
+  spelled = λ state rest e. let read = state-item 1 state (drop at line) rest e in next_of-tag MAX_LEVEL (drop at line) read.0 ∙ read.1;
 }
 
 -- an item with a digit
@@ -60,14 +76,18 @@ one-digit : (line : List ℕ) (at : ℕ) → at + 1 < length line → 49 ≤ get
     → IsShortItem MAX_LEVEL line at (get_or line at 0 - 48) (at + 1)
 one-digit line at h low high =
     let first = get_or line at 0 in
-    let rest = drop (at + 1 + 1) line in
-    let two : (b : ℕ) → get_or line (at + 1) 0 ≡ b → drop at line ≡ first ∷ b ∷ rest =
-    λ b e. text_at line at (omega arith) ∙ ap (λ t. first ∷ t) (text_at line (at + 1) h ∙ ap (λ c. c ∷ rest) e) in
+    let second = get_or line (at + 1) 0 in
+    let behind = drop (at + 1 + 1) line in
+    let parts : drop (at + 1) line ≡ second ∷ behind = text_at line (at + 1) h in
     record {
       inside = (omega arith, omega arith);
       few = omega (arith, high);
-      dead = λ e. ap (next_of MAX_LEVEL) (two 98 e) ∙ digit_in_front first 98 rest low high refl ∙ dead-item (first - 48) rest;
-      live = λ e. ap (next_of MAX_LEVEL) (two 111 e) ∙ digit_in_front first 111 rest low high refl ∙ live-item (first - 48) rest;
+      spelled = λ state rest e.
+          let read : IsRead (first - 48) (second ∷ behind) (Cells (first - 48) state) rest =
+          state-item (first - 48) state (second ∷ behind) rest (ap leading_state (sym parts) ∙ e) in
+          ap (next_of MAX_LEVEL) (text_at line at (omega arith) ∙ ap (λ t. first ∷ t) parts)
+          ∙ digit_in_front first second behind low high read.0.1
+          ∙ read.1;
     }
 
 -- what the tables say of the item at a place
@@ -84,10 +104,40 @@ is-short line at h =
     plus-zero : (n : ℕ) → n + 0 ≡ n
     plus-zero n = omega arith
 
+-- cells whose state is one byte, without a count
+pub bare-cells : (line : List ℕ) (at state : ℕ) → at + 1 < length line → single_state (get_or line at 0) ≡ Some state → state ≤ 255
+    → AreShortCells MAX_LEVEL line at 1 state (at + 1)
+bare-cells line at state h k small = record {
+  inside = (omega arith, omega arith);
+  few = omega arith;
+  small = small;
+  read = (no-digit line at h).spelled state (drop (at + 1) line) (state-byte line at (get_or line at 0) state (omega (arith, h)) refl k);
+}
+
+-- a state behind what may be a count
+pub counted-cells : (line : List ℕ) (at count place state behind : ℕ) → IsShortItem MAX_LEVEL line at count place → IsStateAt line place state behind
+    → AreShortCells MAX_LEVEL line at count state behind
+counted-cells line at count place state behind item found =
+    let low = item.inside.0 in
+    let high = item.inside.1 in
+    let from = found.inside.0 in
+    let to = found.inside.1 in
+    record {
+      inside = (omega (arith, low, from), omega (arith, high, to));
+      few = item.few;
+      small = found.small;
+      read = item.spelled state (drop behind line) found.read;
+    }
+
 -- states 0 and 1 are of every rule
-known : (rule : Rule) (state : ℕ) → state ≤ 1 → is_state_of rule state ≡ true
-known (Life sets) state h = grind (arith, nat_tests)
-known (Named name) state h = grind (arith, nat_tests)
+pub low-state : (rule : Rule) (state : ℕ) → state ≤ 1 → is_state_of rule state ≡ true
+low-state (Life sets) state h = grind (arith, nat_tests)
+low-state (Named name) state h = grind (arith, nat_tests)
+
+-- a rule that has state 255 has all states
+pub any-state : (rule : Rule) (state : ℕ) → is_state_of rule 255 ≡ true → state ≤ 255 → is_state_of rule state ≡ true
+any-state (Life sets) state e h = cc
+any-state (Named name) state e h = grind (arith, nat_tests)
 
 low-limit : (y : ℤ) → row_limit MAX_LEVEL y ≤ℤ rle_plane_end MAX_LEVEL
 low-limit y =
@@ -119,15 +169,15 @@ still-room line at count state behind here h few on inside =
 
 -- one more short item is read
 pub reads-short : (line : List ℕ) (at count state behind : ℕ) (here : Cursor) (found more : List Run) → RowHasSpace MAX_LEVEL line at here → count ≤ 9
-    → state ≤ 1 → at < behind → behind ≤ length line → next_of MAX_LEVEL (drop at line) ≡ Spelled (Cells count state) (drop behind line)
+    → at < behind → behind ≤ length line → next_of MAX_LEVEL (drop at line) ≡ Spelled (Cells count state) (drop behind line)
     → more ≡ found ++ with_run here.y here.x (Cells count state) []
-    → (rule : Rule) → ReadsOn MAX_LEVEL rule line at here found behind (cursor_after_item here (Cells count state)) more
-reads-short line at count state behind here found more h few low on inside spelled adds rule from before read =
+    → (rule : Rule) → is_state_of rule state ≡ true → ReadsOn MAX_LEVEL rule line at here found behind (cursor_after_item here (Cells count state)) more
+reads-short line at count state behind here found more h few on inside spelled adds rule known from before read =
     let item : Item = Cells count state in
     let limit = row_limit MAX_LEVEL here.y in
     let cells = within here.x limit count (length line - at) few (omega (arith, on, inside)) h.room in
     let sound : item_fault MAX_LEVEL rule here.y here.x item ≡ None =
-    fault-by (is_state_of rule state) here.y here.x limit count h.near.x.0 refl (known rule state low) true (le-int_le _ _ cells) in
+    fault-by (is_state_of rule state) here.y here.x limit count h.near.x.0 refl known true (le-int_le _ _ cells) in
     reads_more MAX_LEVEL rule from here line (drop behind line) before found more item (cursor_after_item here item)
     (reads-as MAX_LEVEL rule from line _ _ here before found read spelled) sound refl (still-room line at count state behind here h few on inside).near adds
 

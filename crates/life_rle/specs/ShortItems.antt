@@ -1,5 +1,5 @@
--- Short items of a line: cells of state 0 or 1, written `b` or `o`, whose count has at most one digit.
-use Rattle.std.specs.Prelude.{◌≡◌, ℕ, ◌+◌, ◌-◌, ◌*◌, ◌≤◌, ◌&&◌, nat_le, if◌then◌else◌, List, length, drop, slice_index, pos, ◌+ℤ◌, ◌≤ℤ◌}
+-- Short items of a line: cells whose count has at most one digit.
+use Rattle.std.specs.Prelude.{◌≡◌, ℕ, ◌+◌, ◌-◌, ◌*◌, ◌≤◌, ◌<◌, ◌&&◌, nat_le, if◌then◌else◌, List, Some, length, drop, pos, ◌+ℤ◌, ◌≤ℤ◌}
 use Rattle.std.specs.Str.{byte}
 use Rattle.life_base.specs.declared.cell.Run.{Run}
 use Rattle.life_base.specs.declared.rule.Rule.{Rule}
@@ -7,6 +7,7 @@ use Rattle.life_rle.specs.declared.cursor.Cursor.{Cursor}
 use Rattle.life_rle.specs.declared.item.Item.TheVariants.{Cells}
 use Rattle.life_rle.specs.Items.{Spelled, next_of}
 use Rattle.life_rle.specs.Cursor.{IsNear, row_limit}
+use Rattle.life_rle.specs.States.{leading_state}
 use Rattle.life_rle.specs.Reader.{ReadsItems}
 
 -- the count of a short item that begins with this byte: that of a digit `1` to `9`, and 1 without a digit
@@ -17,12 +18,25 @@ short_count b = if nat_le (byte "1") b && nat_le b (byte "9") then b - byte "0" 
 abbrev pub short_digits : ℕ → ℕ
 short_digits b = if nat_le (byte "1") b && nat_le b (byte "9") then 1 else 0
 
--- if the byte at `last` is `b` or `o`, it ends an item that begins at the place, with this count
+-- a state at `last` ends an item that begins at the place, with this count
 pub record IsShortItem (level : ℕ) (line : List ℕ) (at count last : ℕ) : Type 0 where
   pub inside : (at ≤ last) × (last ≤ at + 1)
   pub few : count ≤ 9
-  pub dead : slice_index line last ≡ byte "b" → next_of level (drop at line) ≡ Spelled (Cells count 0) (drop (last + 1) line)
-  pub live : slice_index line last ≡ byte "o" → next_of level (drop at line) ≡ Spelled (Cells count 1) (drop (last + 1) line)
+  pub spelled : (state : ℕ) (rest : List ℕ) → leading_state (drop last line) ≡ Some (state, rest)
+      → next_of level (drop at line) ≡ Spelled (Cells count state) rest
+
+-- a state is at a place of the line, and ends at another
+pub record IsStateAt (line : List ℕ) (place state behind : ℕ) : Type 0 where
+  pub inside : (place < behind) × (behind ≤ place + 2)
+  pub small : state ≤ 255
+  pub read : leading_state (drop place line) ≡ Some (state, drop behind line)
+
+-- cells of this count and state are an item at a place of the line, which ends at another
+pub record AreShortCells (level : ℕ) (line : List ℕ) (at count state behind : ℕ) : Type 0 where
+  pub inside : (at < behind) × (behind ≤ at + 3)
+  pub few : count ≤ 9
+  pub small : state ≤ 255
+  pub read : next_of level (drop at line) ≡ Spelled (Cells count state) (drop behind line)
 
 -- from here on the row has room for nine cells at each byte of the line
 pub record RowHasSpace (level : ℕ) (line : List ℕ) (at : ℕ) (here : Cursor) : Type 0 where

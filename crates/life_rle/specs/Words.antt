@@ -26,7 +26,7 @@ pub use Rattle.life_rle.specs.Position.{and_then, corner_in, field_of, Generatio
 pub use Rattle.life_rle.specs.Reader.{IsCount, IsCountRead, IsItemAt, IsNumberRead, IsTokenAt, ItemsBreak, last_of, ReadsItems, TakesItem}
 pub use Rattle.life_rle.specs.Runs.{is_run_end, with_run}
 pub use Rattle.life_rle.specs.RunsLaw.{RlesAreBlankOutside, RunsAreCells}
-pub use Rattle.life_rle.specs.ShortItems.{RowHasSpace, IsShortItem, PassesDead, ReadsOn, short_count, short_digits}
+pub use Rattle.life_rle.specs.ShortItems.{RowHasSpace, IsShortItem, IsStateAt, AreShortCells, PassesDead, ReadsOn, short_count, short_digits}
 pub use Rattle.life_rle.specs.Sorted.{are_sorted_cells, is_live_cell, rises}
 pub use Rattle.life_rle.specs.Standing.{Advances, is_over, is_refused, IsCursorPlaced, StandsAt, TakesRleLine}
 pub use Rattle.life_rle.specs.States.{is_state_of, state_letters, prefixed_state, single_state, state_text}

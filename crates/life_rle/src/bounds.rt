@@ -18,7 +18,7 @@ fn bounds_of_cell(cell: &Cell) -> Bounds
 }
 
 /// The bounding box of a box and a cell.
-fn joined(bounds: Bounds, cell: &Cell) -> Bounds
+fn bounds_with(bounds: Bounds, cell: &Cell) -> Bounds
     ensures left { result.left ≡ int_min bounds.left cell.now.x }
     ensures top { result.top ≡ int_min bounds.top cell.now.y }
     ensures right { result.right ≡ int_max bounds.right cell.now.x }
@@ -38,7 +38,7 @@ pub(crate) fn bounds_of(first: &Cell, cells: &[Cell]) -> Bounds
 {
     let mut bounds = bounds_of_cell(first);
     for cell in cells {
-        bounds = joined(bounds, cell);
+        bounds = bounds_with(bounds, cell);
     }
     bounds
 }

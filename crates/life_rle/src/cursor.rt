@@ -58,7 +58,7 @@ pub(crate) fn cells_fault(
 
 /// The place after an item.
 #[inline(always)]
-pub(crate) fn moved(cursor: Cursor, item: Item) -> Cursor
+pub(crate) fn cursor_after(cursor: Cursor, item: Item) -> Cursor
     requires near { IsNear MAX_LEVEL cursor }
     requires count { item_count item ≤ most_count MAX_LEVEL }
     ensures { result ≡ cursor_after_item cursor item }
@@ -87,7 +87,7 @@ pub(crate) fn end_rows(cursor: Cursor, count: u64) -> Result<Cursor, Kind>
     ensures outside { IfErr result (λ kind. kind ≡ Kind.OutOfPlane) }
 {
     if cursor.y + count as i64 <= EDGE {
-        Ok(moved(cursor, Item::RowEnds { count }))
+        Ok(cursor_after(cursor, Item::RowEnds { count }))
     } else {
         Err(Kind::OutOfPlane)
     }

@@ -45,7 +45,7 @@ static STATES: [u8; 256] = [
 
 /// The state that one byte names.
 #[inline(always)]
-fn single_state(byte: u8) -> Option<State>
+pub(crate) fn single_state(byte: u8) -> Option<State>
     ensures { result ≡ single_state byte }
 {
     let state = STATES[usize::from(byte)];
@@ -53,7 +53,8 @@ fn single_state(byte: u8) -> Option<State>
 }
 
 /// The state that a prefix and a letter name.
-fn prefixed_state(prefix: u8, letter: u8) -> Option<State>
+#[inline(always)]
+pub(crate) fn prefixed_state(prefix: u8, letter: u8) -> Option<State>
     ensures { result ≡ prefixed_state prefix letter }
 {
     if prefix < b'p' || prefix > b'y' || letter < b'A' || letter > b'X' {

@@ -1,16 +1,20 @@
 //! The items of a line, read one after another.
 
-ghost use Rattle.std.specs.Prelude.{◌≡◌, ◌≤◌, ◌<◌, ◌+◌, ◌⊎◌, ◌∷◌, ◌++◌, ◌==◌, not, [], Some, None, IfOk, IfErr, OnOk, OnErr, length, filter, position, take_while};
-ghost use Rattle.life_rle.specs.Words.{vec_len, vec_capacity, byte, most_count, with_run, is_run_end, IsNear, cursor_after_item, item_count, row_limit, Cells, IsPrefixOfRuns, TakesItem, ReadsItems, ReadsOn, last_of, ItemsBreak, IsMemory};
+ghost use Rattle.std.specs.Prelude.{◌≡◌, ◌≤◌, ◌<◌, ◌+◌, ◌⊎◌, ◌∷◌, ◌++◌, ◌==◌, not, [], Some, None, IfOk, IfErr, OnOk, OnErr, length, filter, position, take_while, true, IsTrue};
+ghost use Rattle.life_rle.specs.Words.{vec_len, vec_capacity, byte, most_count, with_run, is_run_end, IsNear, cursor_after_item, item_count, row_limit, is_state_of, Cells, IsPrefixOfRuns, TakesItem, ReadsItems, ReadsOn, last_of, ItemsBreak, IsMemory};
 
-use crate::cursor::{Cursor, cells_fault, end_rows, moved, row_limit};
+use crate::cursor::{Cursor, cells_fault, cursor_after, end_rows, row_limit};
 use crate::item::{Item, Token, token_at};
+use crate::plane::is_state_of;
 use crate::short_items::{ItemPlace, begins_short, take_short_items};
 use bstr::ByteSlice;
 use life_base::{Kind, LONGEST_LINE, MAX_LEVEL, Rule, Run, State};
 
 /// A line of more bytes is long: its runs are counted before memory is reserved for them.
 const LONG_LINE: usize = 256;
+
+/// In so many last bytes of a line it doesn't pay to look for short items.
+const FEWEST_BYTES: usize = 4;
 
 /// Where the items of a line end: the place after them, and whether `!` is there.
 #[derive(Clone, Copy)]
@@ -147,7 +151,7 @@ fn take_cells(
     }
     let item = Item::Cells { count, state };
     push_run(cursor, item, runs)?;
-    Ok(moved(cursor, item))
+    Ok(cursor_after(cursor, item))
 }
 
 /// Takes an item that begins at the cursor, and returns the place after it. Cells of state 0 are a kind of their own: they bring no run.
@@ -209,9 +213,16 @@ fn take_one_item(
     }
 }
 
-/// Takes items from the start of a line on, as long as there are short ones among them.
+/// Takes items from the start of a line on, as long as there are short ones among them, of any state where there are `many`.
 #[inline(always)]
-fn take_mixed_items(rule: &Rule, from: Cursor, line: &[u8], runs: &mut Vec<Run>) -> ItemPlace
+fn take_mixed_items(
+    rule: &Rule,
+    many: bool,
+    from: Cursor,
+    line: &[u8],
+    runs: &mut Vec<Run>,
+) -> ItemPlace
+    requires states { IsTrue many → is_state_of rule.now 255 ≡ true }
     requires line { length line.now ≤ LONGEST_LINE }
     requires near { IsNear MAX_LEVEL from }
     ensures inside { result.at ≤ length line.now }
@@ -223,10 +234,11 @@ fn take_mixed_items(rule: &Rule, from: Cursor, line: &[u8], runs: &mut Vec<Run>)
         at: 0,
         cursor: from,
     };
-    while here.at < line.len() {
+    let end = line.len().saturating_sub(FEWEST_BYTES);
+    while here.at < end {
         let limit = row_limit(here.cursor.y);
-        let short = take_short_items(line, here, limit, runs);
-        if short.at == here.at {
+        let short = take_short_items(rule, many, line, here, limit, runs);
+        if short.at == here.at || short.at >= end {
             return short;
         }
         here = take_one_item(rule, short, limit, line, runs);
@@ -234,7 +246,22 @@ fn take_mixed_items(rule: &Rule, from: Cursor, line: &[u8], runs: &mut Vec<Run>)
     here
 }
 
-/// The same, if the line begins with a short item: few lines that don't have any later.
+/// The same under a rule of 256 states. It stays apart, so that it costs lines of two states nothing.
+#[inline(never)]
+fn take_many_items(rule: &Rule, from: Cursor, line: &[u8], runs: &mut Vec<Run>) -> ItemPlace
+    requires states { is_state_of rule.now 255 ≡ true }
+    requires line { length line.now ≤ LONGEST_LINE }
+    requires near { IsNear MAX_LEVEL from }
+    ensures inside { result.at ≤ length line.now }
+    ensures near { IsNear MAX_LEVEL result.cursor }
+    ensures read { ReadsOn MAX_LEVEL rule.now line.now 0 from runs.old.items result.at
+        result.cursor runs.new.items }
+{
+    take_mixed_items(rule, true, from, line, runs)
+}
+
+/// The same under any rule. Under one of two states no items are taken unless the line begins with a short one: few lines that don't have
+/// any later.
 #[inline(always)]
 fn take_first_items(rule: &Rule, from: Cursor, line: &[u8], runs: &mut Vec<Run>) -> ItemPlace
     requires line { length line.now ≤ LONGEST_LINE }
@@ -244,8 +271,11 @@ fn take_first_items(rule: &Rule, from: Cursor, line: &[u8], runs: &mut Vec<Run>)
     ensures read { ReadsOn MAX_LEVEL rule.now line.now 0 from runs.old.items result.at
         result.cursor runs.new.items }
 {
+    if is_state_of(rule, State::MAX) {
+        return take_many_items(rule, from, line, runs);
+    }
     if begins_short(line) {
-        return take_mixed_items(rule, from, line, runs);
+        return take_mixed_items(rule, false, from, line, runs);
     }
     ItemPlace {
         at: 0,

@@ -1,11 +1,11 @@
-//! Short items of a line: cells of state 0 or 1, written `b` or `o`, whose count has at most one digit. Most items of soups are short.
+//! Short items of a line: cells whose count has at most one digit. Under a rule of two states their state is written `b` or `o`. Most items are short.
 
-ghost use Rattle.std.specs.Prelude.{◌≡◌, ◌≤◌, ◌<◌, ◌+◌, length, slice_index, IsTrue};
-ghost use Rattle.life_rle.specs.Words.{byte, IsNear, row_limit, RowHasSpace, ReadsOn, IsShortItem, PassesDead, short_count, short_digits, Rule};
+ghost use Rattle.std.specs.Prelude.{◌≡◌, ◌≤◌, ◌<◌, ◌+◌, ◌-◌, true, length, IfSome, IsTrue};
+ghost use Rattle.life_rle.specs.Words.{vec_len, vec_capacity, is_state_of, IsNear, row_limit, RowHasSpace, ReadsOn, IsShortItem, IsStateAt, AreShortCells, PassesDead, short_count, short_digits, Rule};
 
-use crate::cursor::{Cursor, moved};
-use crate::item::Item;
-use life_base::{LONGEST_LINE, MAX_LEVEL, Run};
+use crate::cursor::{Cursor, cursor_after};
+use crate::item::{Item, prefixed_state, single_state};
+use life_base::{LONGEST_LINE, MAX_LEVEL, Rule, Run, State};
 use std::mem;
 
 /// The count of a short item that begins with this byte.
@@ -61,7 +61,7 @@ fn short_digits(byte: u8) -> usize
     usize::from(DIGITS[usize::from(byte)])
 }
 
-/// The count of the short item at a place, and the place of its last byte. If that byte is neither `b` nor `o`, the item isn't short.
+/// The count of the short item at a place, and the place of its state. If there is no state, the item isn't short.
 #[inline(always)]
 fn short_item(line: &[u8], at: usize) -> (u64, usize)
     requires { at + 1 < length line.now }
@@ -71,11 +71,9 @@ fn short_item(line: &[u8], at: usize) -> (u64, usize)
     (short_count(first), at + short_digits(first))
 }
 
-/// Whether a line begins with a short item, and has enough bytes for more of them.
+/// Whether a line begins with a short item of state 0 or 1, and has enough bytes for more of them.
 #[inline(always)]
-pub(crate) fn begins_short(line: &[u8]) -> bool
-    ensures { IsTrue result → 1 < length line.now }
-{
+pub(crate) fn begins_short(line: &[u8]) -> bool {
     if line.len() < FEW_BYTES {
         return false;
     }
@@ -96,39 +94,77 @@ fn pass_dead(line: &[u8], here: ItemPlace) -> ItemPlace
     }
     ItemPlace {
         at: last + 1,
-        cursor: moved(here.cursor, Item::Cells { count, state: 0 }),
+        cursor: cursor_after(here.cursor, Item::Cells { count, state: 0 }),
     }
 }
 
-/// Takes short items from a place of a line on, and puts their runs after the runs. It stops before the line's last four bytes, before an
-/// item that isn't short, where there may be no capacity for one more run, and near the edge of the plane.
+/// The state at a place and the place after it, if a state is there.
 #[inline(always)]
-pub(crate) fn take_short_items(
-    line: &[u8],
-    from: ItemPlace,
-    limit: i64,
-    runs: &mut Vec<Run>,
-) -> ItemPlace
-    requires line { length line.now ≤ LONGEST_LINE }
+fn state_at(line: &[u8], place: usize) -> Option<(State, usize)>
+    requires { place + 1 < length line.now }
+    ensures { IfSome result (λ found. IsStateAt line.now place found.0 found.1) }
+{
+    let byte = line[place];
+    if let Some(state) = single_state(byte) {
+        return Some((state, place + 1));
+    }
+    match prefixed_state(byte, line[place + 1]) {
+        Some(state) => Some((state, place + 2)),
+        None => None,
+    }
+}
+
+/// The count and the state of the short item at a place, and the place after it, if a short item is there. Most have no count, and most
+/// states are one byte.
+#[inline(always)]
+fn short_cells(line: &[u8], at: usize) -> Option<(u64, State, usize)>
+    requires { at + 2 < length line.now }
+    ensures { IfSome result
+        (λ found. AreShortCells MAX_LEVEL line.now at found.0 found.1 found.2) }
+{
+    let first = line[at];
+    if first == b'.' {
+        return Some((1, 0, at + 1));
+    }
+    if let Some(state) = single_state(first) {
+        return Some((1, state, at + 1));
+    }
+    let (count, place) = short_item(line, at);
+    match state_at(line, place) {
+        Some((state, behind)) => Some((count, state, behind)),
+        None => None,
+    }
+}
+
+/// The place of a line before which short items are taken that begin at another: this many bytes before the end, and before a run for which
+/// there may be no capacity.
+#[inline(always)]
+fn short_end(line: &[u8], at: usize, runs: &Vec<Run>, rest: usize) -> usize
+    requires { at < length line.now }
+    ensures line { result ≤ length line.now - rest }
+    ensures room { vec_len runs.now + (result - at) ≤ vec_capacity runs.now }
+{
+    let spare = runs.capacity() - runs.len();
+    line.len()
+        .saturating_sub(rest)
+        .min(at.saturating_add(spare))
+}
+
+/// Takes short items of states 0 and 1, which take turns as a rule, from a place of a line on, and puts their runs after the runs. It stops
+/// before the line's last four bytes, before another item, and where there may be no capacity for one more run.
+#[inline(always)]
+fn take_two_states(line: &[u8], from: ItemPlace, runs: &mut Vec<Run>) -> ItemPlace
     requires inside { from.at < length line.now }
-    requires near { IsNear MAX_LEVEL from.cursor }
-    requires limit { limit ≡ row_limit MAX_LEVEL from.cursor.y }
+    requires room { RowHasSpace MAX_LEVEL line.now from.at from.cursor }
     ensures inside { (from.at ≤ result.at) × (result.at < length line.now) }
     ensures near { IsNear MAX_LEVEL result.cursor }
     ensures row { result.cursor.y ≡ from.cursor.y }
     ensures read { (rule : Rule) → ReadsOn MAX_LEVEL rule line.now from.at from.cursor
         runs.old.items result.at result.cursor runs.new.items }
 {
-    if from.cursor.x + FAR > limit {
-        return from;
-    }
     let alloc = *runs.allocator();
     let mut lent = mem::replace(runs, Vec::new(alloc));
-    let spare = lent.capacity() - lent.len();
-    let end = line
-        .len()
-        .saturating_sub(4)
-        .min(from.at.saturating_add(spare));
+    let end = short_end(line, from.at, &lent, 4);
     let mut here = from;
     while here.at < end {
         here = pass_dead(line, here);
@@ -144,9 +180,78 @@ pub(crate) fn take_short_items(
         });
         here = ItemPlace {
             at: last + 1,
-            cursor: moved(here.cursor, Item::Cells { count, state: 1 }),
+            cursor: cursor_after(here.cursor, Item::Cells { count, state: 1 }),
         };
     }
     *runs = lent;
     here
+}
+
+/// The same under a rule of 256 states, for items of each state in any order. It stops before the line's last two bytes.
+#[inline(always)]
+fn take_many_states(line: &[u8], from: ItemPlace, runs: &mut Vec<Run>) -> ItemPlace
+    requires inside { from.at < length line.now }
+    requires room { RowHasSpace MAX_LEVEL line.now from.at from.cursor }
+    ensures inside { (from.at ≤ result.at) × (result.at ≤ length line.now) }
+    ensures near { IsNear MAX_LEVEL result.cursor }
+    ensures row { result.cursor.y ≡ from.cursor.y }
+    ensures read { (rule : Rule) → is_state_of rule 255 ≡ true
+        → ReadsOn MAX_LEVEL rule line.now from.at
+        from.cursor runs.old.items result.at result.cursor runs.new.items }
+{
+    let alloc = *runs.allocator();
+    let mut lent = mem::replace(runs, Vec::new(alloc));
+    let end = short_end(line, from.at, &lent, 2);
+    let mut here = from;
+    while here.at < end {
+        let Some((count, state, behind)) = short_cells(line, here.at) else {
+            break;
+        };
+        if state != 0 {
+            lent.push_reserved(Run {
+                x: here.cursor.x,
+                y: here.cursor.y,
+                len: count,
+                state,
+            });
+        }
+        here = ItemPlace {
+            at: behind,
+            cursor: cursor_after(here.cursor, Item::Cells { count, state }),
+        };
+    }
+    *runs = lent;
+    here
+}
+
+/// Takes short items from a place of a line on, of any state where there are `many`, and puts their runs after the runs. It takes none near the
+/// edge of the plane.
+#[inline(always)]
+pub(crate) fn take_short_items(
+    rule: &Rule,
+    many: bool,
+    line: &[u8],
+    from: ItemPlace,
+    limit: i64,
+    runs: &mut Vec<Run>,
+) -> ItemPlace
+    requires states { IsTrue many → is_state_of rule.now 255 ≡ true }
+    requires line { length line.now ≤ LONGEST_LINE }
+    requires inside { from.at < length line.now }
+    requires near { IsNear MAX_LEVEL from.cursor }
+    requires limit { limit ≡ row_limit MAX_LEVEL from.cursor.y }
+    ensures inside { (from.at ≤ result.at) × (result.at ≤ length line.now) }
+    ensures near { IsNear MAX_LEVEL result.cursor }
+    ensures row { result.cursor.y ≡ from.cursor.y }
+    ensures read { ReadsOn MAX_LEVEL rule.now line.now from.at from.cursor runs.old.items result.at
+        result.cursor runs.new.items }
+{
+    if from.cursor.x + FAR > limit {
+        return from;
+    }
+    if many {
+        take_many_states(line, from, runs)
+    } else {
+        take_two_states(line, from, runs)
+    }
 }

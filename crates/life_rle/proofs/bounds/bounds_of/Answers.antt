@@ -8,8 +8,9 @@ loop-cell-init c = ap (λ b. bounds_onto b c.args.cells.now) c.bounds_of_cell-bo
 
 pub loop-cell-preserved : goal.loop-cell-preserved
 loop-cell-preserved c =
-    let said = c.joined-bounds.ensures in
-    bounds_onto-sides c.loop-cell.bounds c.joined-bounds.result _ (drop (c.loop-cell.cell-index + 1) c.args.cells.now) said.left said.top said.right said.bottom
+    let said = c.bounds_with-bounds.ensures in
+    bounds_onto-sides c.loop-cell.bounds c.bounds_with-bounds.result _ (drop (c.loop-cell.cell-index + 1) c.args.cells.now)
+    said.left said.top said.right said.bottom
     ∙ sym (at_drop_more (bounds_onto c.loop-cell.bounds) c.args.cells.now c.loop-cell.cell-index _ c.loop-cell-test.true)
     ∙ c.loop-cell.invariant
 

@@ -7,7 +7,7 @@ use Rattle.life_rle.specs.declared.item.Item.TheVariants.{RowEnds}
 use Rattle.life_rle.specs.Cursor.{IsNear}
 use Rattle.life_rle.specs.Pattern.{item_fault}
 use Rattle.life_rle.specs.Plane.{rle_plane_end}
-use Rattle.life_rle.proofs.RowLimits.{moved-near}
+use Rattle.life_rle.proofs.RowLimits.{cursor-near}
 use Rattle.life_rle.proofs.cursor.end_rows.Goals as goal
 
 pub returns-then-cursor-count-le-EDGE-clause-takes : goal.returns-then-cursor-count-le-EDGE-clause-takes
@@ -18,7 +18,7 @@ returns-then-cursor-count-le-EDGE-clause-takes c =
     λ rule. ap (λ b. cond b None (Some OutOfPlane)) inside in
     λ rule runs. record {
       sound = sound rule;
-      cursor = c.moved.ensures;
-      near = subst (IsNear MAX_LEVEL) (sym c.moved.ensures) (moved-near rule here (RowEnds c.args.count) c.requires.near (sound rule));
+      cursor = c.cursor_after.ensures;
+      near = subst (IsNear MAX_LEVEL) (sym c.cursor_after.ensures) (cursor-near rule here (RowEnds c.args.count) c.requires.near (sound rule));
       runs = sym (append-nil runs);
     }

@@ -4,7 +4,7 @@ use Rattle.life_rle.specs.declared.item.Item.{Item}
 use Rattle.life_rle.specs.declared.item.Item.TheVariants.{Cells}
 use Rattle.life_rle.specs.Pattern.{item_fault}
 use Rattle.life_rle.specs.Cursor.{IsNear}
-use Rattle.life_rle.proofs.RowLimits.{moved-near}
+use Rattle.life_rle.proofs.RowLimits.{cursor-near}
 use Rattle.life_rle.proofs.line_items.take_cells.Goals as goal
 
 pub returns : goal.returns
@@ -15,6 +15,6 @@ returns c =
     record {
       sound = sound;
       cursor = search rules;
-      near = subst (IsNear MAX_LEVEL) (sym c.moved.ensures) (moved-near c.args.rule.now now item c.requires.near sound);
+      near = subst (IsNear MAX_LEVEL) (sym c.cursor_after.ensures) (cursor-near c.args.rule.now now item c.requires.near sound);
       runs = search rules;
     }

@@ -1,8 +1,8 @@
-use Rattle.std.proofs.Common.{◌≡◌, ◌+◌, refl, sym, subst, arith, append-nil, get_or}
+use Rattle.std.proofs.Common.{◌≡◌, ◌+◌, refl, sym, subst, arith, append-nil, drop, get_or}
 use Rattle.life_base.specs.declared.cell.TheConstants.{MAX_LEVEL}
 use Rattle.life_rle.specs.declared.cursor.Cursor.{Cursor}
 use Rattle.life_rle.specs.ShortItems.{PassesDead}
-use Rattle.life_rle.proofs.ShortItems.{reads-short, still-room}
+use Rattle.life_rle.proofs.ShortItems.{low-state, reads-short, state-byte, still-room}
 use Rattle.life_rle.proofs.short_items.pass_dead.Goals as goal
 
 pub returns-then-line-last-ne98 : goal.returns-then-line-last-ne98
@@ -19,10 +19,12 @@ returns c =
     let low = item.inside.0 in
     let high = item.inside.1 in
     let dead : get_or line last 0 ≡ 98 = omega (arith, c.if-line-last-ne98.false) in
-    subst (λ (there : Cursor). PassesDead MAX_LEVEL line at here (last + 1) there) (sym c.moved.ensures) (record {
+    subst (λ (there : Cursor). PassesDead MAX_LEVEL line at here (last + 1) there) (sym c.cursor_after.ensures) (record {
       inside = (omega (arith, low), omega (arith, high));
       row = refl;
       room = still-room line at count 0 (last + 1) here c.requires.room item.few (omega (arith, low)) (omega (arith, high, c.requires.inside));
-      read = λ rule found. reads-short line at count 0 (last + 1) here found found c.requires.room item.few (omega arith) (omega (arith, low))
-          (omega (arith, high, c.requires.inside)) (item.dead dead) (sym (append-nil found)) rule;
+      read = λ rule found. reads-short line at count 0 (last + 1) here found found c.requires.room item.few (omega (arith, low))
+          (omega (arith, high, c.requires.inside)) (item.spelled 0 (drop (last + 1) line)
+          (state-byte line last 98 0 (omega (arith, high, c.requires.inside)) dead refl))
+          (sym (append-nil found)) rule (low-state rule 0 (omega arith));
     })

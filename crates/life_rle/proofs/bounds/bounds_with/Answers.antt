@@ -1,6 +1,6 @@
 use Rattle.std.proofs.Common.{◌≡◌, ℤ, w64, to_z, of_z, to_z-of_z, FitsSigned, rules}
 use Rattle.std.specs.Int.{int_min, int_max}
-use Rattle.life_rle.proofs.bounds.joined.Goals as goal
+use Rattle.life_rle.proofs.bounds.bounds_with.Goals as goal
 
 -- the least or the greatest of two numbers of the type
 side : (least : ℤ → ℤ → ℤ) (n a b : ℤ) → FitsSigned w64 n → FitsSigned w64 a → FitsSigned w64 b

@@ -1,13 +1,13 @@
-use Rattle.std.proofs.Common.{◌≡◌, ◌+◌, ◌++◌, ◌∙◌, [], sym, subst, ap, arith, get_or, rules}
+use Rattle.std.proofs.Common.{◌≡◌, ◌+◌, ◌++◌, ◌∙◌, [], sym, subst, ap, arith, drop, get_or, refl, rules}
 use Rattle.life_base.specs.declared.cell.TheConstants.{MAX_LEVEL}
 use Rattle.life_rle.specs.declared.cursor.Cursor.{Cursor}
 use Rattle.life_rle.specs.declared.item.Item.TheVariants.{Cells}
 use Rattle.life_rle.specs.Cursor.{cursor_after_item}
 use Rattle.life_rle.specs.Runs.{with_run}
 use Rattle.life_rle.specs.ShortItems.{RowHasSpace, ReadsOn}
-use Rattle.life_rle.proofs.ShortItems.{reads-on, reads-short, still-room}
-use Rattle.life_rle.proofs.short_items.take_short_items.Goals as goal
-use Rattle.life_rle.proofs.short_items.take_short_items.Goals.{else-loop-here-test, then-loop-here-test+then-line-last-ne111}
+use Rattle.life_rle.proofs.ShortItems.{low-state, reads-on, reads-short, state-byte, still-room}
+use Rattle.life_rle.proofs.short_items.take_two_states.Goals as goal
+use Rattle.life_rle.proofs.short_items.take_two_states.Goals.{else-loop-here-test, then-loop-here-test+then-line-last-ne111}
 
 pub loop-here-preserved : goal.loop-here-preserved
 loop-here-preserved c =
@@ -33,7 +33,7 @@ loop-here-preserved c =
     let live : get_or line last 0 ≡ 111 = omega (arith, c.if-line-last-ne111.false) in
     let there : Cursor = cursor_after_item halfway (Cells count 1) in
     let pushed : c.push_reserved.new.self.items ≡ before ++ with_run halfway.y halfway.x (Cells count 1) [] = search rules in
-    let moves = c.moved.ensures in
+    let moves = c.cursor_after.ensures in
     record {
       on = omega (arith, kept.on, from, low);
       inside = omega (arith, end, on, to, high);
@@ -48,8 +48,9 @@ loop-here-preserved c =
           c.args.runs.now.items before c.push_reserved.new.self.items (kept.read rule)
           (reads-on rule line at middle (last + 1) c.loop-here.here.cursor halfway there before before c.push_reserved.new.self.items
           (passed.read rule before)
-          (reads-short line middle count 1 (last + 1) halfway before c.push_reserved.new.self.items passed.room item.few (omega arith) (omega (arith, low))
-          (omega (arith, end, on, to, high)) (item.live live) pushed rule)));
+          (reads-short line middle count 1 (last + 1) halfway before c.push_reserved.new.self.items passed.room item.few (omega (arith, low))
+          (omega (arith, end, on, to, high)) (item.spelled 1 (drop (last + 1) line) (state-byte line last 111 1 (omega (arith, end, on, to, high)) live refl))
+          pushed rule (low-state rule 1 (omega arith)))));
     }
 
 pub returns-clause-near : goal.returns-clause-near
