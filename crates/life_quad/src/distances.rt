@@ -1,6 +1,6 @@
 //! How far from the sides of a square its nonzero cells lie.
-ghost use Rattle.std.specs.Prelude.{◌≡◌, ◌≤◌, Option, IfOk, IfErr};
-ghost use Rattle.life_quad.specs.Words.{depth, HasCellAt, HasCellInTwo, IsLeastOf, AreLeast, Faces, lesser_of, AreQuarters, value_of_id, IsMemory};
+ghost use Rattle.std.specs.Prelude.{◌≡◌, ◌≢◌, ◌⊎◌, ◌≤◌, Option, IfOk, IfErr, OnErr};
+ghost use Rattle.life_quad.specs.Words.{IdValue, depth, HasCellAt, HasCellInTwo, IsLeastOf, AreLeast, Faces, lesser_of, AreQuarters, value_of_id, IsMemory};
 
 use crate::id_map::IdMap;
 use crate::moves::{Quarters, divide, is_blank_at};
@@ -23,6 +23,9 @@ type Found = Result<Option<u64>, Kind>;
 
 /// What the table has for a square that was not visited: no square is so large.
 pub(crate) const UNKNOWN: u64 = u64::MAX;
+
+/// The least level of squares whose distances are kept. In lower ones they are found as fast, and the Ids of these lie far apart.
+const LEAST_KEPT: u8 = 3;
 
 /// The least distance of a nonzero cell from a side, in columns or rows: 0 for a cell that touches it. A blank square has none. At most
 /// the squares that reach nearest to the side are visited, and each shared one once.
@@ -85,6 +88,31 @@ fn lesser(a: Option<u64>, b: Option<u64>) -> Option<u64>
     }
 }
 
+/// The distance that is kept for a square of a level, or none.
+fn kept(known: &IdMap<u64>, level: u8, id: Id) -> u64
+    ensures { result ≢ UNKNOWN → result ≡ value_of_id known.now id }
+{
+    if level < LEAST_KEPT {
+        UNKNOWN
+    } else {
+        known.get(id)
+    }
+}
+
+/// Keeps the distance of a square of a level, unless that is too low.
+fn keep(known: &mut IdMap<u64>, level: u8, id: Id, distance: u64) -> Result<(), Kind>
+    ensures only { (q : IdValue) → (value_of_id known.new q ≡ value_of_id known.old q)
+        ⊎ ((q ≡ id) × (value_of_id known.new q ≡ distance)) }
+    ensures same { OnErr result ((q : IdValue) → value_of_id known.new q
+        ≡ value_of_id known.old q) }
+    ensures refusals { IfErr result IsMemory }
+{
+    if level < LEAST_KEPT {
+        return Ok(());
+    }
+    known.set(id, distance)
+}
+
 /// The least distance in a square of a level, where `known` has those of squares that were visited.
 #[cycle(find)]
 fn find<S: Squares>(squares: &S, side: Side, level: u8, id: Id, known: &mut IdMap<u64>) -> Found
@@ -101,20 +129,20 @@ fn find<S: Squares>(squares: &S, side: Side, level: u8, id: Id, known: &mut IdMa
     if level == 0 {
         return Ok(Some(0));
     }
-    let distance = known.get(id);
+    let distance = kept(known, level, id);
     if distance != UNKNOWN {
         return Ok(Some(distance));
     }
     let Quarters { nw, ne, sw, se } = facing(squares, side, id);
     if let Some(distance) = find_in_two(squares, side, level - 1, nw, ne, known)? {
-        known.set(id, distance)?;
+        keep(known, level, id, distance)?;
         return Ok(Some(distance));
     }
     let Some(distance) = find_in_two(squares, side, level - 1, sw, se, known)? else {
         return Ok(None);
     };
     let distance = distance + half_side(level);
-    known.set(id, distance)?;
+    keep(known, level, id, distance)?;
     Ok(Some(distance))
 }
 

@@ -1,20 +1,22 @@
 -- Facts about four rows of cells.
 use Rattle.life_base.specs.declared.cell.TheConstants.{MAX_LEVEL}
-use Rattle.std.proofs.Common.{◌≡◌, ℕ, suc, ◌+◌, ◌-◌, ◌*◌, ◌/◌, ◌%◌, ◌^◌, ◌≤◌, ◌<◌, ◌⊎◌, inl, inr, true, nat_lt, nat_le, List, [], ◌∷◌, length, get_or, zero, Bool, false, Option, Some, None, refl, sym, ◌∙◌, ap, subst, arith, MatchOption, IfSome, if◌then◌else◌, get_or-set_same, get_or-set_other}
+use Rattle.std.proofs.Common.{◌≡◌, ℕ, zero, suc, ◌+◌, ◌-◌, ◌*◌, ◌/◌, ◌%◌, ◌^◌, ◌≤◌, ◌<◌, ◌⊎◌, inl, inr, Bool, true, false, nat_lt, nat_le, List, [], ◌∷◌, length, get_or, drop, Some, None, refl, sym, ◌∙◌, ap, subst, arith, if◌then◌else◌, get_or-set_same, get_or-set_other}
 use Rattle.life_quad.specs.declared.id.Id.{Id}
-use Rattle.life_quad.specs.Keeping.{KeepsSquares}
-use Rattle.life_quad.specs.Store.{two, four}
-use Rattle.life_base.specs.Tree.{Tree, quad, blank}
+use Rattle.life_base.specs.Tree.{blank}
+use Rattle.life_strip.specs.declared.blocks.Block.{Block}
 use Rattle.life_strip.specs.declared.spans.Span.{Span}
-use Rattle.life_strip.specs.declared.spans.Stretch.{Stretch}
-use Rattle.life_strip.specs.Strip.{id_at, square_or_blank, square_at, quad_at, IsStrip, IsFoundStretch, IsColumnBefore, IsNearer, AreBefore, AreWithin, EndsAfter, IsExtended, Rise}
+use Rattle.life_strip.specs.declared.spans.TheConstants.{NEVER}
+use Rattle.life_strip.specs.declared.words.BlockPlace.{BlockPlace}
 use Rattle.life_strip.specs.declared.words.TwoWords.{TwoWords}
-use Rattle.life_strip.specs.Band.{four_at, cell_in_spans, IsWordOfCells, west_at, east_at, cells_at}
+use Rattle.life_strip.specs.Strip.{id_at, AreBefore, IsExtended, Rise}
+use Rattle.life_strip.specs.Blocks.{cells_at_block, four_in, AreRowBlocks}
+use Rattle.life_strip.specs.Band.{block_goes_to, block_in, IsAtBlock, IsLeastOfFour, IsPastBlocks, square_of_words, word_in}
 use Rattle.std.proofs.Math.ListN.{set, length-set}
 use Rattle.std.proofs.lemmas.List.{get_or_default}
 use Rattle.std.proofs.lemmas.List.Elements.{All-tail, All-set}
-use Rattle.life_strip.proofs.WordLemmas.{west-square, east-square, west-small, east-small}
-use Rattle.life_strip.proofs.SpanLemmas.{Keeps, id_at-in, id_at-after, before_more, strip-kept, quad-keeps, quad-same, nearer-one, found-within, before_earlier, none-left, nearer-both, first-column, quad-blank, blank-before, ends-after}
+use Rattle.life_strip.proofs.BlockLemmas.{block-after, block-before, block-in, blocks-over}
+use Rattle.life_strip.proofs.WordLemmas.{four-blank, four-words, squares-alike}
+use Rattle.life_strip.proofs.SpanLemmas.{id_at-in, id_at-after, before_more}
 
 -- spans rise while the last of them gets a new end
 last-rises : (spans : List Span) (n : ℕ) (s : Span) → Rise spans → n + 1 ≡ length spans → ((d : Span) → (get_or spans n d).start ≡ s.start)
@@ -80,200 +82,241 @@ module _ (column end : ℕ) (square : Id) (later : column < end) where
         more = λ c le lt. last-more spans n s len p (omega (arith, begun)) e c le lt ∙ ap Some (q ∙ is);
       }
 
--- the square of the cells of four squares of level 1
-pub four-digits : (a b c d : ℕ) → a < 16 → b < 16 → c < 16 → d < 16 → four (4096 * a + 256 * b + 16 * c + d) ≡ quad (two a) (two b) (two c) (two d)
-four-digits a b c d la lb lc ld =
-    let n = 4096 * a + 256 * b + 16 * c + d in
-    let nw : n / 4096 ≡ a = omega arith in
-    let ne : n / 256 % 16 ≡ b = omega arith in
-    let sw : n / 16 % 16 ≡ c = omega arith in
-    let se : n % 16 ≡ d = omega arith in
-    λ i. quad (two (nw i)) (two (ne i)) (two (sw i)) (two (se i))
+-- a row at the first of its blocks
+pub past-first : (blocks : List Block) → IsPastBlocks blocks 0 0
+past-first blocks = record { cells = λ n le. refl; from = λ b lt. omega arith }
 
-pub four-keeps : {knows knows' : Id → Type 0} {old now : Id → Tree} → Keeps knows knows' old now → (a b c d : List Span) → IsStrip knows old 0 a
-    → IsStrip knows old 0 b → IsStrip knows old 0 c → IsStrip knows old 0 d
-    → (column : ℕ) → four_at now a b c d column ≡ four_at old a b c d column
-four-keeps {knows} {knows'} {old} {now} keeps a b c d ka kb kc kd column =
-    let nw = quad-keeps {knows = knows} {knows' = knows'} {old = old} {now = now} keeps 0 a b ka kb (2 * column) in
-    let ne = quad-keeps {knows = knows} {knows' = knows'} {old = old} {now = now} keeps 0 a b ka kb (2 * column + 1) in
-    let sw = quad-keeps {knows = knows} {knows' = knows'} {old = old} {now = now} keeps 0 c d kc kd (2 * column) in
-    let se = quad-keeps {knows = knows} {knows' = knows'} {old = old} {now = now} keeps 0 c d kc kd (2 * column + 1) in
-    λ i. quad (nw i) (ne i) (sw i) (se i)
+module _ (blocks : List Block) (done : ℕ) (p : BlockPlace) (h : IsAtBlock blocks done p) where
+  -- up to the block that comes next there is no cell
+  at-gap : (n : ℕ) → done ≤ n → n < p.start → cells_at_block blocks n ≡ 0
+  at-gap n from lt =
+      let o = h.order in
+      h.cells n from ∙ block-before (block_in p) (drop (suc p.index) blocks) n lt (omega (arith, lt, o))
 
--- two squares of two rows go on
-module _ (knows : Id → Type 0) (content : Id → Tree) (blank_id : Id) (known : knows blank_id) (is_blank : content blank_id ≡ blank 0) where
-  two-same : (upper lower : List Span) → IsStrip knows content 0 upper → IsStrip knows content 0 lower
-      → (column c : ℕ) (n s : Stretch) → IsFoundStretch upper (4 * column) blank_id n → IsFoundStretch lower (4 * column) blank_id s → column < c
-      → IsColumnBefore (4 * c + 3) n.end
-      → IsColumnBefore (4 * c + 3) s.end
-      → (quad_at content 0 upper lower (2 * c) ≡ quad_at content 0 upper lower (2 * column))
-      × (quad_at content 0 upper lower (2 * c + 1) ≡ quad_at content 0 upper lower (2 * column + 1))
-  two-same upper lower u l column c n s hn hs lt le me =
-      let twice : 4 * column ≡ 2 * (2 * column) = omega arith in
-      let fn = subst (λ k. IsFoundStretch upper k blank_id n) twice hn in
-      let fs = subst (λ k. IsFoundStretch lower k blank_id s) twice hs in
-      let at = λ (k : ℕ) (after : 2 * column < k) (most : 2 * k + 1 ≤ 4 * c + 3).
-      quad-same knows content 0 upper lower u l blank_id known is_blank (2 * column) k n s fn fs after (before_earlier (2 * k + 1) (4 * c + 3) n.end most le)
-      (before_earlier (2 * k + 1) (4 * c + 3) s.end most me) in (
-        at (2 * c) (omega (arith, lt)) (omega arith),
-        at (2 * c + 1) (omega (arith, lt)) (omega arith)
-            ∙ sym (at (2 * column + 1) (omega arith) (omega (arith, lt))),
-      )
-
-  pub four-same : (a b c d : List Span) → IsStrip knows content 0 a → IsStrip knows content 0 b → IsStrip knows content 0 c → IsStrip knows content 0 d
-      → (column x : ℕ) (fa fb fc fd : Stretch) → IsFoundStretch a (4 * column) blank_id fa → IsFoundStretch b (4 * column) blank_id fb
-      → IsFoundStretch c (4 * column) blank_id fc
-      → IsFoundStretch d (4 * column) blank_id fd
-      → column < x → IsColumnBefore (4 * x + 3) fa.end → IsColumnBefore (4 * x + 3) fb.end → IsColumnBefore (4 * x + 3) fc.end
-      → IsColumnBefore (4 * x + 3) fd.end
-      → four_at content a b c d x ≡ four_at content a b c d column
-  four-same a b c d ka kb kc kd column x fa fb fc fd ha hb hc hd lt la lb lc ld =
-      let north = two-same a b ka kb column x fa fb ha hb lt la lb in
-      let south = two-same c d kc kd column x fc fd hc hd lt lc ld in
-      λ i. quad (north.0 i) (north.1 i) (south.0 i) (south.1 i)
-
--- no end is left
-pub nearer-none : (o a b : Option ℕ) → MatchOption o ((a ≡ None) × (b ≡ None)) (λ e. IsNearer e a b) → o ≡ None → (a ≡ None) × (b ≡ None)
-nearer-none None a b h e = h
-nearer-none (Some x) a b h e = absurd cc
-
--- where no span is left all is blank
-module _ (content : Id → Tree) (column : ℕ) (i : Id) where
-  none-blank : (r : List Span) (f : Stretch) → IsFoundStretch r (4 * column) i f → f.start ≡ None → (c : ℕ) → 4 * column ≤ c → square_at content 0 r c ≡ blank 0
-  none-blank r f h e c le = ap (square_or_blank content 0) (none-left r (4 * column) i f h e c le)
-
-  pub four-blank : (a b c d : List Span) (fa fb fc fd : Stretch) → IsFoundStretch a (4 * column) i fa → IsFoundStretch b (4 * column) i fb
-      → IsFoundStretch c (4 * column) i fc
-      → IsFoundStretch d (4 * column) i fd
-      → fa.start ≡ None → fb.start ≡ None → fc.start ≡ None → fd.start ≡ None → (x : ℕ) → column ≤ x → four_at content a b c d x ≡ blank 2
-  four-blank a b c d fa fb fc fd ha hb hc hd ea eb ec ed x le =
-      let p = two a b fa fb ha hb ea eb in
-      let q = two c d fc fd hc hd ec ed in
-      λ j. quad (p (2 * x) (omega arith) j) (p (2 * x + 1) (omega arith) j) (q (2 * x) (omega arith) j) (q (2 * x + 1) (omega arith) j)
+  -- where no block is left there is none at all
+  at-none : AreRowBlocks blocks → NEVER ≤ p.start → (n : ℕ) → done ≤ n → cells_at_block blocks n ≡ 0
+  at-none are over n from = by (nat_lt n p.start) refl
     where
-      two : (u l : List Span) (fu fl : Stretch) → IsFoundStretch u (4 * column) i fu → IsFoundStretch l (4 * column) i fl → fu.start ≡ None → fl.start ≡ None
-          → (k : ℕ)
-          → 2 * x ≤ k → quad_at content 0 u l k ≡ blank 1
-      two u l fu fl hu hl eu el k more =
-          let nw = none-blank u fu hu eu (2 * k) (omega (arith, le, more)) in
-          let ne = none-blank u fu hu eu (2 * k + 1) (omega (arith, le, more)) in
-          let sw = none-blank l fl hl el (2 * k) (omega (arith, le, more)) in
-          let se = none-blank l fl hl el (2 * k + 1) (omega (arith, le, more)) in
-          λ j. quad (nw j) (ne j) (sw j) (se j)
+      by : (t : Bool) → nat_lt n p.start ≡ t → cells_at_block blocks n ≡ 0
+      by true e = at-gap n from (grind arith)
+      by false e =
+          let le : p.start ≤ n = grind arith in
+          blocks-over blocks n (λ k d lt. let end = (are.each k d lt).within in omega (arith, end, le, over))
 
--- a row has no span up to a column, and the one that was found ends after it
-pub record IsUnbegun (spans : List Span) (found : Stretch) (column first : ℕ) : Type 0 where
-  pub none : (y : ℕ) → column ≤ y → y < first → id_at spans y ≡ None
-  pub ends : (y : ℕ) → y ≤ first → EndsAfter spans found.index y
+  module _ (number : ℕ) (small : number < NEVER) (begun : number ≤ p.start) where
+    -- a row goes on beyond a block that is before its next one or that one itself
+    at-beyond : suc number ≤ block_goes_to p number
+    at-beyond = by (nat_le p.start number) refl
+      where
+        by : (t : Bool) → nat_le p.start number ≡ t → suc number ≤ (if t then p.end else p.start)
+        by true e =
+            let le : p.start ≤ number = grind arith in
+            let some = (h.some (omega (arith, le, small))).some in
+            omega (arith, some, begun)
+        by false e = let lt : number < p.start = grind arith in omega (arith, lt)
 
-unbegun : (spans : List Span) (column : ℕ) (i : Id) (f : Stretch) (first : ℕ) → IsFoundStretch spans column i f
-    → ((x : ℕ) → x < first → IsColumnBefore x f.start)
-    → IsUnbegun spans f column first
-unbegun spans column i f first h before =
-    record { none = blank-before spans column i f h first before; ends = λ y le. ends-after spans column i f h first y before le }
+    module _ (next : ℕ) (reach : next ≤ block_goes_to p number) where
+      -- no farther than where its place ends
+      pub at-reach : next ≤ p.end
+      at-reach = let o = h.order in by o (nat_le p.start number) reach
+        where
+          by : p.start ≤ p.end → (t : Bool) → next ≤ (if t then p.end else p.start) → next ≤ p.end
+          by o true r = r
+          by o false r = omega (arith, o, r)
 
--- the nearest of the columns where four rows have a span: none of them has one before it
-pub record IsNearest (ra rb rc rd : List Span) (fa fb fc fd : Stretch) (column first : ℕ) : Type 0 where
-  pub from : column ≤ first
-  pub within : first < 2 ^ MAX_LEVEL
-  pub a : IsUnbegun ra fa column first
-  pub b : IsUnbegun rb fb column first
-  pub c : IsUnbegun rc fc column first
-  pub d : IsUnbegun rd fd column first
+      -- one word goes on
+      at-word : (n : ℕ) → done ≤ n → number ≤ n → n < next → cells_at_block blocks n ≡ word_in p number
+      at-word n from later lt = by (nat_le p.start number) refl reach
+        where
+          by : (t : Bool) → nat_le p.start number ≡ t → next ≤ (if t then p.end else p.start)
+              → cells_at_block blocks n ≡ (if nat_le p.start number then p.cells else 0)
+          by true e r =
+              let le : p.start ≤ number = grind arith in
+              h.cells n from ∙ block-in (block_in p) (drop (suc p.index) blocks) n (omega (arith, le, later)) (omega (arith, lt, r))
+              ∙ sym (ap (λ z. if z then p.cells else 0) e)
+          by false e r = at-gap n from (omega (arith, lt, r)) ∙ sym (ap (λ z. if z then p.cells else 0) e)
 
--- four rows without a span in the columns of a square of level 2
-pub four-unbegun : (content : Id → Tree) (a b c d : List Span) (fa fb fc fd : Stretch) (column first : ℕ) → IsNearest a b c d fa fb fc fd column first
-    → (x : ℕ) → column ≤ 4 * x → 4 * x + 3 < first → four_at content a b c d x ≡ blank 2
-four-unbegun content a b c d fa fb fc fd column first near x le lt =
-    let na = near.a.none in
-    let nb = near.b.none in
-    let nc = near.c.none in
-    let nd = near.d.none in
-    let west : column ≤ 2 * (2 * x) = omega (arith, le) in
-    let east : column ≤ 2 * (2 * x + 1) = omega (arith, le) in
-    let nw = quad-blank content 0 a b column (2 * x) (λ y from to. na y from (omega (arith, to, lt))) (λ y from to. nb y from (omega (arith, to, lt))) west in
-    let ne = quad-blank content 0 a b column (2 * x + 1) (λ y from to. na y from (omega (arith, to, lt))) (λ y from to. nb y from (omega (arith, to, lt)))
-    east in
-    let sw = quad-blank content 0 c d column (2 * x) (λ y from to. nc y from (omega (arith, to, lt))) (λ y from to. nd y from (omega (arith, to, lt))) west in
-    let se = quad-blank content 0 c d column (2 * x + 1) (λ y from to. nc y from (omega (arith, to, lt))) (λ y from to. nd y from (omega (arith, to, lt)))
-    east in
-    λ i. quad (nw i) (ne i) (sw i) (se i)
+      -- several blocks with one word have no cell, or nothing but cells
+      at-alike : suc number < next → (word_in p number ≡ 0) ⊎ (word_in p number ≡ 2 ^ 64 - 1)
+      at-alike long = by (nat_le p.start number) refl reach
+        where
+          by : (t : Bool) → nat_le p.start number ≡ t → next ≤ (if t then p.end else p.start)
+              → ((if nat_le p.start number then p.cells else 0) ≡ 0) ⊎ ((if nat_le p.start number then p.cells else 0) ≡ 2 ^ 64 - 1)
+          by true e r =
+              let le : p.start ≤ number = grind arith in
+              let all = (h.some (omega (arith, le, small))).long (omega (arith, le, long, r)) in
+              inr (ap (λ z. if z then p.cells else 0) e ∙ all)
+          by false e r = inl (ap (λ z. if z then p.cells else 0) e)
 
-pub nearest-start : {a b c d : List Span} {column first : ℕ} {i : Id} {fa fb fc fd : Stretch} {n s : Option ℕ}
-    → IsFoundStretch a column i fa → IsFoundStretch b column i fb → IsFoundStretch c column i fc → IsFoundStretch d column i fd → AreWithin 0 a → AreWithin 0 b
-    → AreWithin 0 c
-    → AreWithin 0 d
-    → MatchOption n ((fa.start ≡ None) × (fb.start ≡ None)) (λ e. IsNearer e fa.start fb.start)
-    → MatchOption s ((fc.start ≡ None) × (fd.start ≡ None)) (λ e. IsNearer e fc.start fd.start) → IsNearer first n s
-    → IsNearest a b c d fa fb fc fd column first
-nearest-start {a} {b} {c} {d} {column} {first} {i} {fa} {fb} {fc} {fd} {n} {s} ha hb hc hd wa wb wc wd north south near =
-    let place = by near.one in
-    record {
-      from = place.0;
-      within = place.1;
-      a = unbegun a column i fa first ha (λ x lt. (nearer-both n fa.start fb.start x north (near.upper x lt)).0);
-      b = unbegun b column i fb first hb (λ x lt. (nearer-both n fa.start fb.start x north (near.upper x lt)).1);
-      c = unbegun c column i fc first hc (λ x lt. (nearer-both s fc.start fd.start x south (near.lower x lt)).0);
-      d = unbegun d column i fd first hd (λ x lt. (nearer-both s fc.start fd.start x south (near.lower x lt)).1);
+      -- on the plane, if the row has cells in the block
+      at-inside : p.start ≤ number → next ≤ 2 ^ (MAX_LEVEL - 6)
+      at-inside le =
+          let here : nat_le p.start number ≡ true = grind arith in
+          let end : next ≤ p.end = subst (λ z. next ≤ (if z then p.end else p.start)) here reach in
+          let within = (h.some (omega (arith, le, small))).within in
+          omega (arith, end, within)
+
+  module _ (number : ℕ) (later : done ≤ number) where
+    -- its block goes on at a later one
+    pub at-passed : (m : ℕ) → number < p.end → p.start ≤ m → number ≤ m → (number < p.start → m ≡ p.start) → (p.start ≤ number → m ≡ number)
+        → IsAtBlock blocks number (record { index = p.index; start = m; end = p.end; cells = p.cells })
+    at-passed m lt begin from one other = record {
+      cells = λ n le. h.cells n (omega (arith, later, le))
+          ∙ ap (λ t. if nat_lt n p.end then (if t then p.cells else 0) else cells_at_block (drop (suc p.index) blocks) n) (same n le);
+      from = from;
+      order = ordered (nat_lt number p.start) refl;
+      some = λ small. let is = h.some (omega (arith, begin, small)) in let within = is.within in
+          record { some = fewer is.some (nat_lt number p.start) refl; within = within; long = λ long. is.long (omega (arith, begin, long)) };
+      left = λ small. h.left (omega (arith, begin, small));
+      last = h.last;
+      over = λ never. let end = ordered (nat_lt number p.start) refl in omega (arith, never, end);
     }
-  where
-    by : (n ≡ Some first) ⊎ (s ≡ Some first) → (column ≤ first) × (first < 2 ^ MAX_LEVEL)
-    by (inl e) =
-        let one = subst (λ o. MatchOption o ((fa.start ≡ None) × (fb.start ≡ None)) (λ x. IsNearer x fa.start fb.start)) e north in
-        let p = first-column (2 ^ MAX_LEVEL) a b wa wb column i fa fb ha hb first one in
-        (p.from, p.within)
-    by (inr e) =
-        let one = subst (λ o. MatchOption o ((fc.start ≡ None) × (fd.start ≡ None)) (λ x. IsNearer x fc.start fd.start)) e south in
-        let p = first-column (2 ^ MAX_LEVEL) c d wc wd column i fc fd hc hd first one in
-        (p.from, p.within)
+      where
+        same : (n : ℕ) → number ≤ n → nat_le p.start n ≡ nat_le m n
+        same n le = cases (nat_le p.start n) refl (nat_lt number p.start) refl
+          where
+            cases : (s : Bool) → nat_le p.start n ≡ s → (t : Bool) → nat_lt number p.start ≡ t → nat_le p.start n ≡ nat_le m n
+            cases true e true f =
+                let is = one (grind arith) in
+                ap (λ z. nat_le z n) (sym is)
+            cases true e false f =
+                let is = other (grind arith) in
+                let t : nat_le m n ≡ true = grind (arith, is, le) in
+                e ∙ sym t
+            cases false e true f = let is = one (grind arith) in ap (λ z. nat_le z n) (sym is)
+            cases false e false f =
+                let a : p.start ≤ number = grind arith in
+                let b : n < p.start = grind arith in
+                absurd (omega (arith, a, b, le))
 
--- the nearest of four ends is beyond the column, and one of the plane
-pub nearest-inside : {a b c d : List Span} {column end : ℕ} {i : Id} {fa fb fc fd : Stretch} {n s : Option ℕ}
-    → IsFoundStretch a column i fa → IsFoundStretch b column i fb → IsFoundStretch c column i fc → IsFoundStretch d column i fd → AreWithin 0 a → AreWithin 0 b
-    → AreWithin 0 c
-    → AreWithin 0 d
-    → MatchOption n ((fa.end ≡ None) × (fb.end ≡ None)) (λ e. IsNearer e fa.end fb.end)
-    → MatchOption s ((fc.end ≡ None) × (fd.end ≡ None)) (λ e. IsNearer e fc.end fd.end) → IsNearer end n s
-    → (column < end) × (end ≤ 4 * 2 ^ (MAX_LEVEL - 2))
-nearest-inside {a} {b} {c} {d} {column} {end} {i} {fa} {fb} {fc} {fd} {n} {s} ha hb hc hd wa wb wc wd north south both =
-    let side = 4 * 2 ^ (MAX_LEVEL - 2) in
-    let before : Option ℕ → Type 0 = IsColumnBefore column in
-    let inside : Option ℕ → Type 0 = λ o. IfSome o (λ e. e ≤ side) in
-    let within = λ (r : List Span) (f : Stretch) (w : AreWithin 0 r) (h : IsFoundStretch r column i f). found-within side r w column i f h in (
-      nearer-one before (Some end) n s both (nearer-one before n fa.end fb.end north ha.beyond hb.beyond)
-          (nearer-one before s fc.end fd.end south hc.beyond hd.beyond),
-      nearer-one inside (Some end) n s both (nearer-one inside n fa.end fb.end north (within a fa wa ha) (within b fb wb hb))
-          (nearer-one inside s fc.end fd.end south (within c fc wc hc) (within d fd wd hd)),
-    )
+        ordered : (t : Bool) → nat_lt number p.start ≡ t → m ≤ p.end
+        ordered true e = let is = one (grind arith) in let o = h.order in omega (arith, is, o)
+        ordered false e = let is = other (grind arith) in omega (arith, is, lt)
 
--- the cells of a square of level 2 of four words are those of the square there
-words-square : {knows knows' : Id → Type 0} {old now : Id → Tree} → Keeps knows knows' old now → (a b c d : List Span) → IsStrip knows old 0 a
-    → IsStrip knows old 0 b → IsStrip knows old 0 c → IsStrip knows old 0 d
-    → IsStrip knows' now 0 a → IsStrip knows' now 0 b → IsStrip knows' now 0 c → IsStrip knows' now 0 d
-    → (start : ℕ) (upper lower : TwoWords) → IsWordOfCells (cell_in_spans now a) start upper.north.cells
-    → IsWordOfCells (cell_in_spans now b) start upper.south.cells
-    → IsWordOfCells (cell_in_spans now c) start lower.north.cells → IsWordOfCells (cell_in_spans now d) start lower.south.cells
-    → (square column : ℕ) → square < 16 → 4 * column ≡ start + 4 * square → four (cells_at upper lower square) ≡ four_at old a b c d column
-words-square {knows} {knows'} {old} {now} keeps a b c d ka kb kc kd ma mb mc md start upper lower ha hb hc hd square column lt e =
-    let nw = west-square knows' now a b ma mb start square upper ha hb lt column e in
-    let ne = east-square knows' now a b ma mb start square upper ha hb lt column e in
-    let sw = west-square knows' now c d mc md start square lower hc hd lt column e in
-    let se = east-square knows' now c d mc md start square lower hc hd lt column e in
-    four-digits (west_at upper square) (east_at upper square) (west_at lower square) (east_at lower square) (west-small square upper) (east-small square upper)
-    (west-small square lower) (east-small square lower)
-    ∙ (λ i. quad (nw i) (ne i) (sw i) (se i))
-    ∙ four-keeps {knows = knows} {knows' = knows'} {old = old} {now = now} keeps a b c d ka kb kc kd column
+        fewer : p.start < p.end → (t : Bool) → nat_lt number p.start ≡ t → m < p.end
+        fewer some true e = let is = one (grind arith) in omega (arith, is, some)
+        fewer some false e = let is = other (grind arith) in omega (arith, is, lt)
 
-pub words-wanted : {S : Type 0} {knows : S → Id → Type 0} {content : S → Id → Tree} {stored : S → List Tree} {most : S → ℕ} {old new : S}
-    → KeepsSquares knows content stored most old new
-    → (a b c d : List Span) → IsStrip (knows old) (content old) 0 a → IsStrip (knows old) (content old) 0 b → IsStrip (knows old) (content old) 0 c
-    → IsStrip (knows old) (content old) 0 d
-    → (block : ℕ) (upper lower : TwoWords) → IsWordOfCells (cell_in_spans (content new) a) (64 * block) upper.north.cells
-    → IsWordOfCells (cell_in_spans (content new) b) (64 * block) upper.south.cells
-    → IsWordOfCells (cell_in_spans (content new) c) (64 * block) lower.north.cells
-    → IsWordOfCells (cell_in_spans (content new) d) (64 * block) lower.south.cells
-    → (square : ℕ) → square < 16 → four (cells_at upper lower square) ≡ four_at (content old) a b c d (16 * block + square)
-words-wanted {knows = knows} {content = content} {old = old} {new = new} keeps a b c d ka kb kc kd block upper lower ha hb hc hd square lt =
-    words-square {knows = knows old} {knows' = knows new} {old = content old} {now = content new} keeps.contents a b c d ka kb kc kd
-    (strip-kept keeps 0 a ka) (strip-kept keeps 0 b kb) (strip-kept keeps 0 c kc) (strip-kept keeps 0 d kd)
-    (64 * block) upper lower ha hb hc hd square (16 * block + square) lt (omega arith)
+    module _ (end : p.end ≤ number) (small : number < NEVER) where
+      -- its block is behind, and was one of the row
+      pub at-left : p.index < length blocks
+      at-left = by (nat_lt p.start NEVER) refl
+        where
+          by : (t : Bool) → nat_lt p.start NEVER ≡ t → p.index < length blocks
+          by true e = h.left (grind arith)
+          by false e = absurd (let over = h.over (grind arith) in omega (arith, over, end, small))
+
+      -- so the next one comes
+      pub at-next : AreRowBlocks blocks → number ≤ p.end → IsPastBlocks blocks (p.index + 1) number
+      at-next are reach = record {
+        cells = λ n le. h.cells n (omega (arith, later, le))
+            ∙ block-after (block_in p) (drop (suc p.index) blocks) n (omega (arith, end, le)) ∙ ap (λ k. cells_at_block (drop k blocks) n) next;
+        from = λ b lt. let rise = are.rise p.index (p.index + 1) b (omega arith) lt in let is = h.last b at-left in omega (arith, rise, is, reach);
+      }
+        where
+          next : suc p.index ≡ p.index + 1
+          next = omega arith
+
+-- four rows, each at a block, and the first block from there on where one of them has cells
+pub record AreAtBlock (ra rb rc rd : List Block) (a b c d : BlockPlace) (done number : ℕ) : Type 0 where
+  pub first : IsAtBlock ra done a
+  pub second : IsAtBlock rb done b
+  pub third : IsAtBlock rc done c
+  pub fourth : IsAtBlock rd done d
+  pub least : IsLeastOfFour number a.start b.start c.start d.start
+
+module _ {ra rb rc rd : List Block} {a b c d : BlockPlace} {done number : ℕ} (h : AreAtBlock ra rb rc rd a b c d done number) where
+  -- it is none of the blocks before
+  pub rows-later : done ≤ number
+  rows-later = h.least.greatest done h.first.from h.second.from h.third.from h.fourth.from
+
+  -- without a cell up to there, the squares are blank
+  pub rows-blank : (x : ℕ) → 16 * done ≤ x → x < 16 * number → four_in ra rb rc rd x ≡ blank 2
+  rows-blank x from lt =
+      let later : done ≤ x / 16 = omega (arith, from) in
+      let l = h.least in
+      let first = l.first in
+      let second = l.second in
+      let third = l.third in
+      let fourth = l.fourth in
+      four-blank ra rb rc rd x (at-gap ra done a h.first (x / 16) later (omega (arith, lt, first)))
+      (at-gap rb done b h.second (x / 16) later (omega (arith, lt, second)))
+      (at-gap rc done c h.third (x / 16) later (omega (arith, lt, third))) (at-gap rd done d h.fourth (x / 16) later (omega (arith, lt, fourth)))
+
+  -- where no block is left, all of them are
+  pub rows-none : AreRowBlocks ra → AreRowBlocks rb → AreRowBlocks rc → AreRowBlocks rd → NEVER ≤ number
+      → (x : ℕ) → 16 * done ≤ x → four_in ra rb rc rd x ≡ blank 2
+  rows-none ba bb bc bd over x from =
+      let later : done ≤ x / 16 = omega (arith, from) in
+      let l = h.least in
+      let first = l.first in
+      let second = l.second in
+      let third = l.third in
+      let fourth = l.fourth in
+      four-blank ra rb rc rd x (at-none ra done a h.first ba (omega (arith, over, first)) (x / 16) later)
+      (at-none rb done b h.second bb (omega (arith, over, second)) (x / 16) later) (at-none rc done c h.third bc (omega (arith, over, third)) (x / 16) later)
+      (at-none rd done d h.fourth bd (omega (arith, over, fourth)) (x / 16) later)
+
+  module _ (small : number < NEVER) where
+    module _ (next : ℕ) (goes : IsLeastOfFour next (block_goes_to a number) (block_goes_to b number) (block_goes_to c number) (block_goes_to d number)) where
+      -- all four rows go on beyond it
+      pub rows-beyond : number < next
+      rows-beyond =
+          let l = h.least in
+          let most : suc number ≤ next = goes.greatest (suc number) (at-beyond ra done a h.first number small l.first)
+          (at-beyond rb done b h.second number small l.second) (at-beyond rc done c h.third number small l.third)
+          (at-beyond rd done d h.fourth number small l.fourth) in
+          omega (arith, most)
+
+      -- no farther than the plane
+      pub rows-inside : next ≤ 2 ^ (MAX_LEVEL - 6)
+      rows-inside = by (nat_le next (2 ^ (MAX_LEVEL - 6))) refl
+        where
+          later : (row : List Block) (p : BlockPlace) → IsAtBlock row done p → number ≤ p.start → next ≤ block_goes_to p number → 2 ^ (MAX_LEVEL - 6) < next
+              → suc number ≤ p.start
+          later row p at from reach far = cases (nat_le p.start number) refl
+            where
+              cases : (t : Bool) → nat_le p.start number ≡ t → suc number ≤ p.start
+              cases true e =
+                  let inside = at-inside row done p at number small from next reach (grind arith) in
+                  absurd (omega (arith, inside, far))
+              cases false e = let lt : number < p.start = grind arith in omega (arith, lt)
+
+          by : (t : Bool) → nat_le next (2 ^ (MAX_LEVEL - 6)) ≡ t → next ≤ 2 ^ (MAX_LEVEL - 6)
+          by true e = grind arith
+          by false e =
+              let far : 2 ^ (MAX_LEVEL - 6) < next = grind arith in
+              let l = h.least in
+              let more : suc number ≤ number = l.greatest (suc number) (later ra a h.first l.first goes.first far)
+              (later rb b h.second l.second goes.second far)
+              (later rc c h.third l.third goes.third far) (later rd d h.fourth l.fourth goes.fourth far) in
+              absurd (omega (arith, more))
+
+      module _ (upper lower : TwoWords) (north : upper.north ≡ word_in a number) (south : upper.south ≡ word_in b number)
+          (below : lower.north ≡ word_in c number) (last : lower.south ≡ word_in d number) where
+        -- the squares of the rows are those of the words
+        pub rows-squares : (x : ℕ) → 16 * number ≤ x → x < 16 * next → four_in ra rb rc rd x ≡ square_of_words upper lower (x % 16)
+        rows-squares x from lt =
+            let n = x / 16 in
+            let later : number ≤ n = omega (arith, from) in
+            let before : n < next = omega (arith, lt) in
+            let begun = rows-later in
+            let done-n : done ≤ n = omega (arith, begun, later) in
+            let l = h.least in
+            four-words ra rb rc rd upper lower x (at-word ra done a h.first number small l.first next goes.first n done-n later before ∙ sym north)
+            (at-word rb done b h.second number small l.second next goes.second n done-n later before ∙ sym south)
+            (at-word rc done c h.third number small l.third next goes.third n done-n later before ∙ sym below)
+            (at-word rd done d h.fourth number small l.fourth next goes.fourth n done-n later before ∙ sym last)
+
+        -- those of several blocks are all one square
+        pub rows-alike : suc number < next → (i : ℕ) → i < 16 → square_of_words upper lower i ≡ square_of_words upper lower 0
+        rows-alike long i lt =
+            let l = h.least in
+            squares-alike upper lower i lt (of upper.north (word_in a number) north (at-alike ra done a h.first number small l.first next goes.first long))
+            (of upper.south (word_in b number) south (at-alike rb done b h.second number small l.second next goes.second long))
+            (of lower.north (word_in c number) below (at-alike rc done c h.third number small l.third next goes.third long))
+            (of lower.south (word_in d number) last (at-alike rd done d h.fourth number small l.fourth next goes.fourth long))
+          where
+            of : (word there : ℕ) → word ≡ there → (there ≡ 0) ⊎ (there ≡ 2 ^ 64 - 1) → (word ≡ 0) ⊎ (word ≡ 2 ^ 64 - 1)
+            of word there e (inl z) = inl (e ∙ z)
+            of word there e (inr z) = inr (e ∙ z)

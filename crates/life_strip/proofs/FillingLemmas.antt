@@ -1,5 +1,5 @@
 -- Facts about a builder's runs in a store.
-use Rattle.std.proofs.Common.{◌≡◌, ℕ, ◌^◌, ◌≤◌, ◌<◌, inl, inr, Bool, true, false, List, [], ◌∷◌, ◌++◌, length, None, Some, refl, sym, ◌∙◌, ap, subst, arith, ℤ, pos, ◌+ℤ◌, ◌≤ℤ◌, ◌<ℤ◌, if◌then◌else◌, unsigned_abs, ◌-ℤ◌}
+use Rattle.std.proofs.Common.{◌≡◌, ℕ, ◌+◌, ◌^◌, ◌≤◌, ◌<◌, inl, inr, Bool, true, false, List, [], ◌∷◌, ◌++◌, length, refl, sym, ◌∙◌, ap, subst, arith, ℤ, pos, ◌+ℤ◌, ◌≤ℤ◌, ◌<ℤ◌, if◌then◌else◌, unsigned_abs, ◌-ℤ◌}
 use Rattle.std.proofs.lemmas.Int.{ints}
 use Rattle.life_base.specs.declared.cell.TheConstants.{MAX_LEVEL}
 use Rattle.life_base.specs.Tree.{Tree}
@@ -7,13 +7,15 @@ use Rattle.life_quad.specs.declared.id.Id.{Id}
 use Rattle.life_base.proofs.Squares.{is_inside, inside_test}
 use Rattle.life_base.specs.declared.cell.Run.{Run}
 use Rattle.life_strip.specs.declared.plane.Plane.{Plane}
-use Rattle.life_strip.specs.Strip.{id_at}
-use Rattle.life_strip.specs.Picture.{picture, height}
+use Rattle.life_strip.specs.Blocks.{AreBlocksBefore}
+use Rattle.life_strip.specs.Picture.{height}
+use Rattle.life_strip.specs.Row.{state_with_rows}
+use Rattle.life_strip.specs.Strip.{AreBefore}
 use Rattle.life_strip.specs.Given.{IsAfterRun, IsNextRunStart, AreInOrder, state_by, by_columns, half_plane}
 use Rattle.life_strip.specs.Needed.{SomeSquare}
 use Rattle.life_strip.specs.Plane.{IsFilled, IsUnfilled, IsFree, AddsRun, state_so_far, cell_so_far, on_plane}
 use Rattle.life_strip.specs.Filling.{Building, IsFilling, EmptyFills, FillingStays}
-use Rattle.life_strip.proofs.PictureLemmas.{picture-blank}
+use Rattle.life_strip.proofs.RowLemmas.{blank-row, with-blank, with-none}
 use Rattle.life_strip.proofs.NeededLemmas.{SomeSquare-within}
 use Rattle.life_strip.proofs.PlaneLemmas.{plane_inside, filled-keeps, cells-keep}
 use Rattle.life_strip.proofs.GivenLemmas.{order-push, next-last, state_by-push}
@@ -64,7 +66,6 @@ unfilled-filled : (knows : Id → Type 0) (content : Id → Tree) (p : Plane) �
 unfilled-filled knows content p h =
     let none : length p.pile.strips.items ≡ 0 = ap length h.strips in
     let no_rows : length p.pile.band.items ≡ 0 = ap length h.band in
-    let few : length p.row.spans.items ≡ 0 = ap length h.row in
     record {
       pile = record {
         strips = record {
@@ -75,24 +76,20 @@ unfilled-filled knows content p h =
         rows = λ k d lt. absurd (omega (arith, lt, no_rows));
         few = omega (arith, no_rows);
       };
-      row = record {
-        sound = record {
-          squares = λ column id e. absurd (let f : None ≡ Some id = sym (ap (λ z. id_at z column) h.row) ∙ e in cc);
-          within = λ k d lt. absurd (omega (arith, lt, few));
-          rises = λ i j d less lt. absurd (omega (arith, lt, few));
-        };
-        level = h.level;
-      };
-      rows = (λ k. height (h.strips k ++ h.band k)) ∙ sym h.rows;
+      row = blank-row knows content p.row h.blocks h.spans;
+      rows = (λ k. height (h.strips k) + length (h.band k)) ∙ sym h.rows;
       most = let e = h.rows in omega (arith, e);
     }
 
 unfilled-cells : (content : Id → Tree) (p : Plane) (x y : ℤ) → IsUnfilled p → cell_so_far content p x y ≡ 0
 unfilled-cells content p x y h =
-    (λ k. on_plane (picture content ((h.strips k ++ h.band k) ++ p.row ∷ [])) x y)
-    ∙ (λ k. if is_inside half_plane x y then picture-blank content [] p.row h.row (unsigned_abs (x +ℤ pos half_plane)) (unsigned_abs (y +ℤ pos half_plane)) k
-    else 0) ∙ by (is_inside half_plane x y) 0
+    (λ k. on_plane (state_with_rows content (h.strips k) (h.band k ++ p.row ∷ [])) x y)
+    ∙ (λ k. if is_inside half_plane x y then blank (unsigned_abs (x +ℤ pos half_plane)) (unsigned_abs (y +ℤ pos half_plane)) k else 0)
+    ∙ by (is_inside half_plane x y) 0
   where
+    blank : (i j : ℕ) → state_with_rows content [] (p.row ∷ []) i j ≡ 0
+    blank i j = with-blank content [] [] p.row h.blocks h.spans i j ∙ with-none content [] i j
+
     by : (b : Bool) (n : ℕ) → (if b then n else n) ≡ n
     by true n = refl
     by false n = refl
@@ -101,14 +98,16 @@ unfilled-cells content p x y h =
 pub empty-fills : (X : Type 0) (knows : X → Id → Type 0) (content : X → Id → Tree) → EmptyFills X knows content
 empty-fills X knows content store b h =
     let none : length b.runs ≡ 0 = ap length h.runs in
-    let few : length b.kept.row.spans.items ≡ 0 = ap length h.kept.row in
     record {
       filled = unfilled-filled (knows store) (content store) b.kept h.kept;
       cells = λ x y. unfilled-cells (content store) b.kept x y h.kept ∙ sym (ap (λ runs. state_by runs x y) h.runs);
       order = λ i j d ij jl. absurd (omega (arith, jl, none));
       next = λ x y north n. record {
         row = let e = h.kept.rows in omega (arith, ints, e, north);
-        column = λ e k d lt. absurd (omega (arith, lt, few));
+        column = λ e n p. record {
+          blocks = subst (AreBlocksBefore n) (sym h.kept.blocks) (λ k d lt. absurd (omega (arith, lt)));
+          spans = subst (AreBefore n) (sym h.kept.spans) (λ k d lt. absurd (omega (arith, lt)));
+        };
       };
     }
 

@@ -1,19 +1,16 @@
 -- A strip that becomes one of the next level with the strip below it, and with blank strips.
-use Rattle.std.proofs.Common.{◌≡◌, ℕ, suc, List, ◌<◌, ◌≤◌, ◌+◌, ◌*◌, ◌^◌, ◌++◌, ◌∷◌, [], inl, inr, arith, refl, sym, ◌∙◌, ap, subst}
+use Rattle.std.proofs.Common.{◌≡◌, ℕ, suc, List, ◌<◌, ◌≤◌, ◌+◌, ◌*◌, ◌^◌, ◌++◌, ◌∷◌, [], arith, refl, sym, ◌∙◌, ap, subst}
 use Rattle.std.specs.List.{All}
-use Rattle.std.proofs.lemmas.Bool.{cases_lt}
-use Rattle.std.proofs.lemmas.Nat.{pow_below}
-use Rattle.std.proofs.Math.Nat.{add-mul}
 use Rattle.std.proofs.Math.Pow.{pow_mono}
 use Rattle.life_base.specs.declared.cell.TheConstants.{MAX_LEVEL}
-use Rattle.life_base.specs.Tree.{Tree, depth, IsFull}
+use Rattle.life_base.specs.Tree.{Tree, IsFull}
 use Rattle.life_quad.specs.declared.id.Id.{Id}
 use Rattle.life_quad.specs.Keeping.{KeepsSquares}
 use Rattle.life_strip.specs.declared.spans.Strip.{Strip}
 use Rattle.life_strip.specs.Strip.{AreWithin, IsStrip, quad_at, Rise}
 use Rattle.life_strip.specs.Picture.{picture, height, AreFalling, AreStacked, IsLowest, IsSoundStrip, IsStack}
 use Rattle.life_strip.specs.Needed.{SomeColumn, SomeSquare}
-use Rattle.life_strip.proofs.NeededLemmas.{height-divided, picture-below, SomeSquare-pair, SomeSquare-same}
+use Rattle.life_strip.proofs.NeededLemmas.{height-divided, picture-below, SomeSquare-pair, SomeSquare-same, SomeSquare-under}
 use Rattle.life_strip.proofs.PictureLemmas.{fits_below, all_init, all_last, picture-blank, picture-merge, height-push}
 use Rattle.life_strip.proofs.BandPictures.{all-one}
 use Rattle.life_base.proofs.Basics.{twice}
@@ -94,36 +91,6 @@ raised-needs knows content full last blank same none sound top lower high P n =
 -- a square of a strip is one below strips of its level or a higher one
 pub SomeSquare-lower : {P : Tree → Type 0} (content : Id → Tree) (xs ys : List Strip) (top : ℕ) → IsLowest top xs → SomeSquare P (2 ^ top) (picture content ys)
     → SomeSquare P (height xs + 2 ^ top) (picture content (xs ++ ys))
-SomeSquare-lower {P} content xs ys top low s =
-    record {
-      square = s.square;
-      full = s.full;
-      deep = s.deep;
-      column = s.column;
-      row = above + s.row;
-      east = s.east;
-      south = let e = add-mul above (s.row + 1) side in let f : above + s.row + 1 ≡ above + (s.row + 1) = omega arith in let g = ap (λ n. n * side) f in
-          let h = s.south in let r = divided.1 in omega (arith, r, e, g, h);
-      cells = λ i j li lj. s.cells i j li lj ∙ sym (picture-below content xs ys (s.column * side + i) (s.row * side + j))
-          ∙ ap (picture content (xs ++ ys) (s.column * side + i)) (let e = add-mul above s.row side in let r = divided.1 in omega (arith, r, e));
-      property = s.property;
-    }
-  where
-    side : ℕ
-    side = 2 ^ depth s.square
-
-    level : depth s.square ≤ top
-    level = elim (cases_lt top (depth s.square)) [
-      | inl lt ↦
-          let more = pow_below top (depth s.square) lt in
-          let one = add-mul s.row 1 side in
-          let h = s.south in
-          absurd (omega (arith, more, one, h))
-      | inr le ↦ le
-    ]
-
-    divided : (r : ℕ) × (height xs ≡ r * side)
-    divided = height-divided xs (depth s.square) (λ k d lt. let a = low k d lt in let b = level in omega (arith, a, b))
-
-    above : ℕ
-    above = divided.0
+SomeSquare-lower content xs ys top low s =
+    let divided = height-divided xs top low in
+    SomeSquare-under (height xs) top divided.0 divided.1 (picture-below content xs ys) s

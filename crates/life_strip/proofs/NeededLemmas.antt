@@ -1,7 +1,8 @@
 -- Facts about the squares that a call needs.
 use Rattle.life_base.specs.declared.cell.TheConstants.{MAX_LEVEL}
-use Rattle.std.proofs.Common.{◌≡◌, ℕ, suc, ◌+◌, ◌-◌, ◌*◌, ◌/◌, ◌%◌, ◌^◌, ◌≤◌, ◌<◌, Bool, true, false, nat_lt, List, [], ◌∷◌, ◌++◌, Option, Some, None, sym, ◌∙◌, ap, subst, refl, arith, if◌then◌else◌, pow-add, append_assoc}
-use Rattle.std.proofs.lemmas.Nat.{div-mul-add, mod-mul-add}
+use Rattle.std.proofs.Common.{inl, inr, ◌≡◌, ℕ, suc, ◌+◌, ◌-◌, ◌*◌, ◌/◌, ◌%◌, ◌^◌, ◌≤◌, ◌<◌, Bool, true, false, nat_lt, List, [], ◌∷◌, ◌++◌, Option, Some, None, sym, ◌∙◌, ap, subst, refl, arith, if◌then◌else◌, pow-add, append_assoc}
+use Rattle.std.proofs.lemmas.Bool.{cases_lt}
+use Rattle.std.proofs.lemmas.Nat.{div-mul-add, mod-mul-add, pow_below}
 use Rattle.std.proofs.Math.Nat.{mul_assoc, mul_comm, add-mul, mul-le-mul_left}
 use Rattle.life_quad.specs.declared.id.Id.{Id}
 use Rattle.life_base.specs.Tree.{Tree, depth, state_at, IsFull}
@@ -43,6 +44,46 @@ SomeSquare-within le e s = SomeSquare-as le e s s.property
 pub SomeSquare-same : {P : Tree → Type 0} {f g : ℕ → ℕ → ℕ} {rows more : ℕ} → rows ≤ more → ((i j : ℕ) → f i j ≡ g i j) → SomeSquare P rows f
     → SomeSquare P more g
 SomeSquare-same le e s = SomeSquare-within le (λ i j li lj. e i j) s
+
+-- a square of some rows is one of more rows, where as many are above it as a multiple of them
+pub SomeSquare-under : {P : Tree → Type 0} {f g : ℕ → ℕ → ℕ} (above top times : ℕ) → above ≡ times * 2 ^ top → ((i j : ℕ) → g i (above + j) ≡ f i j)
+    → SomeSquare P (2 ^ top) f → SomeSquare P (above + 2 ^ top) g
+SomeSquare-under {P} {f} {g} above top times whole same s =
+    record {
+      square = s.square;
+      full = s.full;
+      deep = s.deep;
+      column = s.column;
+      row = places + s.row;
+      east = s.east;
+      south = let e = add-mul places (s.row + 1) side in let f : places + s.row + 1 ≡ places + (s.row + 1) = omega arith in let g = ap (λ n. n * side) f in
+          let h = s.south in let r = tall in omega (arith, r, e, g, h);
+      cells = λ i j li lj. s.cells i j li lj ∙ sym (same (s.column * side + i) (s.row * side + j))
+          ∙ ap (g (s.column * side + i)) (let e = add-mul places s.row side in let r = tall in omega (arith, r, e));
+      property = s.property;
+    }
+  where
+    side : ℕ
+    side = 2 ^ depth s.square
+
+    level : depth s.square ≤ top
+    level = elim (cases_lt top (depth s.square)) [
+      | inl lt ↦
+          let more = pow_below top (depth s.square) lt in
+          let one = add-mul s.row 1 side in
+          let h = s.south in
+          absurd (omega (arith, more, one, h))
+      | inr le ↦ le
+    ]
+
+    places : ℕ
+    places = times * 2 ^ (top - depth s.square)
+
+    tall : above ≡ places * side
+    tall =
+        let sum : top ≡ top - depth s.square + depth s.square = (let l = level in omega (arith, l)) in
+        whole ∙ ap (λ n. times * 2 ^ n) sum ∙ ap (λ n. times * n) (pow-add 2 (top - depth s.square) (depth s.square))
+        ∙ sym (mul_assoc times (2 ^ (top - depth s.square)) (2 ^ depth s.square))
 
 -- each square of a strip is full, and so are four of two strips
 module _ (knows : Id → Type 0) (content : Id → Tree) (full : (id : Id) → knows id → IsFull (content id)) (level : ℕ) where

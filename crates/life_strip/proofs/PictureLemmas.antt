@@ -1,21 +1,21 @@
 -- Facts about strips one below the other.
 use Rattle.life_base.specs.declared.cell.TheConstants.{MAX_LEVEL}
-use Rattle.std.proofs.Common.{length-append, Result, Ok, Err, OnOk, ◌≡◌, ℕ, zero, suc, ◌+◌, ◌-◌, ◌*◌, ◌/◌, ◌%◌, ◌^◌, ◌≤◌, ◌<◌, Bool, true, false, nat_lt, List, [], ◌∷◌, ◌++◌, length, get_or, All, refl, sym, ◌∙◌, ap, subst, arith, if◌then◌else◌, slice_get, Some, div-add-mod', append_assoc}
+use Rattle.std.proofs.Common.{length-append, Result, Ok, Err, OnOk, ◌≡◌, ℕ, zero, suc, ◌+◌, ◌-◌, ◌*◌, ◌/◌, ◌%◌, ◌^◌, ◌≤◌, ◌<◌, Bool, true, false, nat_lt, List, [], ◌∷◌, ◌++◌, length, get_or, All, refl, sym, ◌∙◌, ap, subst, arith, if◌then◌else◌, slice_get, Some, div-add-mod'}
 use Rattle.std.proofs.lemmas.Nat.{div-mul-add, mod-mul-add, mod_below}
 use Rattle.std.proofs.Math.Nat.{mul_assoc, add-mul}
 use Rattle.std.proofs.Math.Pow.{pow_mono}
 use Rattle.std.proofs.Math.Seq.{get_or-append_seam}
 use Rattle.std.proofs.lemmas.List.{get_or_append_left}
+use Rattle.std.proofs.lemmas.List.Elements.{All-tail}
 use Rattle.std.proofs.lemmas.List.Quantifiers.{all_pairs_push}
 use Rattle.std.proofs.lemmas.Option.{get_or_from_slice_get, slice_get-get_or}
 use Rattle.life_quad.specs.declared.id.Id.{Id}
 use Rattle.life_quad.specs.Keeping.{KeepsSquares}
 use Rattle.life_base.specs.Tree.{Tree, quad, depth, blank, state_at}
 use Rattle.life_strip.specs.declared.spans.Strip.{Strip}
-use Rattle.life_strip.specs.declared.spans.Stretch.{Stretch}
-use Rattle.life_strip.specs.Strip.{square_at, IsStrip, IsPaired, IsFoundStretch}
-use Rattle.life_strip.specs.Picture.{state_in_strip, picture, height, AreFalling, AreStacked, IsLowest, IsNotLast, IsRow, IsSoundStrip, IsStack}
-use Rattle.life_strip.proofs.SpanLemmas.{Keeps, depth-square_at, square-keeps, strip-keeps, found-known, found-depth, found-content}
+use Rattle.life_strip.specs.Strip.{id_at, id_or, square_at, IsStrip, IsPaired}
+use Rattle.life_strip.specs.Picture.{state_in_strip, picture, height, AreFalling, AreStacked, IsLowest, IsNotLast, IsSoundStrip, IsStack}
+use Rattle.life_strip.proofs.SpanLemmas.{Keeps, content_or, depth-square_at, known_or, square-keeps, strip-keeps}
 use Rattle.life_base.proofs.Basics.{twice}
 use Rattle.life_base.proofs.Squares.{state_at-blank}
 
@@ -110,13 +110,6 @@ pub height-push : (xs : List Strip) (s : Strip) → height (xs ++ s ∷ []) ≡ 
 height-push [] s = omega arith
 height-push (x ∷ xs) s = let e = height-push xs s in omega (arith, e)
 
--- strips below others, the last of them apart
-pub append-last : (xs ys zs : List Strip) (s : Strip) → zs ≡ ys ++ s ∷ [] → xs ++ zs ≡ (xs ++ ys) ++ s ∷ []
-append-last xs ys zs s e = ap (λ z. xs ++ z) e ∙ sym (append_assoc xs ys (s ∷ []))
-
-pub height-last : (xs ys zs : List Strip) (s : Strip) → zs ≡ ys ++ s ∷ [] → height (xs ++ zs) ≡ height (xs ++ ys) + 2 ^ s.level
-height-last xs ys zs s e = ap height (append-last xs ys zs s e) ∙ height-push (xs ++ ys) s
-
 module _ {knows knows' : Id → Type 0} {old new : Id → Tree} (keeps : Keeps knows knows' old new) where
   -- a strip keeps its cells
   pub state_in-keeps : (s : Strip) → IsSoundStrip knows old s → (i j : ℕ) → state_in_strip new s i j ≡ state_in_strip old s i j
@@ -178,14 +171,57 @@ pub stack-kept : {S : Type 0} {knows : S → Id → Type 0} {content : S → Id 
     → (xs : List Strip) → AreStacked (knows old) (content old) xs → AreStacked (knows new) (content new) xs
 stack-kept keeps xs h = record { sound = strips-kept keeps xs h.sound; falling = h.falling }
 
-pub rows-kept : {S : Type 0} {knows : S → Id → Type 0} {content : S → Id → Tree} {stored : S → List Tree} {most : S → ℕ} {old new : S}
-    → KeepsSquares knows content stored most old new
-    → (xs : List Strip) → All (IsRow (knows old) (content old)) xs → All (IsRow (knows new) (content new)) xs
-rows-kept keeps xs h k d lt = record { sound = strips-kept keeps xs (λ j e l. (h j e l).sound) k d lt; level = (h k d lt).level }
-
 pub on_ok_map3 : {T E : Type 0} {P Q R S : Type 0} (r : Result T E) → (P → Q → R → S) → OnOk r P → OnOk r Q → OnOk r R → OnOk r S
 on_ok_map3 (Ok x) f p q s = f p q s
 on_ok_map3 (Err e) f p q s = tt
+
+-- strips keep their cells
+pub picture-keeps : {knows knows' : Id → Type 0} {old new : Id → Tree} (keeps : Keeps knows knows' old new) (xs : List Strip) → All (IsSoundStrip knows old) xs
+    → (i j : ℕ) → picture new xs i j ≡ picture old xs i j
+picture-keeps keeps [] h i j = refl
+picture-keeps {knows} {knows'} {old} {new} keeps (x ∷ xs) h i j =
+    let here = state_in-keeps keeps x (h 0 x (omega arith)) i j in
+    let more = picture-keeps {knows = knows} {knows' = knows'} {old = old} {new = new} keeps xs (All-tail (IsSoundStrip knows old) x xs h) i
+    (j - 2 ^ x.level) in
+    λ y. if nat_lt j (2 ^ x.level) then here y else more y
+
+-- no cell is below the last strip
+pub picture-beyond : (content : Id → Tree) (xs : List Strip) (i j : ℕ) → height xs ≤ j → picture content xs i j ≡ 0
+picture-beyond content [] i j le = refl
+picture-beyond content (x ∷ xs) i j le =
+    let out : nat_lt j (2 ^ x.level) ≡ false = grind (arith, le) in
+    ap (λ b. if b then state_in_strip content x i j else picture content xs i (j - 2 ^ x.level)) out
+    ∙ picture-beyond content xs i (j - 2 ^ x.level) (omega (arith, le))
+
+-- the rows of strips, and then those of the strips below them
+pub picture-append : (content : Id → Tree) (xs ys : List Strip) (i j : ℕ)
+    → picture content (xs ++ ys) i j ≡ (if nat_lt j (height xs) then picture content xs i j else picture content ys i (j - height xs))
+picture-append content [] ys i j =
+    let none : nat_lt j 0 ≡ false = grind arith in
+    let same : j - 0 ≡ j = omega arith in
+    sym (ap (λ b. if b then 0 else picture content ys i (j - 0)) none ∙ ap (picture content ys i) same)
+picture-append content (x ∷ xs) ys i j = by (picture-append content xs ys i (j - 2 ^ x.level)) (nat_lt j (2 ^ x.level)) refl
+  where
+    m : ℕ
+    m = 2 ^ x.level
+
+    by : picture content (xs ++ ys) i (j - 2 ^ x.level)
+        ≡ (if nat_lt (j - 2 ^ x.level) (height xs) then picture content xs i (j - 2 ^ x.level) else picture content ys i (j - 2 ^ x.level - height xs))
+        → (b : Bool) → nat_lt j (2 ^ x.level) ≡ b
+        → picture content (x ∷ xs ++ ys) i j
+        ≡ (if nat_lt j (2 ^ x.level + height xs) then picture content (x ∷ xs) i j else picture content ys i (j - (2 ^ x.level + height xs)))
+    by more true e =
+        let in_all : nat_lt j (2 ^ x.level + height xs) ≡ true = grind (arith, e) in
+        ap (λ b. if b then state_in_strip content x i j else picture content (xs ++ ys) i (j - 2 ^ x.level)) e
+        ∙ sym (ap (λ b. if b then picture content (x ∷ xs) i j else picture content ys i (j - (2 ^ x.level + height xs))) in_all
+        ∙ ap (λ b. if b then state_in_strip content x i j else picture content xs i (j - 2 ^ x.level)) e)
+    by more false e =
+        let beyond : 2 ^ x.level ≤ j = grind (arith, e) in
+        let in_all : nat_lt j (2 ^ x.level + height xs) ≡ nat_lt (j - 2 ^ x.level) (height xs) = grind (arith, beyond) in
+        let rest : j - 2 ^ x.level - height xs ≡ j - (2 ^ x.level + height xs) = omega arith in
+        ap (λ b. if b then state_in_strip content x i j else picture content (xs ++ ys) i (j - 2 ^ x.level)) e ∙ more
+        ∙ sym ((λ k. if in_all k then (if e k then state_in_strip content x i j else picture content xs i (j - 2 ^ x.level)) else picture content ys i
+        (sym rest k)))
 
 -- two strips of a level within the plane are of a level below the greatest
 pub fits_below : (h k : ℕ) → h + 2 ^ k + 2 ^ k ≤ 2 ^ MAX_LEVEL → k < MAX_LEVEL
@@ -322,13 +358,13 @@ pub record IsWhole (knows : Id → Type 0) (content : Id → Tree) (strips : Lis
   pub level : depth (content id) ≡ MAX_LEVEL
   pub cells : (i j : ℕ) → i < 2 ^ MAX_LEVEL → j < 2 ^ MAX_LEVEL → state_at (content id) i j ≡ picture content strips i j
 
-pub whole-strip : (knows : Id → Type 0) (content : Id → Tree) (s : Strip) (b : Id) (f : Stretch) → IsSoundStrip knows content s → s.level ≡ MAX_LEVEL → knows b
+pub whole-strip : (knows : Id → Type 0) (content : Id → Tree) (s : Strip) (b id : Id) → IsSoundStrip knows content s → s.level ≡ MAX_LEVEL → knows b
     → content b ≡ blank MAX_LEVEL
-    → IsFoundStretch s.spans.items 0 b f → IsWhole knows content (s ∷ []) f.square
-whole-strip knows content s b f sound e known is_blank h =
+    → id ≡ id_or b (id_at s.spans.items 0) → IsWhole knows content (s ∷ []) id
+whole-strip knows content s b id sound e known is_blank h =
     record {
-      known = found-known knows content s.level s.spans.items sound.squares b known at_level 0 f h;
-      level = found-depth knows content s.level s.spans.items sound.squares b known at_level 0 f h ∙ e;
+      known = subst knows (sym h) (known_or knows content s.level s.spans.items sound.squares b known at_level 0);
+      level = ap depth square ∙ depth-square_at knows content s.level s.spans.items sound.squares 0 ∙ e;
       cells = at;
     }
   where
@@ -338,13 +374,16 @@ whole-strip knows content s b f sound e known is_blank h =
     side : 2 ^ s.level ≡ 2 ^ MAX_LEVEL
     side = ap (λ n. 2 ^ n) e
 
-    at : (i j : ℕ) → i < 2 ^ MAX_LEVEL → j < 2 ^ MAX_LEVEL → state_at (content f.square) i j ≡ picture content (s ∷ []) i j
+    square : content id ≡ square_at content s.level s.spans.items 0
+    square = ap content h ∙ content_or knows content s.level s.spans.items sound.squares b known at_level 0
+
+    at : (i j : ℕ) → i < 2 ^ MAX_LEVEL → j < 2 ^ MAX_LEVEL → state_at (content id) i j ≡ picture content (s ∷ []) i j
     at i j il jl =
         let below : i < 2 ^ s.level = omega (arith, il, side) in
         let row : nat_lt j (2 ^ s.level) ≡ true = let l : j < 2 ^ s.level = omega (arith, jl, side) in grind arith in
         let p : i ≡ 0 * 2 ^ s.level + i = omega arith in
         let q : i / 2 ^ s.level ≡ 0 = ap (λ z. z / 2 ^ s.level) p ∙ div-mul-add 0 (2 ^ s.level) i below in
         let r : i % 2 ^ s.level ≡ i = ap (λ z. z % 2 ^ s.level) p ∙ mod-mul-add 0 (2 ^ s.level) i below in
-        ap (λ t. state_at t i j) (found-content knows content s.level s.spans.items sound.squares b known at_level 0 f h)
+        ap (λ t. state_at t i j) square
         ∙ (λ x. state_at (square_at content s.level s.spans.items (sym q x)) (sym r x) j)
         ∙ sym (ap (λ t. if t then state_in_strip content s i j else 0) row)

@@ -1,17 +1,15 @@
 -- Facts about spans and strips.
 use Rattle.std.proofs.lemmas.Option.{same_Some}
 use Rattle.life_base.specs.declared.cell.TheConstants.{MAX_LEVEL}
-use Rattle.std.proofs.Common.{◌≡◌, ℕ, zero, suc, ◌+◌, ◌-◌, ◌*◌, ◌^◌, ◌≤◌, ◌<◌, ◌⊎◌, inl, inr, Bool, true, false, ◌&&◌, nat_lt, nat_le, List, [], ◌∷◌, ◌++◌, Option, Some, None, refl, sym, ◌∙◌, ap, subst, arith, if◌then◌else◌, MatchOption, IfSome}
+use Rattle.std.proofs.Common.{◌≡◌, ℕ, suc, ◌+◌, ◌-◌, ◌*◌, ◌^◌, ◌≤◌, ◌<◌, Bool, true, false, ◌&&◌, nat_lt, nat_le, List, [], ◌∷◌, ◌++◌, Option, Some, None, refl, sym, ◌∙◌, ap, subst, arith, if◌then◌else◌}
 use Rattle.std.proofs.lemmas.List.Elements.{All-tail, All-push}
 use Rattle.std.proofs.lemmas.List.Quantifiers.{all_pairs_push}
 use Rattle.life_quad.specs.declared.id.Id.{Id}
-use Rattle.life_quad.specs.Keeping.{KeepsSquares}
 use Rattle.life_base.specs.Tree.{Tree, quad, depth, blank}
 use Rattle.life_base.proofs.Squares.{depth-blank}
 use Rattle.life_base.proofs.Basics.{twice}
 use Rattle.life_strip.specs.declared.spans.Span.{Span}
-use Rattle.life_strip.specs.declared.spans.Stretch.{Stretch}
-use Rattle.life_strip.specs.Strip.{id_at, square_or_blank, square_at, id_or, quad_at, IsStrip, IsPast, EndsAfter, IsStart, IsFoundStretch, IsColumnBefore, IsNearer, AreBefore, HaveColumns, IsExtended, FilledTo}
+use Rattle.life_strip.specs.Strip.{id_at, square_or_blank, square_at, id_or, quad_at, IsStrip, IsPast, AreBefore, HaveColumns, IsExtended, FilledTo}
 
 -- a store knows what it knew, with the same square
 abbrev pub Keeps : (Id → Type 0) → (Id → Type 0) → (Id → Tree) → (Id → Tree) → Type 0
@@ -107,12 +105,6 @@ module _ {knows knows' : Id → Type 0} {old now : Id → Tree} (keeps : Keeps k
       let e = square-keeps lower l (2 * c + 1) in
       λ i. quad (a i) (b i) (d i) (e i)
 
-pub strip-kept : {S : Type 0} {knows : S → Id → Type 0} {content : S → Id → Tree} {stored : S → List Tree} {most : S → ℕ} {old new : S}
-    → KeepsSquares knows content stored most old new
-    → (level : ℕ) (spans : List Span) → IsStrip (knows old) (content old) level spans → IsStrip (knows new) (content new) level spans
-strip-kept {knows = knows} {content = content} {old = old} {new = new} keeps = strip-keeps {knows = knows old} {knows' = knows new} {old = content old}
-    {now = content new} keeps.contents
-
 module _ (knows : Id → Type 0) (content : Id → Tree) (level : ℕ) (spans : List Span) (s : IsStrip knows content level spans) where
   -- each square of a strip has its level
   pub depth-square_at : (c : ℕ) → depth (square_at content level spans c) ≡ level
@@ -138,20 +130,6 @@ module _ (knows : Id → Type 0) (content : Id → Tree) (level : ℕ) (spans : 
         by : (o : Option Id) → content (id_or b o) ≡ square_or_blank content level o
         by None = is_blank
         by (Some id) = refl
-
-    pub found-known : (c : ℕ) (f : Stretch) → IsFoundStretch spans c b f → knows f.square
-    found-known c f h = subst knows (h.square c (omega arith) h.beyond) (known_or c)
-
-    pub found-content : (c : ℕ) (f : Stretch) → IsFoundStretch spans c b f → content f.square ≡ square_at content level spans c
-    found-content c f h = ap content (sym (h.square c (omega arith) h.beyond)) ∙ content_or c
-
-    pub found-depth : (c : ℕ) (f : Stretch) → IsFoundStretch spans c b f → depth (content f.square) ≡ level
-    found-depth c f h = ap depth (found-content c f h) ∙ depth-square_at c
-
-    -- one square goes on
-    pub found-same : (c x y : ℕ) (f : Stretch) → IsFoundStretch spans c b f → c ≤ x → IsColumnBefore x f.end → c ≤ y → IsColumnBefore y f.end
-        → square_at content level spans x ≡ square_at content level spans y
-    found-same c x y f h xl xu yl yu = sym (content_or x) ∙ ap content (h.square x xl xu ∙ sym (h.square y yl yu)) ∙ content_or y
 
 -- blank squares have no span
 pub filled-skip : (knows : Id → Type 0) (now : Id → Tree) (level : ℕ) (want : ℕ → Tree) (spans : List Span) (column next : ℕ)
@@ -234,6 +212,17 @@ extended-columns old new column end square before later more c = by (nat_le colu
         none_beyond new end c more.before (grind arith) ∙ sym (none_beyond old column c before (grind arith)) ∙ sym (λ i. all (e i) (f i))
     by false e b f = more.earlier c (grind arith) ∙ sym (ap (λ z. all z (nat_lt c end)) e)
 
+-- each square of the row is known
+pub row_strip : (knows : Id → Type 0) (content : Id → Tree) (old new : List Span) (column end : ℕ) (id : Id) → IsStrip knows content 0 old
+    → knows id → depth (content id) ≡ 0
+    → ((c : ℕ) → id_at new c ≡ (if nat_le column c && nat_lt c end then Some id else id_at old c))
+    → IsStrip knows content 0 new
+row_strip knows content old new column end id strip known deep columns c q at = by (nat_le column c && nat_lt c end) (sym (columns c) ∙ at)
+  where
+    by : (t : Bool) → (if t then Some id else id_at old c) ≡ Some q → knows q × (depth (content q) ≡ 0)
+    by true e = let same : id ≡ q = same_Some _ _ e in (subst knows same known, ap (λ z. depth (content z)) (sym same) ∙ deep)
+    by false e = strip c q e
+
 -- what goes on from a column is the same in that column too
 pub from-first : (want : ℕ → Tree) (t : Tree) (start end : ℕ) → want start ≡ t → ((c : ℕ) → start < c → c < end → want c ≡ want start)
     → (c : ℕ) → start ≤ c → c < end → want c ≡ t
@@ -249,120 +238,11 @@ pub filled-all : (knows : Id → Type 0) (now : Id → Tree) (level : ℕ) (want
 filled-all knows now level want spans column p over c =
     let all = filled-skip knows now level want spans column (column + suc c) p (omega arith) (λ d le lt. over d le) in all.done c (omega arith)
 
--- an earlier column comes before the end too
-pub before_earlier : (a b : ℕ) (end : Option ℕ) → a ≤ b → IsColumnBefore b end → IsColumnBefore a end
-before_earlier a b None le h = tt
-before_earlier a b (Some end) le h = omega (arith, le, h)
-
--- the four squares go on
-pub quad-same : (knows : Id → Type 0) (content : Id → Tree) (level : ℕ) (upper lower : List Span) → IsStrip knows content level upper
-    → IsStrip knows content level lower
-    → (b : Id) → knows b → content b ≡ blank level → (column c : ℕ) (n s : Stretch) → IsFoundStretch upper (2 * column) b n
-    → IsFoundStretch lower (2 * column) b s
-    → column < c → IsColumnBefore (2 * c + 1) n.end → IsColumnBefore (2 * c + 1) s.end → quad_at content level upper lower c
-    ≡ quad_at content level upper lower column
-quad-same knows content level upper lower u l b known is_blank column c n s hn hs lt le me =
-    let k = 2 * column in
-    let first : 2 * c ≤ 2 * c + 1 = omega arith in
-    let east : k + 1 ≤ 2 * c + 1 = omega (arith, lt) in
-    let west : k ≤ 2 * c = omega (arith, lt) in
-    let from : k ≤ 2 * c + 1 = omega (arith, lt) in
-    let p = found-same knows content level upper u b known is_blank k (2 * c) k n hn west (before_earlier (2 * c) (2 * c + 1) n.end first le) (omega arith)
-    hn.beyond in
-    let q = found-same knows content level upper u b known is_blank k (2 * c + 1) (k + 1) n hn from le (omega arith)
-    (before_earlier (k + 1) (2 * c + 1) n.end east le) in
-    let r = found-same knows content level lower l b known is_blank k (2 * c) k s hs west (before_earlier (2 * c) (2 * c + 1) s.end first me) (omega arith)
-    hs.beyond in
-    let t = found-same knows content level lower l b known is_blank k (2 * c + 1) (k + 1) s hs from me (omega arith)
-    (before_earlier (k + 1) (2 * c + 1) s.end east me) in
-    λ i. quad (p i) (q i) (r i) (t i)
-
 -- the plane has half as many columns of squares twice as wide
 pub half-side : (level : ℕ) → level < MAX_LEVEL → 2 ^ (MAX_LEVEL - level) ≡ 2 * 2 ^ (MAX_LEVEL - suc level)
 half-side level low =
     let more : MAX_LEVEL - level ≡ suc (MAX_LEVEL - suc level) = omega (arith, low) in
     ap (λ n. 2 ^ n) more ∙ twice (MAX_LEVEL - suc level)
-
--- no span is left
-pub none-left : (spans : List Span) (column : ℕ) (b : Id) (f : Stretch) → IsFoundStretch spans column b f → f.start ≡ None → (c : ℕ) → column ≤ c
-    → id_at spans c ≡ None
-none-left spans column b f h e = subst (λ o. MatchOption o ((c : ℕ) → column ≤ c → id_at spans c ≡ None) (IsStart spans column)) e h.start
-
--- what comes before the nearer end comes before both
-pub nearer-both : (o north south : Option ℕ) (column : ℕ) → MatchOption o ((north ≡ None) × (south ≡ None)) (λ e. IsNearer e north south)
-    → IsColumnBefore column o
-    → IsColumnBefore column north × IsColumnBefore column south
-nearer-both None north south column h e = (subst (IsColumnBefore column) (sym h.0) tt, subst (IsColumnBefore column) (sym h.1) tt)
-nearer-both (Some x) north south column h e = (h.upper column e, h.lower column e)
-
--- what holds of two ends holds of the nearer one
-pub nearer-one : (P : Option ℕ → Type 0) (o north south : Option ℕ) → MatchOption o ((north ≡ None) × (south ≡ None)) (λ e. IsNearer e north south)
-    → P north → P south → P o
-nearer-one P None north south h n s = subst P h.0 n
-nearer-one P (Some x) north south h n s = by h.one
-  where
-    by : (north ≡ Some x) ⊎ (south ≡ Some x) → P (Some x)
-    by (inl e) = subst P e n
-    by (inr e) = subst P e s
-
--- what is found ends within the plane
-pub found-within : (side : ℕ) (spans : List Span) → AreBefore side spans → (column : ℕ) (b : Id) (f : Stretch) → IsFoundStretch spans column b f
-    → IfSome f.end (λ e. e ≤ side)
-found-within side spans within column b f h = by f.end h.last
-  where
-    by : (o : Option ℕ) → MatchOption o (f.start ≡ None) (λ end. (n : ℕ) → AreBefore n spans → end ≤ n) → IfSome o (λ e. e ≤ side)
-    by None l = tt
-    by (Some e) l = l side within
-
--- up to a column before which what was found does not start all is blank
-pub blank-before : (spans : List Span) (column : ℕ) (b : Id) (f : Stretch) → IsFoundStretch spans column b f → (first : ℕ)
-    → ((x : ℕ) → x < first → IsColumnBefore x f.start) → (c : ℕ) → column ≤ c → c < first → id_at spans c ≡ None
-blank-before spans column b f h first before c le lt = by f.start h.start (before c lt)
-  where
-    by : (o : Option ℕ) → MatchOption o ((x : ℕ) → column ≤ x → id_at spans x ≡ None) (IsStart spans column) → IsColumnBefore c o → id_at spans c ≡ None
-    by None h e = h c le
-    by (Some x) h e = h.none c le e
-
--- the nearer of the columns where two strips have a span: before it both are blank
-pub record IsFirst (upper lower : List Span) (column first side : ℕ) : Type 0 where
-  pub from : column ≤ first
-  pub within : first < side
-  pub north : (c : ℕ) → column ≤ c → c < first → id_at upper c ≡ None
-  pub south : (c : ℕ) → column ≤ c → c < first → id_at lower c ≡ None
-
-module _ (side : ℕ) (upper lower : List Span) (u : AreBefore side upper) (l : AreBefore side lower) (column : ℕ) (b : Id) (n s : Stretch)
-    (hn : IsFoundStretch upper column b n) (hs : IsFoundStretch lower column b s) where
-  pub first-column : (first : ℕ) → IsNearer first n.start s.start → IsFirst upper lower column first side
-  first-column first near = record {
-    from = (by near.one).0;
-    within = (by near.one).1;
-    north = blank-before upper column b n hn first near.upper;
-    south = blank-before lower column b s hs first near.lower;
-  }
-    where
-      at : (spans : List Span) (f : Stretch) → AreBefore side spans → IsFoundStretch spans column b f → f.start ≡ Some first → (column ≤ first) × (first < side)
-      at spans f within h e =
-          let p = subst (λ o. MatchOption o ((x : ℕ) → column ≤ x → id_at spans x ≡ None) (IsStart spans column)) e h.start in
-          (p.from, p.within side within)
-
-      by : (n.start ≡ Some first) ⊎ (s.start ≡ Some first) → (column ≤ first) × (first < side)
-      by (inl e) = at upper n u hn e
-      by (inr e) = at lower s l hs e
-
--- what comes after all smaller numbers isn't smaller
-not-beyond : (n x : ℕ) → ((y : ℕ) → y < n → y < x) → n ≤ x
-not-beyond zero x h = omega arith
-not-beyond (suc n) x h = h n (omega arith)
-
--- the span that stands at what was found ends after each column up to the nearer start
-pub ends-after : (spans : List Span) (column : ℕ) (b : Id) (f : Stretch) → IsFoundStretch spans column b f → (first c : ℕ)
-    → ((x : ℕ) → x < first → IsColumnBefore x f.start) → c ≤ first → EndsAfter spans f.index c
-ends-after spans column b f h first c before le = by f.start h.ends before
-  where
-    by : (o : Option ℕ) → MatchOption o ((x : ℕ) → EndsAfter spans f.index x) (EndsAfter spans f.index) → ((x : ℕ) → x < first → IsColumnBefore x o)
-        → EndsAfter spans f.index c
-    by None e lt d within = e c d within
-    by (Some x) e lt d within = omega (arith, not-beyond first x lt, le, e d within)
 
 -- two columns of two strips without a span are blank
 pub quad-blank : (content : Id → Tree) (level : ℕ) (upper lower : List Span) (from c : ℕ) → ((x : ℕ) → from ≤ x → x ≤ 2 * c + 1 → id_at upper x ≡ None)

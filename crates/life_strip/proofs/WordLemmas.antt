@@ -1,173 +1,22 @@
 -- Facts about words of cells.
-use Rattle.std.proofs.Common.{◌≡◌, ℕ, zero, suc, ◌+◌, ◌-◌, ◌*◌, ◌/◌, ◌%◌, ◌^◌, ◌≤◌, ◌<◌, Bool, true, false, nat_lt, List, length, get_or, drop, Some, None, refl, sym, ◌∙◌, ap, subst, arith, pow-add, pow_pos}
-use Rattle.std.proofs.lemmas.Nat.{shr_high, mod_low, mul-le}
-use Rattle.std.proofs.Math.Pow.{pow_mono}
+use Rattle.std.proofs.Common.{◌≡◌, ℕ, suc, ◌+◌, ◌-◌, ◌*◌, ◌/◌, ◌%◌, ◌^◌, ◌≤◌, ◌<◌, ◌⊎◌, inl, inr, Bool, true, ◌==◌, List, length, get_or, drop, Some, None, refl, sym, ◌∙◌, ap, arith}
+use Rattle.std.specs.Int.{bit_at}
+use Rattle.std.proofs.lemmas.Nat.Bits.{bit_at_cat_high, bit_at_cat_low, bit_at_ones, bit_at-zero}
 use Rattle.std.proofs.Math.Seq.{drop-cons}
 use Rattle.std.proofs.Math.ListN.{drop_of_length-le}
-use Rattle.life_quad.specs.declared.id.Id.{Id}
-use Rattle.life_quad.specs.Store.{two}
-use Rattle.life_base.specs.Tree.{Tree, point, quad, depth, state_at}
+use Rattle.life_base.proofs.RoundTrip.{all_below, all_below_at}
+use Rattle.life_base.specs.Tree.{blank, point, quad}
+use Rattle.life_lanes.specs.Places.{exchanged, place_in}
+use Rattle.life_lanes.proofs.PlaceLemmas.{equal}
+use Rattle.life_lanes.proofs.WordLemmas.{bit-mod, bit-shr}
+use Rattle.life_quad.specs.Store.{four}
+use Rattle.life_strip.specs.declared.blocks.Block.{Block}
 use Rattle.life_strip.specs.declared.spans.Span.{Span}
 use Rattle.life_strip.specs.declared.words.TwoWords.{TwoWords}
-use Rattle.life_strip.specs.Strip.{id_at, square_or_blank, square_at, quad_at, IsStrip, HaveColumns, IsPast}
-use Rattle.life_strip.specs.Band.{cell_in_spans, binary, IsWordOfCells, nibble_of, west_at, east_at}
-use Rattle.life_strip.proofs.SpanLemmas.{depth-square_at, id_at-in, id_at-none, id_at-after}
-use Rattle.life_base.proofs.Basics.{twice}
-
--- the digits of two stretches, one behind the other
-pub binary-add : (f : ℕ → ℕ) (s m n : ℕ) → binary f s (m + n) ≡ binary f s m * 2 ^ n + binary f (s + m) n
-binary-add f s m zero = let e : m + 0 ≡ m = omega arith in ap (binary f s) e ∙ omega arith
-binary-add f s m (suc n) =
-    let e : m + suc n ≡ suc (m + n) = omega arith in
-    let before = binary-add f s m n in
-    let wider = twice n in
-    let place : s + (m + n) ≡ s + m + n = omega arith in
-    let wide : binary f s m * 2 ^ suc n ≡ 2 * (binary f s m * 2 ^ n) = rw wider (omega arith) in
-    let last = ap f place in
-    ap (binary f s) e ∙ omega (arith, before, wide, last)
-
--- a number of n binary digits
-pub binary-small : (f : ℕ → ℕ) (s n : ℕ) → ((i : ℕ) → i < n → f (s + i) ≤ 1) → binary f s n < 2 ^ n
-binary-small f s zero h = omega arith
-binary-small f s (suc n) h =
-    let before = binary-small f s n (λ i lt. h i (omega (arith, lt))) in
-    omega (arith, before, twice n, h n (omega arith))
-
--- n times one digit
-pub binary-same : (f : ℕ → ℕ) (s n b : ℕ) → ((i : ℕ) → i < n → f (s + i) ≡ b) → binary f s n + b ≡ b * 2 ^ n
-binary-same f s zero b h = omega arith
-binary-same f s (suc n) b h =
-    let before = binary-same f s n b (λ i lt. h i (omega (arith, lt))) in
-    let wide : b * 2 ^ suc n ≡ 2 * (b * 2 ^ n) = rw (twice n) (omega arith) in
-    omega (arith, before, wide, h n (omega arith))
-
--- a stretch of one digit behind others, at its place
-stretch : (A B b M Q R d : ℕ) → R ≡ M * Q → B + b ≡ b * M → d + Q ≡ R → A * R + b * d ≡ (A * M + B) * Q
-stretch A B b M Q R d wide same rest =
-    let whole : (B + b) * Q ≡ b * M * Q = ap (λ z. z * Q) same in
-    let parts : b * (d + Q) ≡ b * (M * Q) = ap (λ z. b * z) (rest ∙ wide) in
-    let first : A * R ≡ A * (M * Q) = ap (λ z. A * z) wide in
-    omega (arith, whole, parts, first)
-
--- a word as far as it is read: it has the bits of the columns before this one
-pub record IsBegun (f : ℕ → ℕ) (start column cells : ℕ) : Type 0 where
-  pub from : start ≤ column
-  pub within : column < start + 64
-  pub digits : cells ≡ binary f start (column - start) * 2 ^ (64 - (column - start))
-  pub states : (i : ℕ) → i < column - start → f (start + i) ≤ 1
-
-module _ (f : ℕ → ℕ) (start column cells : ℕ) (p : IsBegun f start column cells) where
-  -- the columns from this one on to another one have one state
-  module _ (end b : ℕ) (later : column ≤ end) (last : end ≤ start + 64) (small : b ≤ 1) (same : (c : ℕ) → column ≤ c → c < end → f c ≡ b) where
-    begun-digits : (d : ℕ) → d + 2 ^ (64 - (end - start)) ≡ 2 ^ (64 - (column - start))
-        → cells + b * d ≡ binary f start (end - start) * 2 ^ (64 - (end - start))
-    begun-digits d less =
-        let n = column - start in
-        let m = end - column in
-        let q = 64 - (end - start) in
-        let from = p.from in
-        let sum : end - start ≡ n + m = omega (arith, from, later) in
-        let places : 64 - n ≡ m + q = omega (arith, from, later, last) in
-        let wide : 2 ^ (64 - n) ≡ 2 ^ m * 2 ^ q = ap (λ k. 2 ^ k) places ∙ pow-add 2 m q in
-        let equal : binary f (start + n) m + b ≡ b * 2 ^ m = binary-same f (start + n) m b
-        (λ i lt. same (start + n + i) (omega (arith, from)) (omega (arith, from, lt))) in
-        ap (λ z. z + b * d) p.digits
-        ∙ stretch (binary f start n) (binary f (start + n) m) b (2 ^ m) (2 ^ q) (2 ^ (64 - n)) d wide equal less
-        ∙ ap (λ z. z * 2 ^ q) (sym (binary-add f start n m) ∙ ap (binary f start) (sym sum))
-
-    begun-states : (i : ℕ) → i < end - start → f (start + i) ≤ 1
-    begun-states i lt = by (nat_lt i (column - start)) refl
-      where
-        by : (o : Bool) → nat_lt i (column - start) ≡ o → f (start + i) ≤ 1
-        by true e = p.states i (grind arith)
-        by false e =
-            let from = p.from in
-            let k : column - start ≤ i = grind arith in
-            omega (arith, small, same (start + i) (omega (arith, from, k)) (omega (arith, lt)))
-
-    begun-on : (d : ℕ) → end < start + 64 → d + 2 ^ (64 - (end - start)) ≡ 2 ^ (64 - (column - start)) → IsBegun f start end (cells + b * d)
-    begun-on d within less =
-        let from = p.from in record { from = omega (arith, from, later); within = within; digits = begun-digits d less; states = begun-states }
-
-  -- fewer columns are left
-  begun-fewer : (end : ℕ) → column ≤ end → 2 ^ (64 - (end - start)) ≤ 2 ^ (64 - (column - start))
-  begun-fewer end later = pow_mono {i = 64 - (end - start)} {j = 64 - (column - start)} (omega (arith, later))
-
-  pub begun-less : (end bits after : ℕ) → column ≤ end → bits + 1 ≡ 2 ^ (64 - (column - start)) → after + 1 ≡ 2 ^ (64 - (end - start)) → after ≤ bits
-  begun-less end bits after later all others = let fewer = begun-fewer end later in omega (arith, all, others, fewer)
-
-  pub begun-step : (end b bits after : ℕ) → column ≤ end → end < start + 64 → b ≤ 1 → ((c : ℕ) → column ≤ c → c < end → f c ≡ b)
-      → bits + 1 ≡ 2 ^ (64 - (column - start)) → after + 1 ≡ 2 ^ (64 - (end - start)) → IsBegun f start end (cells + b * (bits - after))
-  begun-step end b bits after later within small same all others =
-      let less = begun-less end bits after later all others in
-      begun-on end b later (omega (arith, within)) small same (bits - after) within (omega (arith, less, all, others))
-
-  -- columns without a cell add no bit
-  pub begun-skip : (end : ℕ) → column ≤ end → end < start + 64 → ((c : ℕ) → column ≤ c → c < end → f c ≡ 0) → IsBegun f start end cells
-  begun-skip end later within none =
-      let fewer = begun-fewer end later in
-      let d = 2 ^ (64 - (column - start)) - 2 ^ (64 - (end - start)) in
-      let same : cells + 0 * d ≡ cells = omega arith in
-      subst (IsBegun f start end) same (begun-on end 0 later (omega (arith, within)) (omega arith) none d within (omega (arith, fewer)))
-
-  -- the bits of a stretch have room
-  begun-room : cells + 2 ^ (64 - (column - start)) ≤ 2 ^ 64
-  begun-room =
-      let n = column - start in
-      let from = p.from in
-      let within = p.within in
-      let digits = p.digits in
-      let small : suc (binary f start n) ≤ 2 ^ n = binary-small f start n p.states in
-      let places : 64 ≡ n + (64 - n) = omega (arith, from, within) in
-      let wide : suc (binary f start n) * 2 ^ (64 - n) ≤ 2 ^ n * 2 ^ (64 - n) = mul-le (suc (binary f start n)) (2 ^ (64 - n)) (2 ^ n) (2 ^ (64 - n)) small
-      (omega arith) in
-      let all : 2 ^ n * 2 ^ (64 - n) ≡ 2 ^ 64 = sym (pow-add 2 n (64 - n)) ∙ ap (λ k. 2 ^ k) (sym places) in
-      omega (arith, digits, wide, all)
-
-  pub begun-fits : (bits b d : ℕ) → bits + 1 ≡ 2 ^ (64 - (column - start)) → b ≤ 1 → d ≤ bits → cells + b * d < 2 ^ 64
-  begun-fits bits b d all small less =
-      let most : b * d ≤ 1 * d = mul-le b d 1 d small (omega arith) in
-      omega (arith, begun-room, most, less, all)
-
-  -- all columns that are left have one state
-  pub begun-end : (bits b : ℕ) → bits + 1 ≡ 2 ^ (64 - (column - start)) → b ≤ 1 → ((c : ℕ) → column ≤ c → c < start + 64 → f c ≡ b)
-      → IsWordOfCells f start (cells + b * bits)
-  begun-end bits b all small same =
-      let within = p.within in
-      let later : column ≤ start + 64 = omega (arith, within) in
-      let whole : start + 64 - start ≡ 64 = omega arith in
-      let none : 2 ^ (64 - (start + 64 - start)) ≡ 1 = ap (λ k. 2 ^ (64 - k)) whole in
-      let digits = begun-digits (start + 64) b later (omega arith) small same bits (omega (arith, none, all)) in
-      let word : binary f start (start + 64 - start) * 2 ^ (64 - (start + 64 - start)) ≡ binary f start 64 = (λ i. binary f start (whole i) * none i)
-      ∙ omega arith in
-      record { digits = digits ∙ word; states = λ i lt. begun-states (start + 64) b later (omega arith) small same i (omega (arith, lt)) }
-
-  -- no cell is left
-  pub begun-over : ((c : ℕ) → column ≤ c → c < start + 64 → f c ≡ 0) → IsWordOfCells f start cells
-  begun-over none =
-      let bits = 2 ^ (64 - (column - start)) - 1 in
-      let some = pow_pos (64 - (column - start)) in
-      let same : cells + 0 * bits ≡ cells = omega arith in
-      subst (IsWordOfCells f start) same (begun-end bits 0 (omega (arith, some)) (omega arith) none)
-
--- a word of ones, moved
-pub ones-shifted : (k : ℕ) → k < 64 → 18446744073709551615 / 2 ^ k + 1 ≡ 2 ^ (64 - k)
-ones-shifted k lt =
-    let places : 64 ≡ (64 - k) + k = omega (arith, lt) in
-    let all : 2 ^ 64 ≡ 2 ^ (64 - k) * 2 ^ k = ap (λ n. 2 ^ n) places ∙ pow-add 2 (64 - k) k in
-    let some = pow_pos k in
-    let more = pow_pos (64 - k) in
-    let high : (2 ^ (64 - k) - 1) * 2 ^ k + 2 ^ k ≡ 2 ^ (64 - k) * 2 ^ k = ones-product (2 ^ (64 - k)) (2 ^ k) more in
-    let parts : 18446744073709551615 ≡ (2 ^ (64 - k) - 1) * 2 ^ k + (2 ^ k - 1) = omega (arith, all, high, some) in
-    let quotient : 18446744073709551615 / 2 ^ k ≡ 2 ^ (64 - k) - 1 = ap (λ z. z / 2 ^ k) parts
-    ∙ shr_high (2 ^ (64 - k) - 1) k (2 ^ k - 1) (omega (arith, some)) in
-    omega (arith, quotient, more)
-  where
-    ones-product : (a b : ℕ) → 0 < a → (a - 1) * b + b ≡ a * b
-    ones-product zero b h = elim h [ ]
-    ones-product (suc a) b h =
-        let e : suc a - 1 ≡ a = omega arith in
-        ap (λ z. z * b + b) e ∙ omega arith
+use Rattle.life_strip.specs.Strip.{id_at, IsPast}
+use Rattle.life_strip.specs.Blocks.{cell_in_word, cells_at_block, cell_in_blocks, two_in, four_in}
+use Rattle.life_strip.specs.Band.{cells_among_four, square_of_words, two_of}
+use Rattle.life_strip.proofs.SpanLemmas.{id_at-in, id_at-none, id_at-after}
 
 module _ (row : List Span) (index column : ℕ) (d : Span) (past : IsPast row index column) (within : index < length row) where
   -- the square in the columns of a span
@@ -191,121 +40,235 @@ module _ (row : List Span) (index column : ℕ) (d : Span) (past : IsPast row in
 pub past-none : (row : List Span) (index column : ℕ) → IsPast row index column → length row ≤ index → (c : ℕ) → column ≤ c → id_at row c ≡ None
 past-none row index column past over c le = past c le ∙ ap (λ z. id_at z c) (drop_of_length-le row over)
 
-module _ (content : Id → Tree) (row : List Span) (c : ℕ) where
-  pub cell-some : (id : Id) (b : ℕ) → id_at row c ≡ Some id → content id ≡ point b → cell_in_spans content row c ≡ b
-  cell-some id b at is = ap (λ o. state_at (square_or_blank content 0 o) 0 0) at ∙ ap (λ t. state_at t 0 0) is
+-- the cell of a row in one of the four columns of a square of level 2, by the word of its block
+cell-at : (row : List Block) (word c k : ℕ) → cells_at_block row (c / 16) ≡ word → k < 4 → (column place : ℕ) → column ≡ 4 * c + k → place ≡ 4 * (c % 16) + k
+    → cell_in_blocks row column ≡ cell_in_word word place
+cell-at row word c k e small column place at there =
+    let number : column / 64 ≡ c / 16 = omega (arith, at, small) in
+    let inside : column % 64 ≡ place = omega (arith, at, there, small) in
+    (λ i. cell_in_word (cells_at_block row (number i)) (inside i)) ∙ ap (λ w. cell_in_word w place) e
 
-  pub cell-none : id_at row c ≡ None → cell_in_spans content row c ≡ 0
-  cell-none at = ap (λ o. state_at (square_or_blank content 0 o) 0 0) at
+-- the squares of level 1 of two rows, by the words of a block
+two-words : (north south : List Block) (rows : TwoWords) (c : ℕ) → cells_at_block north (c / 16) ≡ rows.north → cells_at_block south (c / 16) ≡ rows.south
+    → (two_in north south (2 * c) ≡ two_of rows (4 * (c % 16))) × (two_in north south (2 * c + 1) ≡ two_of rows (4 * (c % 16) + 2))
+two-words north south rows c n s =
+    let k = c % 16 in
+    let n0 = cell-at north rows.north c 0 n (omega arith) (2 * (2 * c)) (4 * k) (omega arith) (omega arith) in
+    let n1 = cell-at north rows.north c 1 n (omega arith) (2 * (2 * c) + 1) (4 * k + 1) (omega arith) (omega arith) in
+    let n2 = cell-at north rows.north c 2 n (omega arith) (2 * (2 * c + 1)) (4 * k + 2) (omega arith) (omega arith) in
+    let n3 = cell-at north rows.north c 3 n (omega arith) (2 * (2 * c + 1) + 1) (4 * k + 2 + 1) (omega arith) (omega arith) in
+    let s0 = cell-at south rows.south c 0 s (omega arith) (2 * (2 * c)) (4 * k) (omega arith) (omega arith) in
+    let s1 = cell-at south rows.south c 1 s (omega arith) (2 * (2 * c) + 1) (4 * k + 1) (omega arith) (omega arith) in
+    let s2 = cell-at south rows.south c 2 s (omega arith) (2 * (2 * c + 1)) (4 * k + 2) (omega arith) (omega arith) in
+    let s3 = cell-at south rows.south c 3 s (omega arith) (2 * (2 * c + 1) + 1) (4 * k + 2 + 1) (omega arith) (omega arith) in (
+      λ i. quad (point (n0 i)) (point (n1 i)) (point (s0 i)) (point (s1 i)),
+      λ i. quad (point (n2 i)) (point (n3 i)) (point (s2 i)) (point (s3 i)),
+    )
 
--- a word goes on to the span that comes next
-pub begun-span : (content : Id → Tree) (row : List Span) (index column : ℕ) (d : Span) → IsPast row index column → index < length row → HaveColumns row
-    → (start cells first : ℕ) → IsBegun (cell_in_spans content row) start column cells → column ≤ first → first < start + 64
-    → ((c : ℕ) → column ≤ c → c < first → c < (get_or row index d).start) → IsBegun (cell_in_spans content row) start first cells
-begun-span content row index column d past within columns start cells first p later inside gap =
-    begun-skip (cell_in_spans content row) start column cells p first later inside
-    (λ c le lt. let before = gap c le lt in let some = columns index d within in
-    cell-none content row c (gap-at row index column d past within c le before (omega (arith, before, some))))
+-- the square of level 2 of four rows, by the words of a block
+pub four-words : (first second third fourth : List Block) (upper lower : TwoWords) (c : ℕ) → cells_at_block first (c / 16) ≡ upper.north
+    → cells_at_block second (c / 16) ≡ upper.south → cells_at_block third (c / 16) ≡ lower.north → cells_at_block fourth (c / 16) ≡ lower.south
+    → four_in first second third fourth c ≡ square_of_words upper lower (c % 16)
+four-words first second third fourth upper lower c ea eb ec ed =
+    let n = two-words first second upper c ea eb in
+    let s = two-words third fourth lower c ec ed in
+    λ i. quad (n.0 i) (n.1 i) (s.0 i) (s.1 i)
 
--- the cells of four columns, from the word with them
-pub nibble-cells : (f : ℕ → ℕ) (start word square : ℕ) → IsWordOfCells f start word → square < 16
-    → nibble_of word square ≡ 8 * f (start + 4 * square) + 4 * f (start + 4 * square + 1) + 2 * f (start + 4 * square + 2) + f (start + 4 * square + 3)
-nibble-cells f start word square p lt =
-    let k = 60 - 4 * square in
-    let n = 4 * square in
-    let at = start + n in
-    let places : 64 ≡ (n + 4) + k = omega (arith, lt) in
-    let low : binary f (start + (n + 4)) k < 2 ^ k = binary-small f (start + (n + 4)) k
-    (λ i h. subst (λ z. f z ≤ 1) (moved i) (p.states (n + 4 + i) (omega (arith, lt, h)))) in
-    let parts : word ≡ binary f start (n + 4) * 2 ^ k + binary f (start + (n + 4)) k = p.digits ∙ ap (binary f start) places ∙ binary-add f start (n + 4) k in
-    let high : word / 2 ^ k ≡ binary f start n * 2 ^ 4 + binary f at 4 = ap (λ z. z / 2 ^ k) parts
-    ∙ shr_high (binary f start (n + 4)) k (binary f (start + (n + 4)) k) low ∙ binary-add f start n 4 in
-    let small : binary f at 4 < 2 ^ 4 = binary-small f at 4 (λ i h. subst (λ z. f z ≤ 1) (inner i) (p.states (n + i) (omega (arith, lt, h)))) in
-    let first : at + 0 ≡ at = omega arith in
-    let same = ap f first in
-    ap (λ z. z % 2 ^ 4) high ∙ mod_low (binary f start n) 4 (binary f at 4) small ∙ omega (arith, same)
+-- a square of level 2 where each row has one cell four times
+square-rows : (upper lower : TwoWords) (square a b c d : ℕ)
+    → ((k : ℕ) → k < 4 → (column : ℕ) → column ≡ 4 * square + k → (cell_in_word upper.north column ≡ a) × (cell_in_word upper.south column ≡ b)
+    × (cell_in_word lower.north column ≡ c) × (cell_in_word lower.south column ≡ d))
+    → square_of_words upper lower square ≡ quad (quad (point a) (point a) (point b) (point b)) (quad (point a) (point a) (point b) (point b))
+    (quad (point c) (point c) (point d) (point d)) (quad (point c) (point c) (point d) (point d))
+square-rows upper lower square a b c d same =
+    let p = same 0 (omega arith) (4 * square) (omega arith) in
+    let q = same 1 (omega arith) (4 * square + 1) (omega arith) in
+    let r = same 2 (omega arith) (4 * square + 2) (omega arith) in
+    let s = same 3 (omega arith) (4 * square + 2 + 1) (omega arith) in
+    λ i. quad (quad (point (p.0 i)) (point (q.0 i)) (point (p.1 i)) (point (q.1 i))) (quad (point (r.0 i)) (point (s.0 i)) (point (r.1 i)) (point (s.1 i)))
+    (quad (point (p.2 i)) (point (q.2 i)) (point (p.3 i)) (point (q.3 i))) (quad (point (r.2 i)) (point (s.2 i)) (point (r.3 i)) (point (s.3 i)))
+
+-- without cells it is blank
+pub square-blank : (upper lower : TwoWords) (square : ℕ)
+    → ((k : ℕ) → k < 4 → (column : ℕ) → column ≡ 4 * square + k → (cell_in_word upper.north column ≡ 0) × (cell_in_word upper.south column ≡ 0)
+    × (cell_in_word lower.north column ≡ 0) × (cell_in_word lower.south column ≡ 0))
+    → square_of_words upper lower square ≡ blank 2
+square-blank upper lower square none = square-rows upper lower square 0 0 0 0 none
+
+-- where the rows have no cell it is blank
+pub four-blank : (first second third fourth : List Block) (c : ℕ) → cells_at_block first (c / 16) ≡ 0 → cells_at_block second (c / 16) ≡ 0
+    → cells_at_block third (c / 16) ≡ 0 → cells_at_block fourth (c / 16) ≡ 0 → four_in first second third fourth c ≡ blank 2
+four-blank first second third fourth c ea eb ec ed =
+    let none : TwoWords = record { north = 0; south = 0 } in
+    four-words first second third fourth none none c ea eb ec ed
+    ∙ square-blank none none (c % 16) (λ k lt column e. let z = bit_at-zero (63 - column) in (z, z, z, z))
+
+-- a word of one cell 64 times has it everywhere
+cell-alike : (word column : ℕ) → column < 64 → (word ≡ 0) ⊎ (word ≡ 2 ^ 64 - 1) → cell_in_word word column ≡ cell_in_word word 0
+cell-alike word column lt (inl none) =
+    ap (λ w. cell_in_word w column) none ∙ bit_at-zero (63 - column) ∙ sym (ap (λ w. cell_in_word w 0) none ∙ bit_at-zero 63)
+cell-alike word column lt (inr all) =
+    ap (λ w. cell_in_word w column) all ∙ bit_at_ones 64 (63 - column) (omega arith) ∙ sym (ap (λ w. cell_in_word w 0) all ∙ bit_at_ones 64 63 (omega arith))
+
+-- so the squares of such words are alike
+pub squares-alike : (upper lower : TwoWords) (square : ℕ) → square < 16 → (upper.north ≡ 0) ⊎ (upper.north ≡ 2 ^ 64 - 1)
+    → (upper.south ≡ 0) ⊎ (upper.south ≡ 2 ^ 64 - 1) → (lower.north ≡ 0) ⊎ (lower.north ≡ 2 ^ 64 - 1) → (lower.south ≡ 0) ⊎ (lower.south ≡ 2 ^ 64 - 1)
+    → square_of_words upper lower square ≡ square_of_words upper lower 0
+squares-alike upper lower square lt ha hb hc hd =
+    let a = cell_in_word upper.north 0 in
+    let b = cell_in_word upper.south 0 in
+    let c = cell_in_word lower.north 0 in
+    let d = cell_in_word lower.south 0 in
+    square-rows upper lower square a b c d (same square lt) ∙ sym (square-rows upper lower 0 a b c d (same 0 (omega arith)))
   where
-    moved : (i : ℕ) → start + (4 * square + 4 + i) ≡ start + (4 * square + 4) + i
-    moved i = omega arith
+    same : (i : ℕ) → i < 16 → (k : ℕ) → k < 4 → (column : ℕ) → column ≡ 4 * i + k → (cell_in_word upper.north column ≡ cell_in_word upper.north 0)
+        × (cell_in_word upper.south column ≡ cell_in_word upper.south 0) × (cell_in_word lower.north column ≡ cell_in_word lower.north 0)
+        × (cell_in_word lower.south column ≡ cell_in_word lower.south 0)
+    same i small k few column e =
+        let inside : column < 64 = omega (arith, small, few, e) in (
+          cell-alike upper.north column inside ha,
+          cell-alike upper.south column inside hb,
+          cell-alike lower.north column inside hc,
+          cell-alike lower.south column inside hd,
+        )
 
-    inner : (i : ℕ) → start + (4 * square + i) ≡ start + 4 * square + i
-    inner i = omega arith
+-- where a bit of four squares comes from
+abbrev square_from : ℕ → ℕ
+square_from p = exchanged 0x00000000FF00FF00 24 (exchanged 0x0000F0F00000F0F0 12 (exchanged 0x0C0C0C0C0C0C0C0C 2 p))
 
--- the square of level 1 of four cells
-two-cells : (p q r s n : ℕ) → p ≤ 1 → q ≤ 1 → r ≤ 1 → s ≤ 1 → n ≡ 8 * p + 4 * q + 2 * r + s → two n ≡ quad (point p) (point q) (point r) (point s)
-two-cells p q r s n hp hq hr hs e =
-    let nw : n / 8 ≡ p = omega (arith, e, hq, hr, hs) in
-    let ne : n / 4 % 2 ≡ q = omega (arith, e, hp, hq, hr, hs) in
-    let sw : n / 2 % 2 ≡ r = omega (arith, e, hp, hq, hr, hs) in
-    let se : n % 2 ≡ s = omega (arith, e, hp, hq, hr, hs) in
-    λ i. quad (point (nw i)) (point (ne i)) (point (sw i)) (point (se i))
+-- by a test of each of the 64
+place_test : (i r c : ℕ) → Bool
+place_test i r c = square_from (63 - (16 * i + place_in r c)) == 63 - (16 * r + 4 * i + c)
 
--- a square of depth 0 is its cell
-point-depth : (t : Tree) → depth t ≡ 0 → t ≡ point (state_at t 0 0)
-point-depth (point s) e = refl
-point-depth (quad nw ne sw se) e = absurd (omega (arith, e))
+each_place : all_below 4 (λ i. all_below 4 (λ r. all_below 4 (place_test i r))) ≡ true
+unfolding place_test
+each_place = refl
 
-module _ (knows : Id → Type 0) (content : Id → Tree) where
-  cell-point : (row : List Span) → IsStrip knows content 0 row → (c : ℕ) → point (cell_in_spans content row c) ≡ square_at content 0 row c
-  cell-point row strip c = sym (point-depth (square_at content 0 row c) (depth-square_at knows content 0 row strip c))
+pub squares-place : (i r c : ℕ) → i < 4 → r < 4 → c < 4 → square_from (63 - (16 * i + place_in r c)) ≡ 63 - (16 * r + 4 * i + c)
+unfolding place_test
+squares-place i r c li lr lc =
+    equal _ _ (all_below_at 4 (place_test i r) c
+    (all_below_at 4 (λ r. all_below 4 (place_test i r)) r (all_below_at 4 (λ i. all_below 4 (λ r. all_below 4 (place_test i r))) i each_place li) lr) lc)
 
-  -- the squares of level 1 of two rows, by their words
-  module _ (upper lower : List Span) (u : IsStrip knows content 0 upper) (l : IsStrip knows content 0 lower) (start square : ℕ) (rows : TwoWords)
-      (north : IsWordOfCells (cell_in_spans content upper) start rows.north.cells) (south : IsWordOfCells (cell_in_spans content lower) start rows.south.cells)
-      (lt : square < 16) where
-    quad-cells : (c n : ℕ) → (i : ℕ) → i + 1 < 64 → 2 * c ≡ start + i → n ≡ 8 * cell_in_spans content upper (start + i)
-        + 4 * cell_in_spans content upper (start + (i + 1))
-        + 2 * cell_in_spans content lower (start + i) + cell_in_spans content lower (start + (i + 1))
-        → two n ≡ quad_at content 0 upper lower c
-    quad-cells c n i within west e =
-        let east : 2 * c + 1 ≡ start + (i + 1) = omega (arith, west) in
-        let nw = cell-point upper u (start + i) ∙ ap (square_at content 0 upper) (sym west) in
-        let ne = cell-point upper u (start + (i + 1)) ∙ ap (square_at content 0 upper) (sym east) in
-        let sw = cell-point lower l (start + i) ∙ ap (square_at content 0 lower) (sym west) in
-        let se = cell-point lower l (start + (i + 1)) ∙ ap (square_at content 0 lower) (sym east) in
-        two-cells (cell_in_spans content upper (start + i)) (cell_in_spans content upper (start + (i + 1))) (cell_in_spans content lower (start + i))
-        (cell_in_spans content lower (start + (i + 1))) n
-        (north.states i (omega (arith, within))) (north.states (i + 1) within) (south.states i (omega (arith, within))) (south.states (i + 1) within) e
-        ∙ (λ j. quad (nw j) (ne j) (sw j) (se j))
+-- the sixteen columns of a part of a word
+pub part-bits : (word part k : ℕ) → part < 4 → k < 16 → bit_at (word / 2 ^ (48 - 16 * part) % 2 ^ 16) (15 - k) ≡ cell_in_word word (16 * part + k)
+part-bits word part k lp lk =
+    let place : 15 - k + (48 - 16 * part) ≡ 63 - (16 * part + k) = omega (arith, lp, lk) in
+    bit-mod (word / 2 ^ (48 - 16 * part)) 16 (15 - k) (omega arith) ∙ bit-shr word (48 - 16 * part) (15 - k) ∙ ap (bit_at word) place
 
-    cells-of : (row : List Span) (word : ℕ) → IsWordOfCells (cell_in_spans content row) start word
-        → let f = cell_in_spans content row in let i = 4 * square in
-        (nibble_of word square / 4 ≡ 2 * f (start + i) + f (start + (i + 1)))
-        × (nibble_of word square % 4 ≡ 2 * f (start + (i + 2)) + f (start + (i + 2 + 1)))
-    cells-of row word p =
-        let f = cell_in_spans content row in
-        let i = 4 * square in
-        let e = nibble-cells f start word square p lt in
-        let e1 : start + i + 1 ≡ start + (i + 1) = omega arith in
-        let e2 : start + i + 2 ≡ start + (i + 2) = omega arith in
-        let e3 : start + i + 3 ≡ start + (i + 2 + 1) = omega arith in
-        let f1 = ap f e1 in
-        let f2 = ap f e2 in
-        let f3 = ap f e3 in
-        let a = p.states i (omega (arith, lt)) in
-        let b = p.states (i + 1) (omega (arith, lt)) in
-        let c = p.states (i + 2) (omega (arith, lt)) in
-        let d = p.states (i + 2 + 1) (omega (arith, lt)) in
-        (omega (arith, e, f1, f2, f3, a, b, c, d), omega (arith, e, f1, f2, f3, a, b, c, d))
+-- four numbers of sixteen bits, one after the other
+pub rows-bits : (a b c d : ℕ) → b < 2 ^ 16 → c < 2 ^ 16 → d < 2 ^ 16 → (k : ℕ) → k < 16 → let all = ((a * 65536 + b) * 65536 + c) * 65536 + d in
+    (bit_at all (63 - k) ≡ bit_at a (15 - k)) × (bit_at all (47 - k) ≡ bit_at b (15 - k)) × (bit_at all (31 - k) ≡ bit_at c (15 - k))
+    × (bit_at all (15 - k) ≡ bit_at d (15 - k))
+rows-bits a b c d lb lc ld k lk =
+    let x = a * 65536 + b in
+    let y = x * 65536 + c in
+    let p1 : 63 - k - 16 ≡ 47 - k = omega (arith, lk) in
+    let p2 : 47 - k - 16 ≡ 31 - k = omega (arith, lk) in
+    let p3 : 31 - k - 16 ≡ 15 - k = omega (arith, lk) in
+    let first = λ (j : ℕ) (le : 16 ≤ j). bit_at_cat_high y 16 d j ld le in
+    let second = λ (j : ℕ) (le : 16 ≤ j). bit_at_cat_high x 16 c j lc le in
+    let third = λ (j : ℕ) (le : 16 ≤ j). bit_at_cat_high a 16 b j lb le in (
+      first (63 - k) (omega (arith, lk)) ∙ ap (bit_at y) p1 ∙ second (47 - k) (omega (arith, lk)) ∙ ap (bit_at x) p2 ∙ third (31 - k) (omega (arith, lk))
+          ∙ ap (bit_at a) p3,
+      first (47 - k) (omega (arith, lk)) ∙ ap (bit_at y) p2 ∙ second (31 - k) (omega (arith, lk)) ∙ ap (bit_at x) p3
+          ∙ bit_at_cat_low a 16 b (15 - k) (omega arith),
+      first (31 - k) (omega (arith, lk)) ∙ ap (bit_at y) p3 ∙ bit_at_cat_low x 16 c (15 - k) (omega arith),
+      bit_at_cat_low y 16 d (15 - k) (omega arith),
+    )
 
-    pub west-square : (column : ℕ) → 4 * column ≡ start + 4 * square → two (west_at rows square) ≡ quad_at content 0 upper lower (2 * column)
-    west-square column e =
-        let n = cells-of upper rows.north.cells north in
-        let s = cells-of lower rows.south.cells south in
-        quad-cells (2 * column) (west_at rows square) (4 * square) (omega (arith, lt)) (omega (arith, e)) (omega (arith, n.0, s.0))
+-- one bit of one of four squares, by the cell that is there
+square-bit : (squares i place j : ℕ) → i < 4 → j + place ≡ 15 → bit_at (cells_among_four squares i) j ≡ bit_at squares (63 - (16 * i + place))
+square-bit squares i place j li e =
+    let at : j + (48 - 16 * i) ≡ 63 - (16 * i + place) = omega (arith, li, e) in
+    bit-mod (squares / 2 ^ (48 - 16 * i)) 16 j (omega (arith, e)) ∙ bit-shr squares (48 - 16 * i) j ∙ ap (bit_at squares) at
 
-    pub east-square : (column : ℕ) → 4 * column ≡ start + 4 * square → two (east_at rows square) ≡ quad_at content 0 upper lower (2 * column + 1)
-    east-square column e =
-        let n = cells-of upper rows.north.cells north in
-        let s = cells-of lower rows.south.cells south in
-        quad-cells (2 * column + 1) (east_at rows square) (4 * square + 2) (omega (arith, lt)) (omega (arith, e)) (omega (arith, n.1, s.1))
+-- a square of level 2 by its sixteen bits
+four-bits : (n : ℕ) → n < 2 ^ 16 → four n
+    ≡ quad (quad (point (bit_at n 15)) (point (bit_at n 14)) (point (bit_at n 13)) (point (bit_at n 12)))
+    (quad (point (bit_at n 11)) (point (bit_at n 10)) (point (bit_at n 9)) (point (bit_at n 8)))
+    (quad (point (bit_at n 7)) (point (bit_at n 6)) (point (bit_at n 5)) (point (bit_at n 4)))
+    (quad (point (bit_at n 3)) (point (bit_at n 2)) (point (bit_at n 1)) (point (bit_at n 0)))
+four-bits n lt =
+    let b15 : n / 4096 / 8 ≡ bit_at n 15 = omega (arith, lt) in
+    let b14 : n / 4096 / 4 % 2 ≡ bit_at n 14 = omega arith in
+    let b13 : n / 4096 / 2 % 2 ≡ bit_at n 13 = omega arith in
+    let b12 : n / 4096 % 2 ≡ bit_at n 12 = omega arith in
+    let b11 : n / 256 % 16 / 8 ≡ bit_at n 11 = omega arith in
+    let b10 : n / 256 % 16 / 4 % 2 ≡ bit_at n 10 = omega arith in
+    let b9 : n / 256 % 16 / 2 % 2 ≡ bit_at n 9 = omega arith in
+    let b8 : n / 256 % 16 % 2 ≡ bit_at n 8 = omega arith in
+    let b7 : n / 16 % 16 / 8 ≡ bit_at n 7 = omega arith in
+    let b6 : n / 16 % 16 / 4 % 2 ≡ bit_at n 6 = omega arith in
+    let b5 : n / 16 % 16 / 2 % 2 ≡ bit_at n 5 = omega arith in
+    let b4 : n / 16 % 16 % 2 ≡ bit_at n 4 = omega arith in
+    let b3 : n % 16 / 8 ≡ bit_at n 3 = omega arith in
+    let b2 : n % 16 / 4 % 2 ≡ bit_at n 2 = omega arith in
+    let b1 : n % 16 / 2 % 2 ≡ bit_at n 1 = omega arith in
+    let b0 : n % 16 % 2 ≡ bit_at n 0 = omega arith in
+    λ i. quad (quad (point (b15 i)) (point (b14 i)) (point (b13 i)) (point (b12 i))) (quad (point (b11 i)) (point (b10 i)) (point (b9 i)) (point (b8 i)))
+    (quad (point (b7 i)) (point (b6 i)) (point (b5 i)) (point (b4 i))) (quad (point (b3 i)) (point (b2 i)) (point (b1 i)) (point (b0 i)))
 
--- each has four binary digits
-pub west-small : (square : ℕ) (rows : TwoWords) → west_at rows square < 16
-west-small square rows =
-    let n : nibble_of rows.north.cells square < 16 = omega arith in
-    let s : nibble_of rows.south.cells square < 16 = omega arith in
-    omega (arith, n, s)
+-- four rows of sixteen columns, and the squares that were made of them
+module _ (upper lower : TwoWords) (part rows squares : ℕ)
+    (first : (k : ℕ) → k < 16 → bit_at rows (63 - k) ≡ cell_in_word upper.north (16 * part + k))
+    (second : (k : ℕ) → k < 16 → bit_at rows (47 - k) ≡ cell_in_word upper.south (16 * part + k))
+    (third : (k : ℕ) → k < 16 → bit_at rows (31 - k) ≡ cell_in_word lower.north (16 * part + k))
+    (fourth : (k : ℕ) → k < 16 → bit_at rows (15 - k) ≡ cell_in_word lower.south (16 * part + k))
+    (moved : (i r c : ℕ) → i < 4 → r < 4 → c < 4 → bit_at squares (63 - (16 * i + place_in r c)) ≡ bit_at rows (63 - (16 * r + 4 * i + c)))
+    (i : ℕ) (lt : i < 4) where
+  -- the cell in one of the columns of a row, at its place in the square
+  in-first : (c j column : ℕ) → c < 4 → j + place_in 0 c ≡ 15 → column ≡ 4 * (4 * part + i) + c
+      → bit_at (cells_among_four squares i) j ≡ cell_in_word upper.north column
+  in-first c j column lc e at =
+      let from : 63 - (16 * 0 + 4 * i + c) ≡ 63 - (4 * i + c) = omega arith in
+      let there : 16 * part + (4 * i + c) ≡ column = omega (arith, at) in
+      square-bit squares i (place_in 0 c) j lt e ∙ moved i 0 c lt (omega arith) lc ∙ ap (bit_at rows) from ∙ first (4 * i + c) (omega (arith, lt, lc))
+      ∙ ap (cell_in_word upper.north) there
 
-pub east-small : (square : ℕ) (rows : TwoWords) → east_at rows square < 16
-east-small square rows = omega arith
+  in-second : (c j column : ℕ) → c < 4 → j + place_in 1 c ≡ 15 → column ≡ 4 * (4 * part + i) + c
+      → bit_at (cells_among_four squares i) j ≡ cell_in_word upper.south column
+  in-second c j column lc e at =
+      let from : 63 - (16 * 1 + 4 * i + c) ≡ 47 - (4 * i + c) = omega arith in
+      let there : 16 * part + (4 * i + c) ≡ column = omega (arith, at) in
+      square-bit squares i (place_in 1 c) j lt e ∙ moved i 1 c lt (omega arith) lc ∙ ap (bit_at rows) from ∙ second (4 * i + c) (omega (arith, lt, lc))
+      ∙ ap (cell_in_word upper.south) there
+
+  in-third : (c j column : ℕ) → c < 4 → j + place_in 2 c ≡ 15 → column ≡ 4 * (4 * part + i) + c
+      → bit_at (cells_among_four squares i) j ≡ cell_in_word lower.north column
+  in-third c j column lc e at =
+      let from : 63 - (16 * 2 + 4 * i + c) ≡ 31 - (4 * i + c) = omega arith in
+      let there : 16 * part + (4 * i + c) ≡ column = omega (arith, at) in
+      square-bit squares i (place_in 2 c) j lt e ∙ moved i 2 c lt (omega arith) lc ∙ ap (bit_at rows) from ∙ third (4 * i + c) (omega (arith, lt, lc))
+      ∙ ap (cell_in_word lower.north) there
+
+  in-fourth : (c j column : ℕ) → c < 4 → j + place_in 3 c ≡ 15 → column ≡ 4 * (4 * part + i) + c
+      → bit_at (cells_among_four squares i) j ≡ cell_in_word lower.south column
+  in-fourth c j column lc e at =
+      let from : 63 - (16 * 3 + 4 * i + c) ≡ 15 - (4 * i + c) = omega arith in
+      let there : 16 * part + (4 * i + c) ≡ column = omega (arith, at) in
+      square-bit squares i (place_in 3 c) j lt e ∙ moved i 3 c lt (omega arith) lc ∙ ap (bit_at rows) from ∙ fourth (4 * i + c) (omega (arith, lt, lc))
+      ∙ ap (cell_in_word lower.south) there
+
+  pub square-among : four (cells_among_four squares i) ≡ square_of_words upper lower (4 * part + i)
+  square-among =
+      let s = 4 * (4 * part + i) in
+      let a0 = in-first 0 15 s (omega arith) refl (omega arith) in
+      let a1 = in-first 1 14 (s + 1) (omega arith) refl (omega arith) in
+      let a2 = in-first 2 11 (s + 2) (omega arith) refl (omega arith) in
+      let a3 = in-first 3 10 (s + 2 + 1) (omega arith) refl (omega arith) in
+      let b0 = in-second 0 13 s (omega arith) refl (omega arith) in
+      let b1 = in-second 1 12 (s + 1) (omega arith) refl (omega arith) in
+      let b2 = in-second 2 9 (s + 2) (omega arith) refl (omega arith) in
+      let b3 = in-second 3 8 (s + 2 + 1) (omega arith) refl (omega arith) in
+      let c0 = in-third 0 7 s (omega arith) refl (omega arith) in
+      let c1 = in-third 1 6 (s + 1) (omega arith) refl (omega arith) in
+      let c2 = in-third 2 3 (s + 2) (omega arith) refl (omega arith) in
+      let c3 = in-third 3 2 (s + 2 + 1) (omega arith) refl (omega arith) in
+      let d0 = in-fourth 0 5 s (omega arith) refl (omega arith) in
+      let d1 = in-fourth 1 4 (s + 1) (omega arith) refl (omega arith) in
+      let d2 = in-fourth 2 1 (s + 2) (omega arith) refl (omega arith) in
+      let d3 = in-fourth 3 0 (s + 2 + 1) (omega arith) refl (omega arith) in
+      four-bits (cells_among_four squares i) (omega arith)
+      ∙ (λ j. quad (quad (point (a0 j)) (point (a1 j)) (point (b0 j)) (point (b1 j))) (quad (point (a2 j)) (point (a3 j)) (point (b2 j)) (point (b3 j)))
+      (quad (point (c0 j)) (point (c1 j)) (point (d0 j)) (point (d1 j))) (quad (point (c2 j)) (point (c3 j)) (point (d2 j)) (point (d3 j))))

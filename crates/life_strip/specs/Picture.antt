@@ -50,8 +50,3 @@ IsNotLast level strips = (last : Strip) → slice_get strips (length strips - 1)
 pub record AreStacked (knows : Id → Type 0) (content : Id → Tree) (strips : List Strip) : Type 0 where
   pub sound : All (IsSoundStrip knows content) strips
   pub falling : AreFalling strips
-
--- a row of cells that the store knows
-pub record IsRow (knows : Id → Type 0) (content : Id → Tree) (s : Strip) : Type 0 where
-  pub sound : IsSoundStrip knows content s
-  pub level : s.level ≡ 0

@@ -1,11 +1,10 @@
 -- Strips: rows of squares of one level, side by side.
 use Rattle.life_base.specs.declared.cell.TheConstants.{MAX_LEVEL}
-use Rattle.std.specs.Prelude.{◌≡◌, ℕ, suc, ◌+◌, ◌-◌, ◌*◌, ◌^◌, ◌<◌, ◌≤◌, ◌⊎◌, nat_lt, nat_le, if◌then◌else◌, List, [], ◌∷◌, drop, All, AllPairs, Option, Some, None, MatchOption, length, get_or}
+use Rattle.std.specs.Prelude.{◌≡◌, ℕ, suc, ◌+◌, ◌-◌, ◌*◌, ◌^◌, ◌<◌, ◌≤◌, nat_lt, nat_le, if◌then◌else◌, List, [], ◌∷◌, drop, All, AllPairs, Option, Some, None, length, get_or}
 use Rattle.life_quad.specs.declared.id.Id.{Id}
 use Rattle.life_quad.specs.declared.moves.Quarters.{Quarters}
 use Rattle.life_base.specs.Tree.{Tree, quad, depth, blank}
 use Rattle.life_strip.specs.declared.spans.Span.{Span}
-use Rattle.life_strip.specs.declared.spans.Stretch.{Stretch}
 use Rattle.life_strip.specs.declared.spans.StripPlace.{StripPlace}
 use Rattle.life_strip.specs.declared.spans.TheConstants.{NEVER}
 
@@ -90,32 +89,6 @@ EndsAfter spans index column = (d : Span) → index < length spans → column < 
 abbrev pub id_or : Id → Option Id → Id
 id_or blank None = blank
 id_or blank (Some id) = id
-
--- the column comes before the end, if there is one
-abbrev pub IsColumnBefore : ℕ → Option ℕ → Type 0
-IsColumnBefore column None = Unit {0}
-IsColumnBefore column (Some end) = column < end
-
--- from the column to before the start no span has a column, and the start lies before the end of the spans
-pub record IsStart (spans : List Span) (column start : ℕ) : Type 0 where
-  pub from : column ≤ start
-  pub none : (c : ℕ) → column ≤ c → c < start → id_at spans c ≡ None
-  pub within : (side : ℕ) → AreBefore side spans → start < side
-
--- one square goes on from the column to the end, or for ever where no span is left
-pub record IsFoundStretch (spans : List Span) (column : ℕ) (blank : Id) (found : Stretch) : Type 0 where
-  pub past : IsPast spans found.index column
-  pub square : (c : ℕ) → column ≤ c → IsColumnBefore c found.end → id_or blank (id_at spans c) ≡ found.square
-  pub beyond : IsColumnBefore column found.end
-  pub ends : MatchOption found.start ((c : ℕ) → EndsAfter spans found.index c) (EndsAfter spans found.index)
-  pub start : MatchOption found.start ((c : ℕ) → column ≤ c → id_at spans c ≡ None) (IsStart spans column)
-  pub last : MatchOption found.end (found.start ≡ None) (λ end. (side : ℕ) → AreBefore side spans → end ≤ side)
-
--- the end is one of the two, and neither comes before it
-pub record IsNearer (end : ℕ) (north south : Option ℕ) : Type 0 where
-  pub one : (north ≡ Some end) ⊎ (south ≡ Some end)
-  pub upper : (column : ℕ) → column < end → IsColumnBefore column north
-  pub lower : (column : ℕ) → column < end → IsColumnBefore column south
 
 -- Seen from the column, where a strip stands: no span has a column from there to before the start, and one square has those from the start to
 -- before the end, where the span at the index ends. Where no span is left, both are beyond every column.

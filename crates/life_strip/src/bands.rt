@@ -1,12 +1,16 @@
 //! Four rows of cells of the states 0 and 1, made into squares of level 2 at once, 64 columns at a time.
-ghost use Rattle.std.specs.Prelude.{◌≡◌, ℕ, ◌+◌, ◌-◌, ◌*◌, ◌^◌, ◌<◌, ◌≤◌, IfSome, IfOk, OnOk};
-ghost use Rattle.life_strip.specs.Words.{Tree, SomePart, four, Grows, IsStrip, AreWithin, FilledTo, Rise, square_at, four_at, cells_at, SomeColumn};
+ghost use Rattle.std.specs.Prelude.{◌≡◌, ℕ, suc, ◌+◌, ◌-◌, ◌*◌, ◌%◌, ◌^◌, ◌<◌, ◌≤◌, IfOk, OnOk};
+ghost use Rattle.life_strip.specs.Words.{Tree, SomePart, four, four_in, Grows, AreRowBlocks, IsStrip, AreWithin, FilledTo, Rise, square_at, cells_among_four, square_of_words, SomeColumn, IsLeastOfFour, block_goes_to};
 
-use crate::spans::{Span, extend, find, nearer, stretch_at};
+use crate::blocks::Block;
+use crate::spans::{NEVER, Span, extend};
 use crate::spare::Spare;
-use crate::words::{TwoWords, blank_from, blank_to, cells_of, next_square, two_words};
+use crate::words::{
+    BlockPlace, TwoWords, blank_from, blank_to, block_end, cells_of, four_squares, next_block,
+    pass_blocks, two_words,
+};
 use life_base::{Kind, MAX_LEVEL};
-use life_quad::{Id, Squares};
+use life_quad::Squares;
 use std::ops::Range;
 
 // A square of level 2 with these cells in some columns east of the others. A blank one has no span.
@@ -32,110 +36,147 @@ fn push_square<S: Squares>(
     extend(spans, columns.start, columns.end, id)
 }
 
-// The squares of level 2 of 64 columns, and the block of columns up to which they go on, where the rows go on to a column of cells.
+// Four squares of level 2 side by side, east of the others.
+#[inline(always)]
+fn push_four<S: Squares>(
+    squares: &mut S,
+    spans: &mut Vec<Span>,
+    cells: u64,
+    column: u64,
+) -> Result<(), Kind>
+    requires { column ≤ 2 ^ MAX_LEVEL }
+    ensures filled { OnOk result ((want : ℕ → Tree)
+        → FilledTo (S.knows squares.old) (S.content squares.old) 2 want spans.old.items column
+        → ((i : ℕ) → i < 4 → want (column + i) ≡ four (cells_among_four cells i))
+        → FilledTo (S.knows squares.new) (S.content squares.new) 2 want spans.new.items
+        (column + 4)) }
+    ensures grows { Grows S.Squares squares.old squares.new result
+        (λ P. (i : ℕ) × (i < 4) × SomePart P (four (cells_among_four cells i))) }
+{
+    let mut square: u64 = 0;
+    while square < 4 {
+        let start = column + square;
+        push_square(squares, spans, cells_of(cells, square), start..start + 1)?;
+        square += 1;
+    }
+    Ok(())
+}
+
+// The squares of level 2 of the columns of a block, or of several blocks where all of them are one square.
 fn push_block<S: Squares>(
     squares: &mut S,
     spans: &mut Vec<Span>,
     upper: TwoWords,
     lower: TwoWords,
     block: u64,
-    end: u64,
-) -> Result<u64, Kind>
-    requires column { 64 * block < end }
-    requires within { end ≤ 2 ^ MAX_LEVEL }
-    ensures beyond { IfOk result (λ next. block < next) }
-    ensures within { IfOk result (λ next. 64 * next ≤ 2 ^ MAX_LEVEL) }
-    ensures filled { IfOk result (λ next. (want : ℕ → Tree)
+    next: u64,
+) -> Result<(), Kind>
+    requires beyond { block < next }
+    requires within { next ≤ 2 ^ (MAX_LEVEL - 6) }
+    requires alike { suc block < next → (i : ℕ) → i < 16
+        → square_of_words upper lower i ≡ square_of_words upper lower 0 }
+    ensures filled { OnOk result ((want : ℕ → Tree)
         → FilledTo (S.knows squares.old) (S.content squares.old) 2 want spans.old.items
-        (16 * block) → ((i : ℕ) → i < 16 → want (16 * block + i) ≡ four (cells_at upper lower i))
-        → ((c : ℕ) → 16 * block < c → 4 * c + 3 < end → want c ≡ want (16 * block))
+        (16 * block) → ((c : ℕ) → 16 * block ≤ c → c < 16 * next
+        → want c ≡ square_of_words upper lower (c % 16))
         → FilledTo (S.knows squares.new) (S.content squares.new) 2 want spans.new.items
         (16 * next)) }
     ensures grows { Grows S.Squares squares.old squares.new result
-        (λ P. (i : ℕ) × (i < 16) × SomePart P (four (cells_at upper lower i))) }
+        (λ P. (i : ℕ) × (i < 16) × SomePart P (square_of_words upper lower i)) }
 {
     let start = 16 * block;
-    let next = end / 64;
-    if block < next {
-        let cells = cells_of(upper, lower, 0);
-        push_square(squares, spans, cells, start..16 * next)?;
-        return Ok(next);
+    if block + 1 < next {
+        let cells = four_squares(upper, lower, 0);
+        return push_square(squares, spans, cells_of(cells, 0), start..16 * next);
     }
     let last = blank_from(upper, lower);
-    let mut square = blank_to(upper, lower, 0);
-    while square < last {
-        let cells = cells_of(upper, lower, square);
-        let after = next_square(upper, lower, square, cells);
-        push_square(squares, spans, cells, start + square..start + after)?;
-        square = after;
+    let mut part = blank_to(upper, lower) / 4;
+    while 4 * part < last {
+        let cells = four_squares(upper, lower, part);
+        push_four(squares, spans, cells, start + 4 * part)?;
+        part += 1;
     }
-    Ok(block + 1)
+    Ok(())
 }
 
-// The strip of level 2 of four rows of cells, if none of their cells has a state above 1.
+// The least of four numbers.
+#[inline(always)]
+fn least(a: u64, b: u64, c: u64, d: u64) -> u64
+    ensures { IsLeastOfFour result a b c d }
+{
+    a.min(b).min(c.min(d))
+}
+
+// The block up to which all four rows go on.
+#[inline(always)]
+fn rows_end(a: BlockPlace, b: BlockPlace, c: BlockPlace, d: BlockPlace, block: u64) -> u64
+    ensures { IsLeastOfFour result (block_goes_to a block) (block_goes_to b block)
+        (block_goes_to c block) (block_goes_to d block) }
+{
+    least(
+        block_end(a, block),
+        block_end(b, block),
+        block_end(c, block),
+        block_end(d, block),
+    )
+}
+
+// For how many spans four short rows get capacity at most.
+const SHORT_ROOM: usize = 256;
+
+// For how many spans four rows get capacity. For rows of one block the least will do, and a block has 16 squares at most. Long rows whose blocks have
+// several squares each make their spans grow, because most rows of single cells far apart need one span for each block.
+fn most_spans(first: &[Block], second: &[Block], third: &[Block], fourth: &[Block]) -> usize {
+    let north = first.len().max(second.len());
+    let most = north.max(third.len()).max(fourth.len());
+    if most > 1 {
+        most.saturating_mul(16).min(SHORT_ROOM).max(most)
+    } else {
+        0
+    }
+}
+
+// The strip of level 2 of four rows of cells of the states 0 and 1.
 pub(crate) fn band_spans<S: Squares>(
     squares: &mut S,
     spare: &mut Spare,
-    first: &[Span],
-    second: &[Span],
-    third: &[Span],
-    fourth: &[Span],
-) -> Result<Option<Vec<Span>>, Kind>
-    requires first { IsStrip (S.knows squares.old) (S.content squares.old) 0 first.now }
-    requires second { IsStrip (S.knows squares.old) (S.content squares.old) 0 second.now }
-    requires third { IsStrip (S.knows squares.old) (S.content squares.old) 0 third.now }
-    requires fourth { IsStrip (S.knows squares.old) (S.content squares.old) 0 fourth.now }
-    requires first_within { AreWithin 0 first.now }
-    requires second_within { AreWithin 0 second.now }
-    requires third_within { AreWithin 0 third.now }
-    requires fourth_within { AreWithin 0 fourth.now }
-    ensures strip { IfOk result (λ r. IfSome r
-        (λ spans. IsStrip (S.knows squares.new) (S.content squares.new) 2 spans.items)) }
-    ensures within { IfOk result (λ r. IfSome r (λ spans. AreWithin 2 spans.items)) }
-    ensures rises { IfOk result (λ r. IfSome r (λ spans. Rise spans.items)) }
-    ensures squares { IfOk result (λ r. IfSome r (λ spans. (column : ℕ)
-        → square_at (S.content squares.new) 2 spans.items column
-        ≡ four_at (S.content squares.old) first.now second.now third.now fourth.now column)) }
+    first: &[Block],
+    second: &[Block],
+    third: &[Block],
+    fourth: &[Block],
+) -> Result<Vec<Span>, Kind>
+    requires first { AreRowBlocks first.now }
+    requires second { AreRowBlocks second.now }
+    requires third { AreRowBlocks third.now }
+    requires fourth { AreRowBlocks fourth.now }
+    ensures strip { IfOk result
+        (λ r. IsStrip (S.knows squares.new) (S.content squares.new) 2 r.items) }
+    ensures within { IfOk result (λ r. AreWithin 2 r.items) }
+    ensures rises { IfOk result (λ r. Rise r.items) }
+    ensures squares { IfOk result (λ r. (column : ℕ)
+        → square_at (S.content squares.new) 2 r.items column
+        ≡ four_in first.now second.now third.now fourth.now column) }
     ensures grows { Grows S.Squares squares.old squares.new result
-        (λ P. SomeColumn (SomePart P) 2
-        (four_at (S.content squares.old) first.now second.now third.now fourth.now)) }
+        (λ P. SomeColumn (SomePart P) 2 (four_in first.now second.now third.now fourth.now)) }
 {
-    let blank = squares.empty(0);
-    let room = first
-        .len()
-        .max(second.len())
-        .max(third.len())
-        .max(fourth.len());
-    let mut spans = spare.take(room)?;
-    let mut block: u64 = 0;
-    let mut a = find(first, 0, 0, blank);
-    let mut b = find(second, 0, 0, blank);
-    let mut c = find(third, 0, 0, blank);
-    let mut d = find(fourth, 0, 0, blank);
-    while let Some(first_column) = nearer(nearer(a.start, b.start), nearer(c.start, d.start)) {
-        // Up to this block all is blank.
-        block = first_column / 64;
-        let start = 64 * block;
-        a = stretch_at(first, a.index, start, blank);
-        b = stretch_at(second, b.index, start, blank);
-        c = stretch_at(third, c.index, start, blank);
-        d = stretch_at(fourth, d.index, start, blank);
-        // A row that has a span has an end.
-        let Some(end) = nearer(nearer(a.end, b.end), nearer(c.end, d.end)) else {
-            return Ok(None);
-        };
-        let Some(upper) = two_words(squares, first, second, a.index, b.index, start) else {
-            return Ok(None);
-        };
-        let Some(lower) = two_words(squares, third, fourth, c.index, d.index, start) else {
-            return Ok(None);
-        };
-        block = push_block(squares, &mut spans, upper, lower, block, end)?;
-        let next = 64 * block;
-        a = find(first, upper.north.index, next, blank);
-        b = find(second, upper.south.index, next, blank);
-        c = find(third, lower.north.index, next, blank);
-        d = find(fourth, lower.south.index, next, blank);
+    let mut spans = spare.take(most_spans(first, second, third, fourth))?;
+    let mut a = next_block(first, 0);
+    let mut b = next_block(second, 0);
+    let mut c = next_block(third, 0);
+    let mut d = next_block(fourth, 0);
+    let mut next: u64 = 0;
+    // Up to here all is blank.
+    let mut block = least(a.start, b.start, c.start, d.start);
+    while block < NEVER {
+        let upper = two_words(a, b, block);
+        let lower = two_words(c, d, block);
+        next = rows_end(a, b, c, d, block);
+        push_block(squares, &mut spans, upper, lower, block, next)?;
+        a = pass_blocks(first, a, next);
+        b = pass_blocks(second, b, next);
+        c = pass_blocks(third, c, next);
+        d = pass_blocks(fourth, d, next);
+        block = least(a.start, b.start, c.start, d.start);
     }
-    Ok(Some(spans))
+    Ok(spans)
 }

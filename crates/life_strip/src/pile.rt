@@ -1,7 +1,8 @@
 //! The rows of the plane that are over.
-ghost use Rattle.std.specs.Prelude.{◌≡◌, ℕ, ◌+◌, ◌^◌, ◌<◌, ◌≤◌, ◌++◌, ◌∷◌, [], All, length, IfOk, OnOk};
-ghost use Rattle.life_strip.specs.Words.{depth, state_at, Grows, picture, height, AreStacked, IsLowest, IsRow, SomeSquare, IsPile, HasClosedRows, SomeOfPile, strips_of};
+ghost use Rattle.std.specs.Prelude.{◌≡◌, ℕ, ◌+◌, ◌^◌, ◌<◌, ◌≤◌, [], All, length, IfOk, OnOk};
+ghost use Rattle.life_strip.specs.Words.{depth, state_at, Grows, AreStacked, IsLowest, IsRow, SomeSquare, IsPile, HasClosedRows, SomeOfPile, pile_height, pile_state, pile_state_with};
 
+use crate::row::Row;
 use crate::rows::{band_strip, blank_level, push_and_raise, push_strip, take_last, whole};
 use crate::spans::Strip;
 use crate::spare::Spare;
@@ -12,10 +13,10 @@ use std::alloc::Global;
 // The rows that are over, from the north: whole bands of four in strips of falling levels, and the rows of the next band.
 #[derive(Drop)]
 pub(crate) struct Pile {
-    alloc: Global,
+    pub(crate) alloc: Global,
     pub(crate) spare: Spare,
     strips: Vec<Strip>,
-    band: Vec<Strip>,
+    band: Vec<Row>,
 }
 
 impl Pile {
@@ -38,7 +39,7 @@ impl Pile {
             self.old.strips.items }
         requires rows { All (IsRow (S.knows squares.old) (S.content squares.old))
             self.old.band.items }
-        requires room { height (strips_of self.old) ≤ 2 ^ MAX_LEVEL }
+        requires room { pile_height self.old ≤ 2 ^ MAX_LEVEL }
         ensures closed { OnOk result (HasClosedRows (S.knows squares.new) (S.content squares.old)
             (S.content squares.new) self.old self.new) }
         ensures grows { Grows S.Squares squares.old squares.new result
@@ -48,7 +49,8 @@ impl Pile {
             return Ok(());
         };
         self.push_rows(squares)?;
-        push_strip(squares, &mut self.spare, &mut self.strips, last)
+        let strip = last.into_strip(squares, &mut self.spare)?;
+        push_strip(squares, &mut self.spare, &mut self.strips, strip)
     }
 
     // A whole band below the strips. It is never inlined, so that `push_row` can be.
@@ -60,7 +62,7 @@ impl Pile {
         requires rows { All (IsRow (S.knows squares.old) (S.content squares.old))
             self.old.band.items }
         requires whole { length self.old.band.items ≡ 4 }
-        requires room { height (strips_of self.old) ≤ 2 ^ MAX_LEVEL }
+        requires room { pile_height self.old ≤ 2 ^ MAX_LEVEL }
         ensures closed { OnOk result (HasClosedRows (S.knows squares.new) (S.content squares.old)
             (S.content squares.new) self.old self.new) }
         ensures grows { Grows S.Squares squares.old squares.new result
@@ -69,25 +71,25 @@ impl Pile {
         let Some(strip) = band_strip(squares, &mut self.spare, self.band.as_slice())? else {
             return self.push_rows(squares);
         };
-        self.spare.give_all(&mut self.band);
+        self.spare.give_rows(&mut self.band);
         push_strip(squares, &mut self.spare, &mut self.strips, strip)
     }
 
     // One row more, below the others. Four rows become a strip of level 2.
     #[inline(always)]
-    fn push_row<S: Squares>(&mut self, squares: &mut S, row: Strip) -> Result<(), Kind>
+    fn push_row<S: Squares>(&mut self, squares: &mut S, row: Row) -> Result<(), Kind>
         requires pile { IsPile (S.knows squares.old) (S.content squares.old) self.old }
         requires row { IsRow (S.knows squares.old) (S.content squares.old) row }
-        requires room { height (strips_of self.old) + 1 ≤ 2 ^ MAX_LEVEL }
+        requires room { pile_height self.old + 1 ≤ 2 ^ MAX_LEVEL }
         ensures pile { OnOk result (IsPile (S.knows squares.new) (S.content squares.new) self.new) }
         ensures height { OnOk result
-            (height (strips_of self.new) ≡ height (strips_of self.old) + 1) }
+            (pile_height self.new ≡ pile_height self.old + 1) }
         ensures picture { OnOk result ((column j : ℕ)
-            → picture (S.content squares.new) (strips_of self.new) column j
-            ≡ picture (S.content squares.old) (strips_of self.old ++ row ∷ []) column j) }
+            → pile_state (S.content squares.new) self.new column j
+            ≡ pile_state_with (S.content squares.old) self.old row column j) }
         ensures grows { Grows S.Squares squares.old squares.new result
-            (λ P. SomeSquare P (height (strips_of self.old) + 1)
-            (picture (S.content squares.old) (strips_of self.old ++ row ∷ []))) }
+            (λ P. SomeSquare P (pile_height self.old + 1)
+            (pile_state_with (S.content squares.old) self.old row)) }
     {
         self.band.push(row)?;
         if self.band.len() < 4 {
@@ -100,25 +102,21 @@ impl Pile {
     #[inline(always)]
     fn skip_rows<S: Squares>(&mut self, squares: &mut S, count: u64) -> Result<(), Kind>
         requires pile { IsPile (S.knows squares.old) (S.content squares.old) self.old }
-        requires room { height (strips_of self.old) + count ≤ 2 ^ MAX_LEVEL }
+        requires room { pile_height self.old + count ≤ 2 ^ MAX_LEVEL }
         ensures pile { OnOk result (IsPile (S.knows squares.new) (S.content squares.new) self.new) }
         ensures height { OnOk result
-            (height (strips_of self.new) ≡ height (strips_of self.old) + count) }
+            (pile_height self.new ≡ pile_height self.old + count) }
         ensures picture { OnOk result ((column row : ℕ)
-            → picture (S.content squares.new) (strips_of self.new) column row
-            ≡ picture (S.content squares.old) (strips_of self.old) column row) }
+            → pile_state (S.content squares.new) self.new column row
+            ≡ pile_state (S.content squares.old) self.old column row) }
         ensures grows { Grows S.Squares squares.old squares.new result
-            (λ P. SomeSquare P (height (strips_of self.old) + count)
-            (picture (S.content squares.old) (strips_of self.old))) }
+            (λ P. SomeSquare P (pile_height self.old + count)
+            (pile_state (S.content squares.old) self.old)) }
     {
         let mut rest = count;
         while rest > 0 {
             if rest < 4 || !self.band.is_empty() {
-                let row = Strip {
-                    level: 0,
-                    spans: Vec::new(self.alloc),
-                };
-                self.push_row(squares, row)?;
+                self.push_row(squares, Row::new(self.alloc))?;
                 rest -= 1;
                 continue;
             }
@@ -144,24 +142,24 @@ impl Pile {
     pub(crate) fn end_row<S: Squares>(
         &mut self,
         squares: &mut S,
-        row: Strip,
+        row: Row,
         blank_rows: u64,
     ) -> Result<(), Kind>
         requires pile { IsPile (S.knows squares.old) (S.content squares.old) self.old }
         requires row { IsRow (S.knows squares.old) (S.content squares.old) row }
-        requires room { height (strips_of self.old) + 1 + blank_rows ≤ 2 ^ MAX_LEVEL }
+        requires room { pile_height self.old + 1 + blank_rows ≤ 2 ^ MAX_LEVEL }
         ensures pile { OnOk result (IsPile (S.knows squares.new) (S.content squares.new) self.new) }
         ensures height { OnOk result
-            (height (strips_of self.new) ≡ height (strips_of self.old) + 1 + blank_rows) }
+            (pile_height self.new ≡ pile_height self.old + 1 + blank_rows) }
         ensures picture { OnOk result ((column j : ℕ)
-            → picture (S.content squares.new) (strips_of self.new) column j
-            ≡ picture (S.content squares.old) (strips_of self.old ++ row ∷ []) column j) }
+            → pile_state (S.content squares.new) self.new column j
+            ≡ pile_state_with (S.content squares.old) self.old row column j) }
         ensures grows { Grows S.Squares squares.old squares.new result
-            (λ P. SomeSquare P (height (strips_of self.old) + 1 + blank_rows)
-            (picture (S.content squares.old) (strips_of self.old ++ row ∷ []))) }
+            (λ P. SomeSquare P (pile_height self.old + 1 + blank_rows)
+            (pile_state_with (S.content squares.old) self.old row)) }
     {
         // The first row of the plane is begun without cells: it is skipped with those below it, in the fewest strips.
-        if row.spans.is_empty() {
+        if row.is_empty() {
             return self.skip_rows(squares, blank_rows + 1);
         }
         self.push_row(squares, row)?;
@@ -172,20 +170,20 @@ impl Pile {
     pub(crate) fn whole_plane<S: Squares>(
         self,
         squares: &mut S,
-        row: Strip,
+        row: Row,
         blank_rows: u64,
     ) -> Result<Id, Kind>
         requires pile { IsPile (S.knows squares.old) (S.content squares.old) self }
         requires row { IsRow (S.knows squares.old) (S.content squares.old) row }
-        requires whole { height (strips_of self) + 1 + blank_rows ≡ 2 ^ MAX_LEVEL }
+        requires whole { pile_height self + 1 + blank_rows ≡ 2 ^ MAX_LEVEL }
         ensures known { IfOk result (S.knows squares.new) }
         ensures level { IfOk result (λ r. depth (S.content squares.new r) ≡ MAX_LEVEL) }
         ensures cells { IfOk result (λ r. (column j : ℕ) → column < 2 ^ MAX_LEVEL
             → j < 2 ^ MAX_LEVEL → state_at (S.content squares.new r) column j
-            ≡ picture (S.content squares.old) (strips_of self ++ row ∷ []) column j) }
+            ≡ pile_state_with (S.content squares.old) self row column j) }
         ensures grows { Grows S.Squares squares.old squares.new result
             (λ P. SomeSquare P (2 ^ MAX_LEVEL)
-            (picture (S.content squares.old) (strips_of self ++ row ∷ []))) }
+            (pile_state_with (S.content squares.old) self row)) }
     {
         let mut pile = self;
         pile.end_row(squares, row, blank_rows)?;

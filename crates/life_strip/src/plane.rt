@@ -3,7 +3,7 @@ ghost use Rattle.std.specs.Prelude.{◌≡◌, ℤ, pos, neg_ℤ, nat_abs, ◌+�
 ghost use Rattle.life_strip.specs.Words.{depth, tree_cell, Grows, IsRunOnPlane, half_plane, SomeSquare, IsFilled, IsUnfilled, IsFree, AddsRun, BeginsRow, state_so_far, cell_so_far};
 
 use crate::pile::Pile;
-use crate::spans::{Strip, extend};
+use crate::row::Row;
 use life_base::{Kind, MAX_LEVEL, Run};
 use life_quad::{Id, Squares};
 use std::alloc::Global;
@@ -22,7 +22,7 @@ pub(crate) struct Plane {
     pile: Pile,
     rows: u64,
     // The row that follows, as far as it was given.
-    row: Strip,
+    row: Row,
 }
 
 // The column or the row of a coordinate, counted from the edge of the plane.
@@ -42,10 +42,7 @@ impl Plane {
         Plane {
             pile: Pile::new(alloc),
             rows: 0,
-            row: Strip {
-                level: 0,
-                spans: Vec::new(alloc),
-            },
+            row: Row::new(alloc),
         }
     }
 
@@ -60,10 +57,7 @@ impl Plane {
         ensures grows { Grows S.Squares squares.old squares.new result
             (λ P. SomeSquare P row (state_so_far (S.content squares.old) self.old)) }
     {
-        // Rows that follow one another are mostly alike, so a row gets capacity for a few more spans than the one before it has.
-        let room = self.row.spans.len() / 8 * 9 + 2;
-        let spans = self.pile.spare.take(room)?;
-        let next = Strip { level: 0, spans };
+        let next = self.row.begin_next(self.pile.alloc, &mut self.pile.spare)?;
         let begun = mem::replace(&mut self.row, next);
         self.pile.end_row(squares, begun, row - self.rows - 1)?;
         self.rows = row;
@@ -108,8 +102,9 @@ impl Plane {
         let column = offset(run.x);
         let row = offset(run.y);
         self.go_to_row(squares, row)?;
-        let square = squares.cell(run.state);
-        extend(&mut self.row.spans, column, column + run.len, square)
+        let spare = &mut self.pile.spare;
+        self.row
+            .add(squares, spare, column, column + run.len, run.state)
     }
 
     // The square of the whole plane.

@@ -1,10 +1,11 @@
 //! Strips one below the other.
-ghost use Rattle.std.specs.Prelude.{◌≡◌, ℕ, suc, ◌+◌, ◌-◌, ◌^◌, ◌<◌, ◌≤◌, ◌++◌, ◌∷◌, [], All, length, MatchOption, IfSome, IfOk, OnOk};
-ghost use Rattle.life_strip.specs.Words.{depth, state_at, Grows, quad_at, picture, height, AreFalling, AreStacked, IsLowest, IsNotLast, IsRow, IsSoundStrip, IsStack, SomeColumn, SomeSquare};
+ghost use Rattle.std.specs.Prelude.{◌≡◌, ℕ, suc, ◌+◌, ◌-◌, ◌^◌, ◌<◌, ◌≤◌, ◌++◌, ◌∷◌, [], All, length, IsTrue, MatchOption, IfSome, IfOk, OnOk};
+ghost use Rattle.life_strip.specs.Words.{depth, state_at, Grows, quad_at, picture, height, AreFalling, AreStacked, IsLowest, IsNotLast, IsRow, IsSoundStrip, IsStack, rows_state, SomeColumn, SomeSquare};
 
 use crate::bands::band_spans;
+use crate::row::Row;
 use crate::single::{only_column, pair_only};
-use crate::spans::{Strip, find, pair};
+use crate::spans::{Strip, first_square, pair};
 use crate::spare::Spare;
 use life_base::{Kind, MAX_LEVEL};
 use life_quad::{Id, Squares};
@@ -206,11 +207,23 @@ pub(crate) fn blank_level(strips: &[Strip], rows: u64) -> u8
     }
 }
 
-// The strip of level 2 of four rows, if none of their cells has a state above 1.
+// Whether no row has spans.
+fn have_blocks(rows: &[Row]) -> bool
+    ensures { IsTrue result → All (λ row. row.spans.items ≡ []) rows.now }
+{
+    for row in rows {
+        if !row.spans.is_empty() {
+            return false;
+        }
+    }
+    true
+}
+
+// The strip of level 2 of four rows, if all of them are rows of blocks.
 pub(crate) fn band_strip<S: Squares>(
     squares: &mut S,
     spare: &mut Spare,
-    rows: &[Strip],
+    rows: &[Row],
 ) -> Result<Option<Strip>, Kind>
     requires count { length rows.now ≡ 4 }
     requires rows { All (IsRow (S.knows squares.old) (S.content squares.old)) rows.now }
@@ -219,18 +232,19 @@ pub(crate) fn band_strip<S: Squares>(
     ensures level { IfOk result (λ r. IfSome r (λ s. s.level ≡ 2)) }
     ensures picture { IfOk result (λ r. IfSome r (λ s. (column row : ℕ)
         → picture (S.content squares.new) (s ∷ []) column row
-        ≡ picture (S.content squares.old) rows.now column row)) }
+        ≡ rows_state (S.content squares.old) rows.now column row)) }
     ensures grows { Grows S.Squares squares.old squares.new result
-        (λ P. SomeSquare P 4 (picture (S.content squares.old) rows.now)) }
+        (λ P. SomeSquare P 4 (rows_state (S.content squares.old) rows.now)) }
 {
-    let first = rows[0].spans.as_slice();
-    let second = rows[1].spans.as_slice();
-    let third = rows[2].spans.as_slice();
-    let fourth = rows[3].spans.as_slice();
-    match band_spans(squares, spare, first, second, third, fourth)? {
-        Some(spans) => Ok(Some(Strip { level: 2, spans })),
-        None => Ok(None),
+    if !have_blocks(rows) {
+        return Ok(None);
     }
+    let first = rows[0].blocks.as_slice();
+    let second = rows[1].blocks.as_slice();
+    let third = rows[2].blocks.as_slice();
+    let fourth = rows[3].blocks.as_slice();
+    let spans = band_spans(squares, spare, first, second, third, fourth)?;
+    Ok(Some(Strip { level: 2, spans }))
 }
 
 // The square of strips that fill the plane.
@@ -245,7 +259,7 @@ pub(crate) fn whole<S: Squares>(squares: &S, strips: &[Strip]) -> Id
 {
     let blank = squares.empty(MAX_LEVEL);
     match strips.first() {
-        Some(strip) => find(strip.spans.as_slice(), 0, 0, blank).square,
+        Some(strip) => first_square(strip.spans.as_slice(), blank),
         None => blank,
     }
 }

@@ -1,6 +1,6 @@
 //! Strips of squares, and how two of them make one of the next level.
 ghost use Rattle.std.specs.Prelude.{◌≡◌, ℕ, suc, ◌+◌, ◌-◌, ◌*◌, ◌^◌, ◌<◌, ◌≤◌, ◌++◌, Some, None, MatchOption, length, take, slice_get, IfOk, IfErr, OnOk};
-ghost use Rattle.life_strip.specs.Words.{SpanValue, ArePieces, CanJoin, IsWalk, quad_of, with_squares, blank, Grows, GrowsOnly, IsStrip, AreBefore, AreWithin, HaveColumns, IsPaired, EndsAfter, IsPast, IsFoundStretch, IsNearer, IsExtended, IsAt, Rise, quad_at, square_in, goes_to, SomeColumn, IsMemory};
+ghost use Rattle.life_strip.specs.Words.{SpanValue, ArePieces, CanJoin, IsWalk, quad_of, with_squares, blank, Grows, GrowsOnly, IsStrip, AreBefore, AreWithin, HaveColumns, IsPaired, EndsAfter, IsPast, id_at, id_or, IsExtended, IsAt, Rise, quad_at, square_in, goes_to, SomeColumn, IsMemory};
 
 use crate::spare::Spare;
 use life_base::{Kind, MAX_LEVEL};
@@ -19,17 +19,6 @@ pub(crate) struct Span {
 pub(crate) struct Strip {
     pub(crate) level: u8,
     pub(crate) spans: Vec<Span>,
-}
-
-// The square in a column, how far it goes on, and the place of the span that is there or comes next.
-#[derive(Clone, Copy)]
-pub(crate) struct Stretch {
-    pub(crate) index: usize,
-    // A column from this one on before which no span has one, if a span is left.
-    pub(crate) start: Option<u64>,
-    // The column where the square ends, if a span is left.
-    pub(crate) end: Option<u64>,
-    pub(crate) square: Id,
 }
 
 // A column beyond every plane.
@@ -73,55 +62,6 @@ struct Walk {
 
 // How many squares of a strip are joined at once at most.
 const BATCH: usize = 32;
-
-// The square in a column, where the spans before `from` end before it.
-pub(crate) fn find(spans: &[Span], from: usize, column: u64, blank: Id) -> Stretch
-    requires columns { HaveColumns spans.now }
-    requires past { IsPast spans.now from column }
-    ensures { IsFoundStretch spans.now column blank result }
-{
-    // Whether the first span ends before the column is mostly chance, so that step takes no branch.
-    let mut index = from;
-    if index < spans.len() {
-        index += (spans[index].end <= column) as usize;
-    }
-    while index < spans.len() && spans[index].end <= column {
-        index += 1;
-    }
-    stretch_at(spans, index, column, blank)
-}
-
-// The same where the span at the index, if there is one, ends after the column.
-pub(crate) fn stretch_at(spans: &[Span], index: usize, column: u64, blank: Id) -> Stretch
-    requires columns { HaveColumns spans.now }
-    requires past { IsPast spans.now index column }
-    requires ends { EndsAfter spans.now index column }
-    ensures { IsFoundStretch spans.now column blank result }
-{
-    if index >= spans.len() {
-        return Stretch {
-            index,
-            start: None,
-            end: None,
-            square: blank,
-        };
-    }
-    let span = spans[index];
-    if column < span.start {
-        return Stretch {
-            index,
-            start: Some(span.start),
-            end: Some(span.start),
-            square: blank,
-        };
-    }
-    Stretch {
-        index,
-        start: Some(column),
-        end: Some(span.end),
-        square: span.square,
-    }
-}
 
 // The place of a strip in a column, where the spans before the index end before it and the span there, if there is one, ends after it.
 #[inline(always)]
@@ -179,6 +119,14 @@ fn square_of(place: StripPlace, column: u64, blank: Id) -> Id
     } else {
         blank
     }
+}
+
+// The square in the first column.
+pub(crate) fn first_square(spans: &[Span], blank: Id) -> Id
+    requires { HaveColumns spans.now }
+    ensures { result ≡ id_or blank (id_at spans.now 0) }
+{
+    square_of(place_at(spans, 0, 0, blank), 0, blank)
 }
 
 // The column up to which it goes on.
@@ -283,18 +231,6 @@ fn join_at<S: Squares>(
         north: four.north,
         south: four.south,
     })
-}
-
-// The nearer of two ends.
-pub(crate) fn nearer(north: Option<u64>, south: Option<u64>) -> Option<u64>
-    ensures { MatchOption result ((north ≡ None) × (south ≡ None))
-        (λ end. IsNearer end north south) }
-{
-    match (north, south) {
-        (Some(north), Some(south)) => Some(north.min(south)),
-        (Some(north), None) => Some(north),
-        (None, south) => south,
-    }
 }
 
 // The column after the last span.

@@ -1,22 +1,54 @@
-//! Vectors of spans that are not used any more, and wait for the next strip.
+//! Vectors that are not used any more, and wait for the next row or strip.
 ghost use Rattle.std.specs.Prelude.{◌≡◌, [], IfOk, IfErr};
 ghost use Rattle.life_strip.specs.Words.{IsMemory};
 
-use crate::spans::{Span, Strip};
+use crate::blocks::Block;
+use crate::row::Row;
+use crate::spans::Span;
 use life_base::Kind;
 use std::alloc::Global;
 
-// For how many spans a vector that waits has capacity at most, so that no more memory than that waits with it.
+// For how many items a vector that waits has capacity at most, so that no more memory than that waits with it.
 const MOST_ROOM: usize = 256;
 
-// For how many spans a new vector has capacity at least.
+// For how many items a new vector has capacity at least.
 const LEAST_ROOM: usize = 8;
 
-// Vectors whose spans are of no more use. Short strips come one after the other, and each would ask the allocator for a vector of its own.
+// Vectors whose items are of no more use. Short rows and strips come one after the other, and each would ask the allocator for a vector of its own.
 #[derive(Drop)]
 pub(crate) struct Spare {
     alloc: Global,
-    vectors: Vec<Vec<Span>>,
+    spans: Vec<Vec<Span>>,
+    blocks: Vec<Vec<Block>>,
+}
+
+// A vector without items, with capacity for so many: one that waits, if it has it.
+#[inline(always)]
+fn take_from<T: Drop>(alloc: Global, waiting: &mut Vec<Vec<T>>, room: usize) -> Result<Vec<T>, Kind>
+    ensures empty { IfOk result (λ items. items.items ≡ []) }
+    ensures refusals { IfErr result IsMemory }
+{
+    if room <= MOST_ROOM {
+        if let Some(vector) = waiting.pop() {
+            if room <= vector.capacity() {
+                let mut items = vector;
+                items.clear();
+                return Ok(items);
+            }
+        }
+    }
+    let items = Vec::with_capacity(alloc, room.max(LEAST_ROOM))?;
+    Ok(items)
+}
+
+// Keeps a vector whose items are of no more use. One without memory of its own is dropped, a long one goes back to the allocator, and so does
+// one for which there is no place here.
+#[inline(always)]
+fn give_to<T: Drop>(waiting: &mut Vec<Vec<T>>, items: Vec<T>) {
+    let room = items.capacity();
+    if LEAST_ROOM <= room && room <= MOST_ROOM {
+        let _refused = waiting.push(items).is_err();
+    }
 }
 
 impl Spare {
@@ -24,7 +56,8 @@ impl Spare {
     pub(crate) fn new(alloc: Global) -> Spare {
         Spare {
             alloc,
-            vectors: Vec::new(alloc),
+            spans: Vec::new(alloc),
+            blocks: Vec::new(alloc),
         }
     }
 
@@ -33,35 +66,35 @@ impl Spare {
         ensures empty { IfOk result (λ spans. spans.items ≡ []) }
         ensures refusals { IfErr result IsMemory }
     {
-        if room <= MOST_ROOM {
-            if let Some(vector) = self.vectors.pop() {
-                if room <= vector.capacity() {
-                    let mut spans = vector;
-                    spans.clear();
-                    return Ok(spans);
-                }
-            }
-        }
-        let spans = Vec::with_capacity(self.alloc, room.max(LEAST_ROOM))?;
-        Ok(spans)
+        take_from(self.alloc, &mut self.spans, room)
     }
 
-    // Keeps a vector whose spans are of no more use. One without memory of its own is dropped, a long one goes back to the allocator, and so does
-    // one for which there is no place here.
+    // Keeps a vector whose spans are of no more use.
     #[inline(always)]
     pub(crate) fn give(&mut self, spans: Vec<Span>) {
-        let room = spans.capacity();
-        if LEAST_ROOM <= room && room <= MOST_ROOM {
-            let _refused = self.vectors.push(spans).is_err();
-        }
+        give_to(&mut self.spans, spans);
     }
 
-    // Keeps the vectors of strips.
-    pub(crate) fn give_all(&mut self, strips: &mut Vec<Strip>)
-        ensures { strips.new.items ≡ [] }
+    // A vector without blocks, with capacity for so many.
+    pub(crate) fn take_blocks(&mut self, room: usize) -> Result<Vec<Block>, Kind>
+        ensures empty { IfOk result (λ blocks. blocks.items ≡ []) }
+        ensures refusals { IfErr result IsMemory }
     {
-        while let Some(strip) = strips.pop() {
-            self.give(strip.spans);
+        take_from(self.alloc, &mut self.blocks, room)
+    }
+
+    // Keeps a vector whose blocks are of no more use.
+    #[inline(always)]
+    pub(crate) fn give_blocks(&mut self, blocks: Vec<Block>) {
+        give_to(&mut self.blocks, blocks);
+    }
+
+    // Keeps the vectors of rows without spans.
+    pub(crate) fn give_rows(&mut self, rows: &mut Vec<Row>)
+        ensures { rows.new.items ≡ [] }
+    {
+        while let Some(row) = rows.pop() {
+            self.give_blocks(row.blocks);
         }
     }
 }

@@ -1,181 +1,180 @@
 //! Rows of cells of the states 0 and 1, 64 columns at a time: a word has a bit for each column, and that of the westernmost is the highest.
-ghost use Rattle.std.specs.Prelude.{◌≡◌, ℕ, ◌+◌, ◌-◌, ◌*◌, ◌/◌, ◌%◌, ◌^◌, ◌<◌, ◌≤◌, IfSome, bit_or};
-ghost use Rattle.life_strip.specs.Words.{point, IsStrip, HaveColumns, IsPast, cell_in_spans, IsWordOfCells, nibble_of, west_at, east_at, cells_at};
+ghost use Rattle.std.specs.Prelude.{◌≡◌, ℕ, ◌+◌, ◌-◌, ◌*◌, ◌<◌, ◌≤◌, bit_or};
+ghost use Rattle.life_strip.specs.Words.{four, blank, AreRowBlocks, IsPastBlocks, IsAtBlock, word_in, block_goes_to, bit_at, cell_in_word, place_in, cells_among_four, square_of_words};
 
-use crate::spans::Span;
-use life_base::MAX_LEVEL;
-use life_quad::{Id, Squares};
+use crate::blocks::Block;
+use crate::spans::NEVER;
+use life_lanes::exchange;
 
-// The cells of 64 columns of a row, and where the last of these columns is.
+// The place of a row at a block of 64 columns: the block of cells that is there or comes next, without its columns before that one.
 #[derive(Clone, Copy)]
-pub(crate) struct Word {
-    pub(crate) cells: u64,
+pub(crate) struct BlockPlace {
     pub(crate) index: usize,
+    // `NEVER` if no block is left.
+    pub(crate) start: u64,
+    // `NEVER` if no block is left.
+    pub(crate) end: u64,
+    pub(crate) cells: u64,
 }
 
 // The words of two rows, one below the other.
 #[derive(Clone, Copy)]
 pub(crate) struct TwoWords {
-    pub(crate) north: Word,
-    pub(crate) south: Word,
+    pub(crate) north: u64,
+    pub(crate) south: u64,
 }
 
-// The state of a cell, if it is 0 or 1. In a soup each cell is the one of state 1, which is known beforehand.
+// The place of a row where the block at the index comes next.
 #[inline(always)]
-fn bit<S: Squares>(squares: &S, one: Id, cell: Id) -> Option<u64>
-    requires one { S.content squares.now one ≡ point 1 }
-    requires cell { S.knows squares.now cell }
-    ensures square { IfSome result (λ b. S.content squares.now cell ≡ point b) }
-    ensures small { IfSome result (λ b. b ≤ 1) }
+pub(crate) fn next_block(blocks: &[Block], index: usize) -> BlockPlace
+    requires { AreRowBlocks blocks.now }
+    ensures { (number : ℕ) → number < NEVER → IsPastBlocks blocks.now index number
+        → IsAtBlock blocks.now number result }
 {
-    if cell == one {
-        return Some(1);
+    if index < blocks.len() {
+        let block = blocks[index];
+        return BlockPlace {
+            index,
+            start: block.start,
+            end: block.end,
+            cells: block.cells,
+        };
     }
-    let state = squares.state(cell)?;
-    if state > 1 {
-        return None;
+    BlockPlace {
+        index,
+        start: NEVER,
+        end: NEVER,
+        cells: 0,
     }
-    Some(u64::from(state))
 }
 
-// The bits of all columns but the first ones.
-fn bits_after(columns: u64) -> u64
-    requires { columns < 64 }
-    ensures { result + 1 ≡ 2 ^ (64 - columns) }
+// The place at a later block, no later than where the one before ends.
+#[inline(always)]
+pub(crate) fn pass_blocks(blocks: &[Block], place: BlockPlace, number: u64) -> BlockPlace
+    requires blocks { AreRowBlocks blocks.now }
+    requires place { (before : ℕ) × (before ≤ number) × IsAtBlock blocks.now before place }
+    requires reach { number ≤ place.end }
+    requires number { number < NEVER }
+    ensures { IsAtBlock blocks.now number result }
 {
-    u64::MAX >> columns
+    if number < place.end {
+        return BlockPlace {
+            start: place.start.max(number),
+            ..place
+        };
+    }
+    next_block(blocks, place.index + 1)
 }
 
-// The word of a row that begins in a column, if none of its cells has a state above 1.
-pub(crate) fn read_word<S: Squares>(
-    squares: &S,
-    row: &[Span],
-    from: usize,
-    start: u64,
-) -> Option<Word>
-    requires start { start ≤ 2 ^ MAX_LEVEL }
-    requires row { IsStrip (S.knows squares.now) (S.content squares.now) 0 row.now }
-    requires columns { HaveColumns row.now }
-    requires past { IsPast row.now from start }
-    ensures cells { IfSome result
-        (λ w. IsWordOfCells (cell_in_spans (S.content squares.now) row.now) start w.cells) }
-    ensures past { IfSome result (λ w. IsPast row.now w.index (start + 64)) }
+// The word of a row at a block before the end of its place.
+#[inline(always)]
+fn word_of(place: BlockPlace, number: u64) -> u64
+    ensures { result ≡ word_in place number }
 {
-    let one = squares.cell(1);
-    let mut cells = 0;
-    let mut index = from;
-    let mut column = start;
-    while index < row.len() && row[index].end < start + 64 {
-        let span = row[index];
-        if column < span.end {
-            let from = bits_after(column.max(span.start) - start);
-            let after = bits_after(span.end - start);
-            cells += bit(squares, one, span.square)? * (from - after);
-            column = span.end;
-        }
-        index += 1;
+    if place.start <= number {
+        place.cells
+    } else {
+        0
     }
-    if index < row.len() && row[index].start < start + 64 {
-        let from = bits_after(column.max(row[index].start) - start);
-        cells += bit(squares, one, row[index].square)? * from;
+}
+
+// The block up to which it goes on.
+#[inline(always)]
+pub(crate) fn block_end(place: BlockPlace, number: u64) -> u64
+    ensures { result ≡ block_goes_to place number }
+{
+    if place.start <= number {
+        place.end
+    } else {
+        place.start
     }
-    Some(Word { cells, index })
 }
 
 // The words of two rows.
 #[inline(always)]
-pub(crate) fn two_words<S: Squares>(
-    squares: &S,
-    upper: &[Span],
-    lower: &[Span],
-    north: usize,
-    south: usize,
-    start: u64,
-) -> Option<TwoWords>
-    requires start { start ≤ 2 ^ MAX_LEVEL }
-    requires upper { IsStrip (S.knows squares.now) (S.content squares.now) 0 upper.now }
-    requires lower { IsStrip (S.knows squares.now) (S.content squares.now) 0 lower.now }
-    requires upper_columns { HaveColumns upper.now }
-    requires lower_columns { HaveColumns lower.now }
-    requires north { IsPast upper.now north start }
-    requires south { IsPast lower.now south start }
-    ensures north { IfSome result
-        (λ r. IsWordOfCells (cell_in_spans (S.content squares.now) upper.now) start r.north.cells) }
-    ensures south { IfSome result
-        (λ r. IsWordOfCells (cell_in_spans (S.content squares.now) lower.now) start r.south.cells) }
-    ensures north_past { IfSome result (λ r. IsPast upper.now r.north.index (start + 64)) }
-    ensures south_past { IfSome result (λ r. IsPast lower.now r.south.index (start + 64)) }
+pub(crate) fn two_words(north: BlockPlace, south: BlockPlace, number: u64) -> TwoWords
+    ensures north { result.north ≡ word_in north number }
+    ensures south { result.south ≡ word_in south number }
 {
-    let north = read_word(squares, upper, north, start)?;
-    let south = read_word(squares, lower, south, start)?;
-    Some(TwoWords { north, south })
+    TwoWords {
+        north: word_of(north, number),
+        south: word_of(south, number),
+    }
 }
 
-// The four cells of a word in the columns of a square of level 2.
-fn nibble(word: u64, square: u64) -> u16
-    requires { square < 16 }
-    ensures { result ≡ nibble_of word square }
+// The sixteen columns of a part of four words, one row after the other.
+#[inline(always)]
+fn sixteen_columns(upper: TwoWords, lower: TwoWords, part: u64) -> u64
+    requires { part < 4 }
+    ensures first { (k : ℕ) → k < 16
+        → bit_at result (63 - k) ≡ cell_in_word upper.north (16 * part + k) }
+    ensures second { (k : ℕ) → k < 16
+        → bit_at result (47 - k) ≡ cell_in_word upper.south (16 * part + k) }
+    ensures third { (k : ℕ) → k < 16
+        → bit_at result (31 - k) ≡ cell_in_word lower.north (16 * part + k) }
+    ensures fourth { (k : ℕ) → k < 16
+        → bit_at result (15 - k) ≡ cell_in_word lower.south (16 * part + k) }
 {
-    ((word >> (60 - 4 * square)) % 16) as u16
+    let shift = 48 - 16 * part;
+    let first = (upper.north >> shift) % 0x1_0000;
+    let second = (upper.south >> shift) % 0x1_0000;
+    let third = (lower.north >> shift) % 0x1_0000;
+    let fourth = (lower.south >> shift) % 0x1_0000;
+    ((first * 0x1_0000 + second) * 0x1_0000 + third) * 0x1_0000 + fourth
 }
 
-// The cells of two rows, each the western and the eastern square of level 1.
-fn halves(rows: TwoWords, square: u64) -> (u16, u16)
-    requires { square < 16 }
-    ensures west { result.0 ≡ west_at rows square }
-    ensures east { result.1 ≡ east_at rows square }
+// The cells of the four squares of level 2 of sixteen columns, one square after the other. Those of each quarter are together.
+#[inline(always)]
+fn by_squares(rows: u64) -> u64
+    ensures { (i r c : ℕ) → i < 4 → r < 4 → c < 4
+        → bit_at result (63 - (16 * i + place_in r c)) ≡ bit_at rows (63 - (16 * r + 4 * i + c)) }
 {
-    let north = nibble(rows.north.cells, square);
-    let south = nibble(rows.south.cells, square);
-    (north / 4 * 4 + south / 4, north % 4 * 4 + south % 4)
+    let halves = exchange(rows, 0x0000_0000_FF00_FF00, 24);
+    let squares = exchange(halves, 0x0000_F0F0_0000_F0F0, 12);
+    exchange(squares, 0x0C0C_0C0C_0C0C_0C0C, 2)
 }
 
-// The cells of a square of level 2, as `Squares::find_small` takes them.
-pub(crate) fn cells_of(upper: TwoWords, lower: TwoWords, square: u64) -> u16
-    requires { square < 16 }
-    ensures { result ≡ cells_at upper lower square }
+// The cells of the four squares of level 2 in a part of four words.
+#[inline(always)]
+pub(crate) fn four_squares(upper: TwoWords, lower: TwoWords, part: u64) -> u64
+    requires { part < 4 }
+    ensures { (i : ℕ) → i < 4
+        → four (cells_among_four result i) ≡ square_of_words upper lower (4 * part + i) }
 {
-    let (nw, ne) = halves(upper, square);
-    let (sw, se) = halves(lower, square);
-    4096 * nw + 256 * ne + 16 * sw + se
+    by_squares(sixteen_columns(upper, lower, part))
+}
+
+// The cells of one of four squares, as `Squares::small` takes them.
+#[inline(always)]
+pub(crate) fn cells_of(squares: u64, square: u64) -> u16
+    requires { square < 4 }
+    ensures { result ≡ cells_among_four squares square }
+{
+    ((squares >> (48 - 16 * square)) % 0x1_0000) as u16
 }
 
 // The cells of all four rows.
+#[inline(always)]
 fn all_rows(upper: TwoWords, lower: TwoWords) -> u64
-    ensures { result ≡ bit_or
-        (bit_or (bit_or upper.north.cells upper.south.cells) lower.north.cells) lower.south.cells }
+    ensures { result ≡ bit_or (bit_or (bit_or upper.north upper.south) lower.north) lower.south }
 {
-    upper.north.cells | upper.south.cells | lower.north.cells | lower.south.cells
+    upper.north | upper.south | lower.north | lower.south
 }
 
-// The first square of level 2 from this one on with a cell, or the one after the last.
-pub(crate) fn blank_to(upper: TwoWords, lower: TwoWords, square: u64) -> u64
-    requires { square < 16 }
+// The first square of level 2 with a cell, or the one after the last.
+#[inline(always)]
+pub(crate) fn blank_to(upper: TwoWords, lower: TwoWords) -> u64
     ensures within { result ≤ 16 }
-    ensures blank { (i : ℕ) → square ≤ i → i < result → cells_at upper lower i ≡ 0 }
+    ensures blank { (i : ℕ) → i < result → square_of_words upper lower i ≡ blank 2 }
 {
-    let rest = all_rows(upper, lower) & bits_after(4 * square);
-    u64::from(rest.leading_zeros() / 4)
+    u64::from(all_rows(upper, lower).leading_zeros() / 4)
 }
 
 // The square of level 2 after the last one with a cell.
+#[inline(always)]
 pub(crate) fn blank_from(upper: TwoWords, lower: TwoWords) -> u64
     ensures within { result ≤ 16 }
-    ensures blank { (i : ℕ) → result ≤ i → i < 16 → cells_at upper lower i ≡ 0 }
+    ensures blank { (i : ℕ) → result ≤ i → i < 16 → square_of_words upper lower i ≡ blank 2 }
 {
     16 - u64::from(all_rows(upper, lower).trailing_zeros() / 4)
-}
-
-// The square of level 2 before which the one with these cells goes on at least: as far as it is blank, and else for one column.
-pub(crate) fn next_square(upper: TwoWords, lower: TwoWords, square: u64, cells: u16) -> u64
-    requires { square < 16 }
-    ensures beyond { square < result }
-    ensures within { result ≤ 16 }
-    ensures goes_on { (i : ℕ) → square ≤ i → i < result
-        → cells_at upper lower i ≡ cells_at upper lower square }
-{
-    if cells > 0 {
-        return square + 1;
-    }
-    blank_to(upper, lower, square).max(square + 1)
 }

@@ -95,7 +95,7 @@ fn blank<S: Squares>(out: &mut Answer, squares: &S, id: Id)
 }
 
 /// Adds what a step asks of a square of the list.
-pub(crate) fn asked<S: Squares>(
+pub(crate) fn answer_question<S: Squares>(
     out: &mut Answer,
     squares: &S,
     ids: &[Id],
@@ -142,7 +142,7 @@ fn show_cells(out: &mut Answer, list: &[Cell]) {
 }
 
 /// Adds the cells of a square, so many at most.
-fn listed<S: Squares>(
+fn add_cells<S: Squares>(
     alloc: Global,
     out: &mut Answer,
     squares: &S,
@@ -163,7 +163,12 @@ fn listed<S: Squares>(
 }
 
 /// Adds how many live cells a square has.
-fn counted<S: Store>(alloc: Global, out: &mut Answer, squares: &S, id: Id) -> Result<(), Unanswered>
+fn add_population<S: Store>(
+    alloc: Global,
+    out: &mut Answer,
+    squares: &S,
+    id: Id,
+) -> Result<(), Unanswered>
     requires known { S.knows squares.now id }
     requires high { 1 ≤ depth (S.content squares.now id) }
 {
@@ -218,8 +223,8 @@ pub(crate) fn measured<S: Store>(
     }
     match measure {
         Measure::Divide => named_quarters(out, squares, ids, id),
-        Measure::Cells => return listed(alloc, out, squares, id, numbers[1]),
-        Measure::Population => return counted(alloc, out, squares, id),
+        Measure::Cells => return add_cells(alloc, out, squares, id, numbers[1]),
+        Measure::Population => return add_population(alloc, out, squares, id),
         Measure::Bounds => return bounded(alloc, out, squares, id),
     }
     Ok(())

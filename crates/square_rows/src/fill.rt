@@ -169,7 +169,7 @@ fn built<S: Squares>(alloc: Global, squares: &mut S, runs: &[u8]) -> Result<Buil
 }
 
 /// The plane with the runs of a text.
-pub(crate) fn filled<S: Squares>(
+pub(crate) fn fill_plane<S: Squares>(
     alloc: Global,
     squares: &mut S,
     runs: &[u8],

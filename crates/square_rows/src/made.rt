@@ -5,7 +5,7 @@ ghost use Rattle.life_base.specs.Tree.{depth};
 ghost use Rattle.life_quad.specs.Grows.{KeepsStore};
 
 use crate::answer::Unanswered;
-use crate::fill::{filled, put, run_at};
+use crate::fill::{fill_plane, put, run_at};
 use crate::step::{Change, Make, New, Step};
 use life_base::{MAX_LEVEL, Run};
 use life_quad::{Id, Squares, grow, trim};
@@ -69,7 +69,7 @@ fn quarter<S: Squares>(squares: &mut S, cells: i64) -> Result<Id, Unanswered>
 }
 
 /// The square of four quarters of one level.
-fn joined<S: Squares>(squares: &mut S, parts: [Id; 4]) -> Result<Id, Unanswered>
+fn join_parts<S: Squares>(squares: &mut S, parts: [Id; 4]) -> Result<Id, Unanswered>
     requires { All (S.knows squares.old) parts }
     ensures known { IfOk result (S.knows squares.new) }
     ensures keeps { KeepsStore S.Squares squares.old squares.new }
@@ -147,7 +147,7 @@ fn changed<S: Squares>(
     let [first, second, third, fourth, fifth] = numbers;
     let id = square_at(squares, ids, first)?;
     match change {
-        Change::Join => joined(squares, four(squares, ids, [first, second, third, fourth])?),
+        Change::Join => join_parts(squares, four(squares, ids, [first, second, third, fourth])?),
         Change::Put => with_run(squares, id, run_at(second, third, fourth, fifth)?),
         Change::Grow => larger(squares, id),
         Change::Trim => least(squares, id, second),
@@ -169,7 +169,7 @@ fn begun<S: Squares>(
         New::Cell => cell(squares, step.numbers[0]),
         New::Small => small(squares, step.numbers[0]),
         New::Quarter => quarter(squares, step.numbers[0]),
-        New::Rows => filled(alloc, squares, step.runs),
+        New::Rows => fill_plane(alloc, squares, step.runs),
     }
 }
 

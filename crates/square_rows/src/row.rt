@@ -3,7 +3,7 @@
 ghost use Rattle.std.specs.Prelude.{◌≤◌, ◌^◌, All, IfOk, OnOk};
 
 use crate::answer::{Answer, Unanswered};
-use crate::asked::{asked, found, measured, remembered, show_place};
+use crate::asked::{answer_question, found, measured, remembered, show_place};
 use crate::fill::unfinished;
 use crate::made::made;
 use crate::step::{Make, Step, Verb, step_of};
@@ -93,7 +93,7 @@ fn take_step<S: Store>(
 {
     match step.verb {
         Verb::Make(make) => take_square(alloc, out, squares, ids, make, step),
-        Verb::Ask(question) => asked(out, squares, ids, question, step.numbers[0]),
+        Verb::Ask(question) => answer_question(out, squares, ids, question, step.numbers[0]),
         Verb::Measure(measure) => measured(alloc, out, squares, ids, measure, step.numbers),
         Verb::Find => found(out, squares, ids, step.numbers[0]),
         Verb::Remember => remembered(alloc, out, ids),

@@ -26,7 +26,7 @@ find-returns-in-Some-clause-least g t c =
 pub find-returns-in-Some-clause-right : goal.find-returns-in-Some-clause-right
 find-returns-in-Some-clause-right g t c =
     let R : Id → ℕ → Type 0 = λ q v. v ≢ UNKNOWN → IsLeastNumber (HasCellAt c.args.side (g.S.Squares.content c.args.squares.now q)) v in
-    after_set R _ (value_of_id c.set.new.self) _ _ c.in_ok-distance.ensures.right c.set.ensures.only (λ known. find-returns-in-Some-clause-least g t c)
+    after_set R _ (value_of_id c.keep.new.known) _ _ c.in_ok-distance.ensures.right c.keep.ensures.only (λ known. find-returns-in-Some-clause-least g t c)
 
 pub find-returns-in_default-2-clause-least : goal.find-returns-in_default-2-clause-least
 find-returns-in_default-2-clause-least g t c =
@@ -46,7 +46,7 @@ find-returns-clause-least g t c =
 pub find-returns-clause-right : goal.find-returns-clause-right
 find-returns-clause-right g t c =
     let R : Id → ℕ → Type 0 = λ q v. v ≢ UNKNOWN → IsLeastNumber (HasCellAt c.args.side (g.S.Squares.content c.args.squares.now q)) v in
-    after_set R _ (value_of_id c.set-2.new.self) _ _ c.in_ok-distance-2.ensures.right c.set-2.ensures.only (λ known. find-returns-clause-least g t c)
+    after_set R _ (value_of_id c.keep-2.new.known) _ _ c.in_ok-distance-2.ensures.right c.keep-2.ensures.only (λ known. find-returns-clause-least g t c)
 
 pub find_in_two-returns-clause-least : goal.find_in_two-returns-clause-least
 find_in_two-returns-clause-least g t c =

@@ -1,89 +1,110 @@
-use Rattle.std.proofs.Common.{◌≡◌, ℕ, ◌+◌, ◌*◌, ◌/◌, ◌<◌, ◌≤◌, arith, sym, ◌∙◌, ap, subst}
+use Rattle.std.proofs.Common.{◌≡◌, ℕ, ◌+◌, ◌*◌, ◌/◌, ◌%◌, ◌<◌, ◌≤◌, arith, sym, ◌∙◌, ap, subst}
+use Rattle.std.proofs.lemmas.Result.{on_ok_weaker}
 use Rattle.life_base.specs.Tree.{Tree}
 use Rattle.life_quad.specs.Refused.{SomePart}
 use Rattle.life_quad.specs.Store.{four}
 use Rattle.life_quad.proofs.KeepingLemmas.{keeps-then, keeps-same, adds-none, adds-then}
-use Rattle.life_quad.proofs.GrowsLemmas.{grows-behind, grows-err, grows-ok, grows-still}
+use Rattle.life_quad.proofs.GrowsLemmas.{grows-as, grows-behind, grows-err, grows-still}
 use Rattle.life_strip.specs.declared.words.TwoWords.{TwoWords}
-use Rattle.life_strip.specs.Band.{cells_at}
+use Rattle.life_strip.specs.Band.{cells_among_four, square_of_words}
 use Rattle.life_strip.specs.Strip.{FilledTo}
-use Rattle.life_strip.proofs.SpanLemmas.{from-first, filled-skip}
-use Rattle.life_strip.proofs.StretchLemmas.{same-columns, blank-columns}
+use Rattle.life_strip.proofs.SpanLemmas.{filled-skip}
+use Rattle.life_strip.proofs.StretchLemmas.{blank-columns}
 use Rattle.life_strip.proofs.bands.push_block.Goals as goal
 
--- a square of the cells in some columns is one of those that the call needs
-one-of : (upper lower : TwoWords) (square cells : ℕ) → cells ≡ cells_at upper lower square → square < 16 → (P : Tree → Type 0) → SomePart P (four cells)
-    → (i : ℕ) × (i < 16) × SomePart P (four (cells_at upper lower i))
-one-of upper lower square cells same within P n = (square, within, subst (λ (k : ℕ). SomePart P (four k)) same n)
+-- the squares of one block, one by one
+by-one : (want : ℕ → Tree) (upper lower : TwoWords) (block next : ℕ) → block < next
+    → ((c : ℕ) → 16 * block ≤ c → c < 16 * next → want c ≡ square_of_words upper lower (c % 16))
+    → (i : ℕ) → i < 16 → want (16 * block + i) ≡ square_of_words upper lower i
+by-one want upper lower block next beyond squares i lt =
+    let place : (16 * block + i) % 16 ≡ i = omega (arith, lt) in
+    squares (16 * block + i) (omega arith) (omega (arith, beyond, lt)) ∙ ap (square_of_words upper lower) place
+
+-- the first square, by its cells
+first-square : (upper lower : TwoWords) (squares cells : ℕ) → ((i : ℕ) → i < 4 → four (cells_among_four squares i) ≡ square_of_words upper lower (4 * 0 + i))
+    → cells ≡ cells_among_four squares 0 → four cells ≡ square_of_words upper lower 0
+first-square upper lower squares cells are same = ap four same ∙ are 0 (omega arith)
+
+-- one of the four squares of a part is one of those that the call needs
+one-of : (upper lower : TwoWords) (part squares : ℕ) → part < 4
+    → ((i : ℕ) → i < 4 → four (cells_among_four squares i) ≡ square_of_words upper lower (4 * part + i)) → (P : Tree → Type 0)
+    → (i : ℕ) × (i < 4) × SomePart P (four (cells_among_four squares i)) → (i : ℕ) × (i < 16) × SomePart P (square_of_words upper lower i)
+one-of upper lower part squares within are P n =
+    let inside = n.1 in
+    (4 * part + n.0, omega (arith, within, inside), subst (SomePart P) (are n.0 inside) n.2)
 
 pub returns-then-block-next-clause-filled : goal.returns-then-block-next-clause-filled
-returns-then-block-next-clause-filled g c want p squares on =
-    let same : 16 * c.args.block ≡ 16 * c.args.block + 0 = omega arith in
-    let first : want (16 * c.args.block) ≡ four c.cells_of-cells.result = ap want same ∙ squares 0 (omega arith) ∙ ap four (sym c.cells_of-cells.ensures) in
-    c.in_ok-push_square.ensures.filled want p
-    (from-first want (four c.cells_of-cells.result) (16 * c.args.block) (16 * (c.args.end / 64)) first (λ x lo hi. on x lo (omega (arith, hi))))
-
-pub loop-square-preserved : goal.loop-square-preserved
-loop-square-preserved g c =
-    let inv = c.loop-square.invariant in
-    let h = c.in_ok-push_square-2.ensures in
-    let n = c.next_square-after.ensures in
-    let block = c.args.block in
-    let square = c.loop-square.square in
-    let after = c.next_square-after.result in
-    let alike = λ (want : ℕ → Tree) (squares : (i : ℕ) → i < 16 → want (16 * block + i) ≡ four (cells_at c.args.upper c.args.lower i)) (x : ℕ)
-    (le : 16 * block + square ≤ x) (lt : x < 16 * block + after).
-    same-columns want c.args.upper c.args.lower block square after n.within squares n.goes_on x le lt
-    ∙ ap four (sym c.cells_of-cells-in-loop-square.ensures) in (
-      (λ want p squares. h.filled want (inv.0 want p squares) (alike want squares)),
-      keeps-then inv.1 h.grows.keeps,
-      n.within,
-      adds-then _ inv.3 h.grows.adds (λ P k. k)
-          (one-of c.args.upper c.args.lower square c.cells_of-cells-in-loop-square.result c.cells_of-cells-in-loop-square.ensures
-          (omega (arith, c.loop-square-test.true, c.blank_from-last.ensures.within))),
-    )
-
-pub loop-square-init : goal.loop-square-init
-loop-square-init g c = (
-  λ want p squares. let r = c.blank_to-square.ensures in
-      filled-skip (g.S.Squares.knows c.args.squares.now) (g.S.Squares.content c.args.squares.now) 2 want c.args.spans.now.items (16 * c.args.block)
-      (16 * c.args.block + c.blank_to-square.result) p (omega arith)
-      (λ x le lt. blank-columns want c.args.upper c.args.lower c.args.block 0 c.blank_to-square.result r.within squares
-      (λ i from before. r.blank i from before) x (omega (arith, le)) lt),
-  keeps-same c.args.squares.now,
-  c.blank_to-square.ensures.within,
-  adds-none _ c.args.squares.now,
-)
-
-pub returns-clause-filled : goal.returns-clause-filled
-returns-clause-filled g c want p squares on =
-    let inv = c.loop-square.invariant in
-    let next : 16 * c.args.block + 16 ≡ 16 * (c.args.block + 1) = omega arith in
-    let behind = c.loop-square-test.false in
-    subst (λ k. FilledTo (g.S.Squares.knows c.loop-square.squares) (g.S.Squares.content c.loop-square.squares) 2 want c.loop-square.spans.items k) next
-    (filled-skip (g.S.Squares.knows c.loop-square.squares) (g.S.Squares.content c.loop-square.squares) 2 want c.loop-square.spans.items
-    (16 * c.args.block + c.loop-square.square) (16 * c.args.block + 16) (inv.0 want p squares) (omega (arith, inv.2))
-    (λ x le lt. blank-columns want c.args.upper c.args.lower c.args.block c.loop-square.square 16 (omega arith) squares
-    (λ i from before. c.blank_from-last.ensures.blank i (omega (arith, behind, from)) before) x le lt))
-
-pub returns-in_err-push_square-clause-grows : goal.returns-in_err-push_square-clause-grows
-returns-in_err-push_square-clause-grows g c =
-    grows-err _ c.in_err-push_square.ensures.grows c.from_residual.ensures.1
-    (one-of c.args.upper c.args.lower 0 c.cells_of-cells.result c.cells_of-cells.ensures (omega arith))
+returns-then-block-next-clause-filled g c =
+    let first = first-square c.args.upper c.args.lower c.four_squares-cells.result c.cells_of.result c.four_squares-cells.ensures c.cells_of.ensures in
+    on_ok_weaker c.push_square.result
+    (λ filled want p squares. filled want p (λ x lo hi. squares x lo hi
+    ∙ c.requires.alike (omega (arith, c.if-block-next.true)) (x % 16) (omega arith) ∙ sym first))
+    c.push_square.ensures.filled
 
 pub returns-then-block-next-clause-grows : goal.returns-then-block-next-clause-grows
 returns-then-block-next-clause-grows g c =
-    grows-ok _ c.in_ok-push_square.ensures.grows
-    (one-of c.args.upper c.args.lower 0 c.cells_of-cells.result c.cells_of-cells.ensures (omega arith))
+    let first = first-square c.args.upper c.args.lower c.four_squares-cells.result c.cells_of.result c.four_squares-cells.ensures c.cells_of.ensures in
+    grows-as _ c.push_square.ensures.grows (λ P n. (0, omega arith, subst (SomePart P) first n))
 
-pub returns-in_err-push_square-2-clause-grows : goal.returns-in_err-push_square-2-clause-grows
-returns-in_err-push_square-2-clause-grows g c =
-    let inv = c.loop-square.invariant in
-    let M = λ (P : Tree → Type 0). (i : ℕ) × (i < 16) × SomePart P (four (cells_at c.args.upper c.args.lower i)) in
-    grows-err M (grows-behind M inv.1 inv.3 c.in_err-push_square-2.ensures.grows
-    (one-of c.args.upper c.args.lower c.loop-square.square c.cells_of-cells-in-loop-square.result c.cells_of-cells-in-loop-square.ensures
-    (omega (arith, c.loop-square-test.true, c.blank_from-last.ensures.within))))
-    c.from_residual-in_err-push_square-2.ensures.1 (λ P n. n)
+pub loop-part-init : goal.loop-part-init
+loop-part-init g c =
+    let r = c.blank_to-part.ensures in
+    let part = c.blank_to-part.result / 4 in
+    record {
+      filled = λ want p squares.
+          filled-skip (g.S.Squares.knows c.args.squares.now) (g.S.Squares.content c.args.squares.now) 2 want c.args.spans.now.items (16 * c.args.block)
+          (16 * c.args.block + 4 * part) p (omega arith)
+          (λ x le lt. blank-columns want c.args.upper c.args.lower c.args.block 0 (4 * part) (omega (arith, r.within)) squares
+          (λ i from before. r.blank i (omega (arith, before))) x (omega (arith, le)) lt);
+      keeps = keeps-same c.args.squares.now;
+      within = omega (arith, r.within);
+      adds = adds-none _ c.args.squares.now;
+    }
+
+pub loop-part-preserved : goal.loop-part-preserved
+loop-part-preserved g c =
+    let inv = c.loop-part.invariant in
+    let h = c.in_ok-push_four.ensures in
+    let block = c.args.block in
+    let part = c.loop-part.part in
+    let within : part < 4 = omega (arith, c.loop-part-test.true, c.blank_from-last.ensures.within) in
+    let are = c.four_squares-cells-in-loop-part.ensures in
+    let next : 16 * block + 4 * part + 4 ≡ 16 * block + 4 * (part + 1) = omega arith in
+    record {
+      filled = λ want p squares.
+          subst (FilledTo (g.S.Squares.knows c.push_four.new.squares) (g.S.Squares.content c.push_four.new.squares) 2 want c.push_four.new.spans.items) next
+          (h.filled want (inv.filled want p squares)
+          (λ i lt. let place : 16 * block + 4 * part + i ≡ 16 * block + (4 * part + i) = omega arith in
+          ap want place ∙ squares (4 * part + i) (omega (arith, within, lt)) ∙ sym (are i lt)));
+      keeps = keeps-then inv.keeps h.grows.keeps;
+      within = omega (arith, within);
+      adds = adds-then _ inv.adds h.grows.adds (λ P k. k)
+          (one-of c.args.upper c.args.lower part c.four_squares-cells-in-loop-part.result within are);
+    }
+
+pub returns-clause-filled : goal.returns-clause-filled
+returns-clause-filled g c want p squares =
+    let inv = c.loop-part.invariant in
+    let block = c.args.block in
+    let part = c.loop-part.part in
+    let next : 16 * block + 16 ≡ 16 * c.args.next = omega (arith, c.requires.beyond, c.if-block-next.false) in
+    let behind = c.loop-part-test.false in
+    let one = by-one want c.args.upper c.args.lower block c.args.next c.requires.beyond squares in
+    subst (FilledTo (g.S.Squares.knows c.loop-part.squares) (g.S.Squares.content c.loop-part.squares) 2 want c.loop-part.spans.items) next
+    (filled-skip (g.S.Squares.knows c.loop-part.squares) (g.S.Squares.content c.loop-part.squares) 2 want c.loop-part.spans.items (16 * block + 4 * part)
+    (16 * block + 16) (inv.filled want p one) (omega (arith, inv.within))
+    (λ x le lt. blank-columns want c.args.upper c.args.lower block (4 * part) 16 (omega arith) one
+    (λ i from before. c.blank_from-last.ensures.blank i (omega (arith, behind, from)) before) x le lt))
+
+pub returns-in_err-push_four-clause-grows : goal.returns-in_err-push_four-clause-grows
+returns-in_err-push_four-clause-grows g c =
+    let inv = c.loop-part.invariant in
+    let part = c.loop-part.part in
+    let within : part < 4 = omega (arith, c.loop-part-test.true, c.blank_from-last.ensures.within) in
+    let M = λ (P : Tree → Type 0). (i : ℕ) × (i < 16) × SomePart P (square_of_words c.args.upper c.args.lower i) in
+    grows-err M (grows-behind M inv.keeps inv.adds c.in_err-push_four.ensures.grows
+    (one-of c.args.upper c.args.lower part c.four_squares-cells-in-loop-part.result within c.four_squares-cells-in-loop-part.ensures))
+    c.from_residual.ensures.1 (λ P n. n)
 
 pub returns-clause-grows : goal.returns-clause-grows
-returns-clause-grows g c = let inv = c.loop-square.invariant in grows-still _ inv.1 inv.3 tt
+returns-clause-grows g c = let inv = c.loop-part.invariant in grows-still _ inv.keeps inv.adds tt

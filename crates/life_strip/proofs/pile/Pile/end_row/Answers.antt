@@ -1,33 +1,27 @@
-use Rattle.std.proofs.Common.{◌≡◌, ◌∙◌, List, [], ◌∷◌, arith, length, refl, sym}
-use Rattle.life_quad.proofs.GrowsLemmas.{grows-as, grows-then, grows-err}
-use Rattle.life_strip.specs.Pile.{strips_of}
-use Rattle.life_strip.specs.declared.spans.Span.{Span}
-use Rattle.life_strip.proofs.NeededLemmas.{SomeSquare-same}
-use Rattle.life_strip.proofs.PictureLemmas.{picture-blank}
-use Rattle.life_strip.proofs.pile.Pile.end_row.Given.{Over}
-use Rattle.life_strip.proofs.pile.Pile.end_row.Goals as goal
-use Rattle.life_strip.proofs.pile.Pile.end_row.Goals.{After-drop-row}
+use Rattle.std.proofs.Common.{◌∙◌, arith, refl, sym}
 use Rattle.std.proofs.lemmas.Result.{on_ok_weaker}
-
-no_spans : (xs : List Span) → length xs ≡ 0 → xs ≡ []
-no_spans [] e = refl
-no_spans (x ∷ xs) e = absurd (omega (arith, e))
-
--- the row has no cells
-blank : (g : Over) (c : After-drop-row g) → c.args.row.spans.items ≡ []
-blank g c = no_spans c.args.row.spans.items (grind (arith, c.is_empty.ensures, c.if-is_empty.true))
+use Rattle.life_quad.proofs.GrowsLemmas.{grows-as, grows-then, grows-err}
+use Rattle.life_strip.proofs.NeededLemmas.{SomeSquare-same}
+use Rattle.life_strip.proofs.RowLemmas.{with-blank}
+use Rattle.life_strip.proofs.pile.Pile.end_row.Goals as goal
 
 pub returns-then-is_empty-clause-picture : goal.returns-then-is_empty-clause-picture
 returns-then-is_empty-clause-picture g c =
+    let pile = c.args.self.now in
+    let empty = c.is_empty.ensures in
     on_ok_weaker c.skip_rows.result
-    (λ e i j. e i j ∙ sym (picture-blank (g.S.Squares.content c.args.squares.now) (strips_of c.args.self.now) c.args.row (blank g c) i j))
+    (λ e i j. e i j ∙ sym (with-blank (g.S.Squares.content c.args.squares.now) pile.strips.items pile.band.items c.args.row
+    (empty.blocks c.if-is_empty.true) (empty.spans c.if-is_empty.true) i j))
     c.skip_rows.ensures.picture
 
 pub returns-then-is_empty-clause-grows : goal.returns-then-is_empty-clause-grows
 returns-then-is_empty-clause-grows g c =
+    let pile = c.args.self.now in
+    let empty = c.is_empty.ensures in
     grows-as _ c.skip_rows.ensures.grows (λ P n.
     SomeSquare-same (omega arith) (λ i j.
-    sym (picture-blank (g.S.Squares.content c.args.squares.now) (strips_of c.args.self.now) c.args.row (blank g c) i j)) n)
+    sym (with-blank (g.S.Squares.content c.args.squares.now) pile.strips.items pile.band.items c.args.row
+    (empty.blocks c.if-is_empty.true) (empty.spans c.if-is_empty.true) i j)) n)
 
 pub returns-clause-height : goal.returns-clause-height
 returns-clause-height g c = on_ok_weaker c.skip_rows-2.result (λ e. e ∙ (omega (arith, c.in_ok-push_row.ensures.height))) c.skip_rows-2.ensures.height

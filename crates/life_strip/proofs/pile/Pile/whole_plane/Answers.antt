@@ -1,8 +1,10 @@
-use Rattle.std.proofs.Common.{arith, refl, sym, ◌∙◌, ap, subst}
+use Rattle.std.proofs.Common.{arith, length, refl, sym, ◌∙◌, ap, subst}
 use Rattle.life_quad.proofs.GrowsLemmas.{grows-err, grows-ok}
 use Rattle.life_strip.specs.Picture.{picture, height, AreStacked}
+use Rattle.life_strip.specs.Row.{state_with_rows}
 use Rattle.life_strip.proofs.NeededLemmas.{SomeSquare-same}
 use Rattle.life_strip.proofs.BandPictures.{band-over}
+use Rattle.life_strip.proofs.RowLemmas.{with-none}
 use Rattle.life_strip.proofs.pile.Pile.whole_plane.Goals as goal
 
 pub end_row-requires-clause-pile : goal.end_row-requires-clause-pile
@@ -22,16 +24,17 @@ whole-requires-clause-strips g c =
 pub whole-requires-clause-full : goal.whole-requires-clause-full
 whole-requires-clause-full g c =
     let r = c.in_ok-end_row.ensures in
-    let all = r.height ∙ c.requires.whole in
-    let alone = band-over (g.S.Squares.knows c.end_row.new.squares) (g.S.Squares.content c.end_row.new.squares) c.end_row.new.self r.pile all in
-    ap height (c.as_slice.ensures.value ∙ sym alone) ∙ all
+    let none = ap length (band-over c.end_row.new.self r.pile.lowest r.pile.few (r.height ∙ c.requires.whole)) in
+    ap height c.as_slice.ensures.value ∙ (omega (arith, none, r.height, c.requires.whole))
 
 pub returns-clause-cells : goal.returns-clause-cells
 returns-clause-cells g c i j li lj =
     let C = g.S.Squares.content c.end_row.new.squares in
     let r = c.in_ok-end_row.ensures in
-    let alone = band-over (g.S.Squares.knows c.end_row.new.squares) C c.end_row.new.self r.pile (r.height ∙ c.requires.whole) in
-    c.whole.ensures.cells i j li lj ∙ ap (λ z. picture C z i j) (c.as_slice.ensures.value ∙ sym alone) ∙ r.picture i j
+    let strips = c.end_row.new.self.strips.items in
+    let none = band-over c.end_row.new.self r.pile.lowest r.pile.few (r.height ∙ c.requires.whole) in
+    c.whole.ensures.cells i j li lj ∙ ap (λ z. picture C z i j) c.as_slice.ensures.value ∙ sym (with-none C strips i j)
+    ∙ ap (λ z. state_with_rows C strips z i j) (sym none) ∙ r.picture i j
 
 pub returns-in_err-end_row-clause-grows : goal.returns-in_err-end_row-clause-grows
 returns-in_err-end_row-clause-grows g c =
