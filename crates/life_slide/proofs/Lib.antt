@@ -1,7 +1,9 @@
+pub mod EntryLemmas
 pub mod LeafLemmas
 pub mod MarginLemmas
 pub mod MovedLemmas
 pub mod NeedLemmas
+pub mod PartLemmas
 pub mod PlaneLemmas
 pub mod SeenLemmas
 pub mod SlideLemmas

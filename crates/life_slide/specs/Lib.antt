@@ -1,5 +1,6 @@
 pub mod Margins
 pub mod Needed
+pub mod Parts
 pub mod Pieces
 pub mod Remembered
 pub mod Words

@@ -1,6 +1,6 @@
 //! Squares of one level side by side.
 ghost use Rattle.std.specs.Prelude.{◌≡◌, ℕ, ℤ, ◌+◌, ◌^◌, true};
-ghost use Rattle.life_slide.specs.Words.{IsOfLevel, AllOfThree, AllOfFour, AllOfNine, InBlock, IsBlock, AreNinePieces, AreFourPieces, AreTwo, step_ahead, start, four_values, three_from, western_quarters, eastern_quarters, ids_of_quarters};
+ghost use Rattle.life_slide.specs.Words.{IsOfLevel, AllOfThree, AllOfFour, AllOfNine, InBlock, IsBlock, AreNinePieces, AreFourPieces, AreTwo, step_ahead, start, four_values, three_from, western_quarters, eastern_quarters};
 
 use life_quad::{Id, Quarters, Squares, divide};
 
@@ -139,12 +139,4 @@ pub(crate) fn are_all(block: &Quarters, id: Id) -> bool
     ensures { result ≡ true → InBlock (λ other. other ≡ id) block.now }
 {
     block.nw == id && block.ne == id && block.sw == id && block.se == id
-}
-
-/// The four squares as nine Ids, for a memory of nine: the first again in place of the other five.
-pub(crate) fn ids(block: &Quarters) -> [Id; 9]
-    ensures { result ≡ ids_of_quarters block.now }
-{
-    let Quarters { nw, ne, sw, se } = *block;
-    [nw, ne, sw, se, nw, nw, nw, nw, nw]
 }

@@ -1,14 +1,13 @@
 //! The square that begins at another place.
 ghost use Rattle.std.specs.Prelude.{◌≡◌, ℕ, ℤ, ◌+◌, ◌^◌, ◌%◌, ◌/◌, ◌==◌, ◌<◌, ◌≤◌, IfOk, IfErr, OnErr};
-ghost use Rattle.life_slide.specs.Words.{MAX_LEVEL, SomeOfBlock, SomeOfNineSquares, RemembersSlides, IsPiece, IsOfLevel, InBlock, AllOfNine, IsBlock, AreNinePieces, HasBlockAt, step_ahead, AreMargins, AddsOnly, KeepsStore, IsShortageIn};
+ghost use Rattle.life_slide.specs.Words.{MAX_LEVEL, SomeOfBlock, SomeOfNineSquares, RemembersSlides, IsPiece, IsOfLevel, InBlock, AllOfNine, IsBlock, AreNinePieces, HasBlockAt, step_ahead, AreViews, AddsOnly, KeepsStore, IsShortageIn};
 
 use crate::grid::{Nine, are_all, eastern, quarters, western};
 use crate::leaf::leaf_cells;
-use crate::margins::MarginTable;
-use crate::remembered::{recalled, remember};
-use crate::seen::seen;
+use crate::remembered::{Answers, recalled, remember};
+use crate::seen::{Views, seen};
 use life_base::{Kind, MAX_LEVEL};
-use life_quad::{Id, NeighbourhoodMemory, Quarters, SharedSquares, Squares};
+use life_quad::{Id, Quarters, SharedSquares, Squares};
 use std::alloc::Global;
 
 /// How far east and south a square begins. For a square of level k only the lowest k binary digits of both count.
@@ -21,7 +20,7 @@ pub struct Offset {
 }
 
 // The digit of an offset that counts squares of this level.
-fn digit(offset: u64, level: u8) -> bool
+pub(crate) fn digit(offset: u64, level: u8) -> bool
     requires { level ≤ MAX_LEVEL }
     ensures { result ≡ (offset / 2 ^ level % 2 == 1) }
 {
@@ -33,21 +32,23 @@ fn digit(offset: u64, level: u8) -> bool
 fn slid_of<S: Squares, T: Squares>(
     from: &S,
     to: &mut T,
-    memory: &mut NeighbourhoodMemory,
-    margins: &mut MarginTable,
+    answers: &mut Answers,
+    views: &mut Views,
     offset: Offset,
     level: u8,
     block: &Quarters,
 ) -> Result<Id, Kind>
     requires remembers { RemembersSlides (S.knows from.now) (S.content from.now) (T.knows to.old)
-        (T.content to.old) offset.columns offset.rows memory.old }
-    requires right { AreMargins (S.content from.now) margins.old }
+        (T.content to.old) offset.columns offset.rows answers.old.table }
+    requires right { AreViews (S.knows from.now) (S.content from.now) offset.columns offset.rows
+        views.old }
     requires known { InBlock (IsOfLevel (S.knows from.now) (S.content from.now) level) block.now }
     requires high { level ≤ MAX_LEVEL }
     ensures at { IfOk result (IsOfLevel (T.knows to.new) (T.content to.new) level) }
     ensures remembers { IfOk result (λ _. RemembersSlides (S.knows from.now) (S.content from.now)
-        (T.knows to.new) (T.content to.new) offset.columns offset.rows memory.new) }
-    ensures right { IfOk result (λ _. AreMargins (S.content from.now) margins.new) }
+        (T.knows to.new) (T.content to.new) offset.columns offset.rows answers.new.table) }
+    ensures right { IfOk result (λ _. AreViews (S.knows from.now) (S.content from.now)
+        offset.columns offset.rows views.new) }
     ensures slid { IfOk result (λ r. (cells : ℤ → ℤ → ℕ) (x y : ℤ)
         → IsBlock (S.content from.now) cells (2 ^ level) x y block.now
         → IsPiece cells (step_ahead x (offset.columns % 2 ^ level))
@@ -64,8 +65,8 @@ fn slid_of<S: Squares, T: Squares>(
     if are_all(block, from.empty(level)) {
         return Ok(to.empty(level));
     }
-    let inside = seen(from, margins, offset, level, block);
-    slid_of_seen(from, to, memory, margins, offset, level, &inside)
+    let inside = seen(from, views, offset, level, block, answers.are_repeated());
+    slid_of_seen(from, to, answers, views, offset, level, &inside)
 }
 
 #[cycle(slide)]
@@ -73,21 +74,23 @@ fn slid_of<S: Squares, T: Squares>(
 fn slid_of_seen<S: Squares, T: Squares>(
     from: &S,
     to: &mut T,
-    memory: &mut NeighbourhoodMemory,
-    margins: &mut MarginTable,
+    answers: &mut Answers,
+    views: &mut Views,
     offset: Offset,
     level: u8,
     block: &Quarters,
 ) -> Result<Id, Kind>
     requires remembers { RemembersSlides (S.knows from.now) (S.content from.now) (T.knows to.old)
-        (T.content to.old) offset.columns offset.rows memory.old }
-    requires right { AreMargins (S.content from.now) margins.old }
+        (T.content to.old) offset.columns offset.rows answers.old.table }
+    requires right { AreViews (S.knows from.now) (S.content from.now) offset.columns offset.rows
+        views.old }
     requires known { InBlock (IsOfLevel (S.knows from.now) (S.content from.now) level) block.now }
     requires high { level ≤ MAX_LEVEL }
     ensures at { IfOk result (IsOfLevel (T.knows to.new) (T.content to.new) level) }
     ensures remembers { IfOk result (λ _. RemembersSlides (S.knows from.now) (S.content from.now)
-        (T.knows to.new) (T.content to.new) offset.columns offset.rows memory.new) }
-    ensures right { IfOk result (λ _. AreMargins (S.content from.now) margins.new) }
+        (T.knows to.new) (T.content to.new) offset.columns offset.rows answers.new.table) }
+    ensures right { IfOk result (λ _. AreViews (S.knows from.now) (S.content from.now)
+        offset.columns offset.rows views.new) }
     ensures slid { IfOk result (λ r. (cells : ℤ → ℤ → ℕ) (x y : ℤ)
         → IsBlock (S.content from.now) cells (2 ^ level) x y block.now
         → IsPiece cells (step_ahead x (offset.columns % 2 ^ level))
@@ -110,7 +113,7 @@ fn slid_of_seen<S: Squares, T: Squares>(
     if let Some(cells) = leaf_cells(from, offset, level, block) {
         return to.small(cells);
     }
-    slid_by_quarters(from, to, memory, margins, offset, level, block)
+    slid_by_quarters(from, to, answers, views, offset, level, block)
 }
 
 #[cycle(slide)]
@@ -118,22 +121,24 @@ fn slid_of_seen<S: Squares, T: Squares>(
 fn slid_by_quarters<S: Squares, T: Squares>(
     from: &S,
     to: &mut T,
-    memory: &mut NeighbourhoodMemory,
-    margins: &mut MarginTable,
+    answers: &mut Answers,
+    views: &mut Views,
     offset: Offset,
     level: u8,
     block: &Quarters,
 ) -> Result<Id, Kind>
     requires remembers { RemembersSlides (S.knows from.now) (S.content from.now) (T.knows to.old)
-        (T.content to.old) offset.columns offset.rows memory.old }
-    requires right { AreMargins (S.content from.now) margins.old }
+        (T.content to.old) offset.columns offset.rows answers.old.table }
+    requires right { AreViews (S.knows from.now) (S.content from.now) offset.columns offset.rows
+        views.old }
     requires known { InBlock (IsOfLevel (S.knows from.now) (S.content from.now) level) block.now }
     requires high { level ≤ MAX_LEVEL }
     requires low { 1 ≤ level }
     ensures at { IfOk result (IsOfLevel (T.knows to.new) (T.content to.new) level) }
     ensures remembers { IfOk result (λ _. RemembersSlides (S.knows from.now) (S.content from.now)
-        (T.knows to.new) (T.content to.new) offset.columns offset.rows memory.new) }
-    ensures right { IfOk result (λ _. AreMargins (S.content from.now) margins.new) }
+        (T.knows to.new) (T.content to.new) offset.columns offset.rows answers.new.table) }
+    ensures right { IfOk result (λ _. AreViews (S.knows from.now) (S.content from.now)
+        offset.columns offset.rows views.new) }
     ensures slid { IfOk result (λ r. (cells : ℤ → ℤ → ℕ) (x y : ℤ)
         → IsBlock (S.content from.now) cells (2 ^ level) x y block.now
         → IsPiece cells (step_ahead x (offset.columns % 2 ^ level))
@@ -147,7 +152,7 @@ fn slid_by_quarters<S: Squares, T: Squares>(
         (λ P. SomeOfBlock P (S.content from.now) offset.columns offset.rows level block.now)
         to.old to.new }
 {
-    if let Some(answer) = recalled(memory, level, block) {
+    if let Some(answer) = recalled(answers, level, block) {
         return Ok(answer);
     }
     let below = level - 1;
@@ -158,8 +163,8 @@ fn slid_by_quarters<S: Squares, T: Squares>(
         digit(offset.columns, below),
         digit(offset.rows, below),
     );
-    let answer = slid_of_nine(from, to, memory, margins, offset, below, &nine)?;
-    remember(memory, level, block, answer);
+    let answer = slid_of_nine(from, to, answers, views, offset, below, &nine)?;
+    remember(answers, level, block, answer);
     Ok(answer)
 }
 
@@ -168,21 +173,23 @@ fn slid_by_quarters<S: Squares, T: Squares>(
 fn slid_of_nine<S: Squares, T: Squares>(
     from: &S,
     to: &mut T,
-    memory: &mut NeighbourhoodMemory,
-    margins: &mut MarginTable,
+    answers: &mut Answers,
+    views: &mut Views,
     offset: Offset,
     level: u8,
     nine: &Nine,
 ) -> Result<Id, Kind>
     requires remembers { RemembersSlides (S.knows from.now) (S.content from.now) (T.knows to.old)
-        (T.content to.old) offset.columns offset.rows memory.old }
-    requires right { AreMargins (S.content from.now) margins.old }
+        (T.content to.old) offset.columns offset.rows answers.old.table }
+    requires right { AreViews (S.knows from.now) (S.content from.now) offset.columns offset.rows
+        views.old }
     requires known { AllOfNine (IsOfLevel (S.knows from.now) (S.content from.now) level) nine.now }
     requires high { level < MAX_LEVEL }
     ensures at { IfOk result (IsOfLevel (T.knows to.new) (T.content to.new) (level + 1)) }
     ensures remembers { IfOk result (λ _. RemembersSlides (S.knows from.now) (S.content from.now)
-        (T.knows to.new) (T.content to.new) offset.columns offset.rows memory.new) }
-    ensures right { IfOk result (λ _. AreMargins (S.content from.now) margins.new) }
+        (T.knows to.new) (T.content to.new) offset.columns offset.rows answers.new.table) }
+    ensures right { IfOk result (λ _. AreViews (S.knows from.now) (S.content from.now)
+        offset.columns offset.rows views.new) }
     ensures slid { IfOk result (λ r. (cells : ℤ → ℤ → ℕ) (x y : ℤ)
         → AreNinePieces (S.content from.now) cells (2 ^ level) x y nine.now
         → IsPiece cells (step_ahead x (offset.columns % 2 ^ level))
@@ -199,8 +206,8 @@ fn slid_of_nine<S: Squares, T: Squares>(
     let nw = slid_of(
         from,
         to,
-        memory,
-        margins,
+        answers,
+        views,
         offset,
         level,
         &western(&nine.first, &nine.second),
@@ -208,8 +215,8 @@ fn slid_of_nine<S: Squares, T: Squares>(
     let ne = slid_of(
         from,
         to,
-        memory,
-        margins,
+        answers,
+        views,
         offset,
         level,
         &eastern(&nine.first, &nine.second),
@@ -217,8 +224,8 @@ fn slid_of_nine<S: Squares, T: Squares>(
     let sw = slid_of(
         from,
         to,
-        memory,
-        margins,
+        answers,
+        views,
         offset,
         level,
         &western(&nine.second, &nine.third),
@@ -226,8 +233,8 @@ fn slid_of_nine<S: Squares, T: Squares>(
     let se = slid_of(
         from,
         to,
-        memory,
-        margins,
+        answers,
+        views,
         offset,
         level,
         &eastern(&nine.second, &nine.third),
@@ -305,7 +312,7 @@ pub fn slid<S: SharedSquares, T: Squares>(
         (λ P. SomeOfBlock P (S.content from.now) offset.columns offset.rows level block.now)
         to.old to.new }
 {
-    let mut memory = NeighbourhoodMemory::new(alloc, from.seed());
-    let mut margins = MarginTable::new(alloc);
-    slid_of(from, to, &mut memory, &mut margins, offset, level, block)
+    let mut answers = Answers::new(alloc, from.seed());
+    let mut views = Views::new(alloc, from.seed());
+    slid_of(from, to, &mut answers, &mut views, offset, level, block)
 }

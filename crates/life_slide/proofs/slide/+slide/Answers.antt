@@ -1,4 +1,4 @@
-use Rattle.std.proofs.Common.{◌≡◌, ℤ, ℕ, ◌+◌, ◌-◌, ◌%◌, ◌^◌, Result, Ok, Err, IfOk, refl, sym, ◌∙◌, ap, subst, arith}
+use Rattle.std.proofs.Common.{◌≡◌, ℤ, ℕ, ◌+◌, ◌-◌, ◌%◌, ◌^◌, refl, sym, ◌∙◌, ap, subst, arith}
 use Rattle.std.proofs.lemmas.Result.{IfOk-weaker, on_err_weaker}
 use Rattle.life_base.specs.Tree.{Tree, point, depth}
 use Rattle.life_base.proofs.Results.{on_err_any, on_err_both, if_ok_two}
@@ -128,10 +128,10 @@ slid_of_seen-returns-in-Some-leaf_cells-clause-adds g m c =
 -- ---- by quarters
 
 pub slid_by_quarters-returns-in-Some-clause-at : goal.slid_by_quarters-returns-in-Some-clause-at
-slid_by_quarters-returns-in-Some-clause-at g m c = recalled-at c.requires.remembers c.in-Some.ensures.answer c.requires.known
+slid_by_quarters-returns-in-Some-clause-at g m c = recalled-at c.requires.remembers c.in-Some.ensures c.requires.known
 
 pub slid_by_quarters-returns-in-Some-clause-slid : goal.slid_by_quarters-returns-in-Some-clause-slid
-slid_by_quarters-returns-in-Some-clause-slid g m c = recalled-slid c.requires.remembers c.in-Some.ensures.answer c.requires.known
+slid_by_quarters-returns-in-Some-clause-slid g m c = recalled-slid c.requires.remembers c.in-Some.ensures c.requires.known
 
 -- the square that the nine answer
 slid-of : (g : Over) (m : ℕ) (c : slid_by_quarters-After-remember g m) (cells : ℤ → ℤ → ℕ) (x y : ℤ)

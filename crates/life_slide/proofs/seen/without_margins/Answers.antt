@@ -7,7 +7,7 @@ use Rattle.life_slide.specs.Margins.{IsSeenOrOther}
 use Rattle.life_slide.specs.Pieces.{InBlock}
 use Rattle.life_slide.proofs.SlideLemmas.{rest-less}
 use Rattle.life_slide.proofs.SeenLemmas.{kept-at, seen-block, seen-same, seen_cells}
-use Rattle.life_slide.proofs.seen.seen.Goals as goal
+use Rattle.life_slide.proofs.seen.without_margins.Goals as goal
 
 pub returns-clause-known : goal.returns-clause-known
 returns-clause-known g c =
