@@ -10,5 +10,8 @@ pub mod PatternFacts
 pub mod MovedFacts
 pub mod TextFacts
 pub mod TransposeFacts
+pub mod LeafFacts
+pub mod AreaFacts
+pub mod CornerFacts
 pub mod RefusalFacts
 pub mod ComparingFacts

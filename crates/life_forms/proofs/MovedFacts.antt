@@ -35,7 +35,7 @@ use Rattle.life_canon.proofs.Sameness.{same-is_one}
 -- ---- the square of the whole plane
 
 -- two definitions of a square of a plane
-square-same : (f : ℤ → ℤ → ℕ) (k : ℕ) (x y : ℤ) → square_from f k x y ≡ canon.square f k x y
+pub square-same : (f : ℤ → ℤ → ℕ) (k : ℕ) (x y : ℤ) → square_from f k x y ≡ canon.square f k x y
 unfolding square_from canon.square
 square-same f zero x y = refl
 square-same f (suc k) x y =

@@ -12,12 +12,11 @@ use Rattle.life_quad.specs.declared.id.Id.{Id}
 use Rattle.life_quad.proofs.LawLemmas.{trimming_keeps_cells, trimmed_is_fixed, trimming_stops}
 use Rattle.life_canon.specs.Laws.{SquaresAreCentred}
 use Rattle.life_canon.specs.Store.{IsKnown, IsTrimmed, content}
-use Rattle.life_canon.specs.Universe.{Universe, IsSame, square, centred_square, corner, least_level, square_universe}
+use Rattle.life_canon.specs.Universe.{Universe, square, centred_square, corner, least_level, square_universe}
 pub use Rattle.life_canon.proofs.Fits.{least-one, root-high}
 use Rattle.life_forms.specs.Forms.{IsShift, IsMoved}
-use Rattle.life_forms.proofs.ShiftFacts.{still, shift-trans, there-and-back}
+use Rattle.life_forms.proofs.ShiftFacts.{there-and-back}
 use Rattle.life_forms.proofs.PlaneFacts.{moved-same}
-use Rattle.life_canon.proofs.Sameness.{same-sym}
 
 -- ---- states
 
@@ -45,7 +44,7 @@ cell-up-to most t h x y =
     (int_le (neg_ℤ (pos (half_side t))) x && int_lt x (pos (half_side t)) && int_le (neg_ℤ (pos (half_side t))) y && int_lt y (pos (half_side t))) _
     (state-up-to most t h (unsigned_abs (x +ℤ pos (half_side t))) (unsigned_abs (y +ℤ pos (half_side t))))
 
-square-up-to : (most : ℕ) (cell : ℤ → ℤ → ℕ) → ((x y : ℤ) → cell x y ≤ most) → (k : ℕ) (x y : ℤ) → HasStatesUpTo most (square cell k x y)
+pub square-up-to : (most : ℕ) (cell : ℤ → ℤ → ℕ) → ((x y : ℤ) → cell x y ≤ most) → (k : ℕ) (x y : ℤ) → HasStatesUpTo most (square cell k x y)
 unfolding square
 square-up-to most cell h zero x y = h x y
 square-up-to most cell h (suc k) x y = (
@@ -101,9 +100,3 @@ plane-moved store rule generation root t u is full moved =
       generation = refl;
       cells = λ x y. sym (ap (λ (s : Tree). tree_cell s x y) is ∙ trimming_keeps_cells t (least_level rule) full (least-one rule) x y);
     })
-
--- ---- the same pattern
-
--- what moves a pattern moves each that is the same
-pub same-moved : (top : ℕ) (u v w : Universe) → IsSame u v → IsMoved top u w → IsMoved top v w
-same-moved top u v w same moved = record { shift = shift-trans v u w (still v u (same-sym u v same)) moved.shift; form = moved.form }

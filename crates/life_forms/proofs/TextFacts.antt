@@ -1,5 +1,5 @@
 -- The least of the texts of eight images is that of the turned form.
-use Rattle.std.proofs.Common.{◌≡◌, ◌⊎◌, inl, inr, ℕ, ◌≤◌, Bool, true, false, List, refl, sym, ap, ◌∙◌, subst}
+use Rattle.std.proofs.Common.{◌≡◌, ◌⊎◌, inl, inr, ℕ, ◌≤◌, Bool, true, false, not, List, refl, sym, ap, ◌∙◌, subst}
 use Rattle.life_canon.specs.Lesser.{IsLesserText, IsUpTo}
 use Rattle.life_canon.specs.Listing.{canon_text}
 use Rattle.life_canon.specs.Universe.{Universe, IsSame, IsBlankOutside}
@@ -9,6 +9,25 @@ use Rattle.life_forms.specs.Needed.{HasLargerForm}
 use Rattle.life_forms.specs.Images.{AreSmall, IsImageText, IsLeastOfTwo, IsLesserOfTwo, IsTurnedText}
 use Rattle.life_forms.proofs.TurnFacts.{image-outside}
 use Rattle.life_forms.proofs.ShiftFacts.{same-refl, still, forms-of-shifts}
+
+-- what holds of two bits, of those with the first one other, both other, and the second one other, holds of all
+of-four : (P : Bool → Bool → Type 0) (a b : Bool) → P a b → P (not a) b → P (not a) (not b) → P a (not b) → (v w : Bool) → P v w
+of-four P false false p q r s false false = p
+of-four P false false p q r s true false = q
+of-four P false false p q r s true true = r
+of-four P false false p q r s false true = s
+of-four P true false p q r s true false = p
+of-four P true false p q r s false false = q
+of-four P true false p q r s false true = r
+of-four P true false p q r s true true = s
+of-four P true true p q r s true true = p
+of-four P true true p q r s false true = q
+of-four P true true p q r s false false = r
+of-four P true true p q r s true false = s
+of-four P false true p q r s false true = p
+of-four P false true p q r s true true = q
+of-four P false true p q r s true false = r
+of-four P false true p q r s false false = s
 
 -- patterns that are the same have one text, on the plane or not
 same-text : (top : ℕ) (u v : Universe) → IsSame u v → canon_text top u ≡ canon_text top v
@@ -70,39 +89,33 @@ module _ (top : ℕ) (u : Universe) (some : 1 ≤ top) (outside : IsBlankOutside
     | inr it ↦ (turn_of it.0 columns rows, it.1)
   ]
 
-  -- two images at a time
-  pub least-of-eight : (a b c d : List ℕ) → IsLeastOfTwo top u false false a → IsLesserOfTwo top u true false a b → IsLesserOfTwo top u true true b c
-      → IsLesserOfTwo top u false true c d → IsTurnedText top u d
-  least-of-eight a b c d first second third fourth =
-      let two = still-image true false a b second (turn_of first.exchange false false, first.of_image) in
-      let had = still-image false true c d fourth (still-image true true b c third two) in
+  -- two images at a time, from any two on
+  pub least-of-eight : (columns rows : Bool) (a b c d : List ℕ) → IsLeastOfTwo top u columns rows a → IsLesserOfTwo top u (not columns) rows a b
+      → IsLesserOfTwo top u (not columns) (not rows) b c → IsLesserOfTwo top u columns (not rows) c d → IsTurnedText top u d
+  least-of-eight columns rows a b c d first second third fourth =
+      let two = still-image (not columns) rows a b second (turn_of first.exchange columns rows, first.of_image) in
+      let had = still-image columns (not rows) c d fourth (still-image (not columns) (not rows) b c third two) in
+      let below = of-four
+      (λ (v w : Bool). (exchange : Bool) (other : List ℕ) → IsImageText top u (turn_of exchange v w) other → IsUpTo d other) columns rows
+      (λ exchange other is. up-to-on d c other fourth.first (up-to-on c b other third.first (up-to-on b a other second.first (first.least exchange other is))))
+      (λ exchange other is. up-to-on d c other fourth.first (up-to-on c b other third.first (second.second exchange other is)))
+      (λ exchange other is. up-to-on d c other fourth.first (third.second exchange other is))
+      (λ exchange other is. fourth.second exchange other is) in
       record {
         form = had.1.form;
         turned = record {
           turn = had.0;
           moved = had.1.moved;
           least = λ other w moved. subst (λ (t : List ℕ). IsUpTo t (canon_text top w)) had.1.is
-              (below other.exchange other.columns other.rows (canon_text top w) (record { form = w; moved = moved; is = refl }));
+              (below other.columns other.rows other.exchange (canon_text top w) (record { form = w; moved = moved; is = refl }));
         };
         is = had.1.is;
       }
-    where
-      below : (exchange columns rows : Bool) (other : List ℕ) → IsImageText top u (turn_of exchange columns rows) other → IsUpTo d other
-      below exchange false false other is =
-          up-to-on d c other fourth.first (up-to-on c b other third.first (up-to-on b a other second.first (first.least exchange other is)))
-      below exchange true false other is = up-to-on d c other fourth.first (up-to-on c b other third.first (second.second exchange other is))
-      below exchange true true other is = up-to-on d c other fourth.first (third.second exchange other is)
-      below exchange false true other is = fourth.second exchange other is
 
 -- ---- the sizes of the images
 
 -- two images at a time
-pub all-small : (most : ℕ) (u : Universe) → AreSmall most u false false → AreSmall most u true false → AreSmall most u true true → AreSmall most u false true
-    → (turn : Turn) → ¬ HasLargerForm most (image turn u)
-all-small most u first second third fourth turn = by turn.exchange turn.columns turn.rows
-  where
-    by : (exchange columns rows : Bool) → ¬ HasLargerForm most (image (turn_of exchange columns rows) u)
-    by exchange false false = first exchange
-    by exchange true false = second exchange
-    by exchange true true = third exchange
-    by exchange false true = fourth exchange
+pub all-small : (most : ℕ) (u : Universe) (columns rows : Bool) → AreSmall most u columns rows → AreSmall most u (not columns) rows
+    → AreSmall most u (not columns) (not rows) → AreSmall most u columns (not rows) → (turn : Turn) → ¬ HasLargerForm most (image turn u)
+all-small most u columns rows first second third fourth turn =
+    of-four (λ (v w : Bool). AreSmall most u v w) columns rows first second third fourth turn.columns turn.rows turn.exchange

@@ -32,10 +32,10 @@ use Rattle.life_forms.proofs.TurnFacts.{images-keep-shifts, placed-back}
 
 -- ---- moved forms
 
-abbrev transposed_box : Bounds → Bounds
+abbrev pub transposed_box : Bounds → Bounds
 transposed_box box = record { left = box.top; top = box.left; right = box.bottom; bottom = box.right }
 
-box-transposed : (cell : ℤ → ℤ → ℕ) (box : Bounds) → IsBoundingBox (λ x y. cell y x) box → IsBoundingBox cell (transposed_box box)
+pub box-transposed : (cell : ℤ → ℤ → ℕ) (box : Bounds) → IsBoundingBox (λ x y. cell y x) box → IsBoundingBox cell (transposed_box box)
 box-transposed cell box least = record {
   inside = λ x y some. let i = least.inside y x some in (i.2, i.3, i.0, i.1);
   at_left = least.at_top;

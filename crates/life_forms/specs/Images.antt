@@ -1,8 +1,10 @@
 -- The texts of a pattern's images.
-use Rattle.std.specs.Prelude.{◌≡◌, ◌⊎◌, ℕ, Bool, List}
+use Rattle.std.specs.Prelude.{◌≡◌, ◌⊎◌, ℕ, ◌^◌, Bool, true, false, List, ℤ, pos, neg_ℤ, ◌+ℤ◌, ◌≤ℤ◌, ◌<ℤ◌}
+use Rattle.life_base.specs.Tree.{Tree, is_blank_tree}
+use Rattle.life_base.specs.declared.bounds.Bounds.{Bounds}
 use Rattle.life_canon.specs.Lesser.{IsUpTo}
 use Rattle.life_canon.specs.Listing.{canon_text}
-use Rattle.life_canon.specs.Universe.{Universe}
+use Rattle.life_canon.specs.Universe.{Universe, square}
 use Rattle.life_forms.specs.Turns.{Turn, image, turn_of}
 use Rattle.life_forms.specs.Forms.{IsMoved, IsTurned}
 use Rattle.life_forms.specs.Needed.{HasLargerForm}
@@ -34,3 +36,24 @@ pub record IsTurnedText (top : ℕ) (u : Universe) (text : List ℕ) : Type 0 wh
   pub form : Universe
   pub turned : IsTurned top (canon_text top) u form
   pub is : text ≡ canon_text top form
+
+-- neither of the two images has a larger form or a lesser text than this one
+pub record IsLowerBound (top most : ℕ) (u : Universe) (columns rows : Bool) (text : List ℕ) : Type 0 where
+  pub small : AreSmall most u columns rows
+  pub least : (also : Bool) (other : List ℕ) → IsImageText top u (turn_of also columns rows) other → IsUpTo text other
+
+-- a box with sides of 2^10 cells at most, of which one has more than four
+pub record IsMiddling (box : Bounds) : Type 0 where
+  pub wide : box.right <ℤ (box.left +ℤ pos (2 ^ 10))
+  pub tall : box.bottom <ℤ (box.top +ℤ pos (2 ^ 10))
+  pub far : ((box.left +ℤ pos 4) ≤ℤ box.right) ⊎ ((box.top +ℤ pos 4) ≤ℤ box.bottom)
+
+-- where eight columns or rows begin at one end of a side of a box
+abbrev pub leaf_start : Bool → ℤ → ℤ → ℤ
+leaf_start false low high = low
+leaf_start true low high = high +ℤ neg_ℤ (pos 7)
+
+-- the square of level 3 in this corner of a box, which isn't blank
+pub record IsCornerLeaf (u : Universe) (box : Bounds) (columns rows : Bool) (t : Tree) : Type 0 where
+  pub at : t ≡ square u.cell 3 (leaf_start columns box.left box.right) (leaf_start rows box.top box.bottom)
+  pub live : is_blank_tree t ≡ false

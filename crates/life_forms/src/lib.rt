@@ -4,6 +4,7 @@
 mod compare;
 mod images;
 pub mod laws;
+mod lower_bounds;
 mod moves;
 mod patterns;
 
