@@ -19,7 +19,7 @@ use Rattle.file_keys.specs.Keys.{end_byte_of_name, IsKeyIn, key_line, pieces_of,
 use Rattle.file_keys.specs.Objects.{object_text}
 use Rattle.command_line.specs.Origins.{OpenerGives, IsOriginOf}
 use Rattle.file_keys.specs.declared.keys.outputs.Outputs.{Outputs}
-use Rattle.file_keys.specs.declared.keys.runs.Run.{Run}
+use Rattle.file_keys.specs.declared.keys.runs.KeyRun.{KeyRun}
 use Rattle.file_keys.specs.declared.keys.style.Style.{Style}
 use Rattle.file_keys.specs.declared.keys.style.Style.TheVariants.{Lines, Zero, Json}
 use Rattle.file_keys.specs.declared.keys.outcome.Outcome.{Outcome}
@@ -173,7 +173,7 @@ CanBegin is_callable out_failures out_stalled err_failures err_stalled opener ou
     × (out_stalled out ≡ false) × (err_failures err ≡ 0) × (err_stalled err ≡ false)
 
 -- a run can take files: its opener can be called, standard output hasn't failed, nor has standard error as long as it takes reports
-pub record CanTake {F : Type 0} (is_callable : F → Type 0) (run : Run F) (out_failures err_failures : ℕ) : Type 0 where
+pub record CanTake {F : Type 0} (is_callable : F → Type 0) (run : KeyRun F) (out_failures err_failures : ℕ) : Type 0 where
   pub callable : is_callable run.files.opener
   pub works : out_failures ≡ 0
   pub hears : run.outputs.tells ≡ true → err_failures ≡ 0

@@ -3,8 +3,8 @@
 use crate::escaping::{push_all, push_visible};
 use crate::foreign::Foreign;
 use crate::item_marks::push_item_mark;
-use crate::opening::HeldStreams;
-use crate::rereading::{SHOWN, again, foreign, line, unreadable};
+use crate::opening::ReservedStreams;
+use crate::rereading::{SHOWN, foreign, line, reopen, unreadable};
 use crate::watching::Warning;
 use fault_sentences::sentence;
 use life_base::{Device, Fault, Kind};
@@ -38,7 +38,7 @@ fn is_refused_alone(
     name: &str,
     fault: &Fault,
 ) -> Option<bool> {
-    let mut first = Device::new(again(rt, name)?);
+    let mut first = Device::new(reopen(rt, name)?);
     let mut second: Option<Device<File>> = None;
     let mut out = Device::new(sink());
     let task = Task::Canon(form);
@@ -187,7 +187,7 @@ fn push_place(
 }
 
 /// The part of a line that is shown: not the carriage return at its end.
-fn shown(line: &[u8]) -> &[u8] {
+fn without_return(line: &[u8]) -> &[u8] {
     match line {
         [front @ .., b'\r'] => front,
         _ => line,
@@ -198,7 +198,7 @@ fn shown(line: &[u8]) -> &[u8] {
 fn push_line(text: &mut Vec<u8>, line: &[u8]) -> Result<(), AllocError> {
     let (front, end): (&[u8], &[u8]) = match line.get(..SHOWN) {
         Some(front) if line.len() > SHOWN => (front, b" ...\n"),
-        _ => (shown(line), b"\n"),
+        _ => (without_return(line), b"\n"),
     };
     if front.is_empty() {
         return Ok(());
@@ -251,11 +251,11 @@ fn explanation(
 }
 
 /// Why a file can't be read, as far as that is seen.
-fn why_unread(rt: &HostRuntime, held: &HeldStreams, name: &str) -> Option<&'static str> {
+fn why_unread(rt: &HostRuntime, streams: &ReservedStreams, name: &str) -> Option<&'static str> {
     if name != "-" {
         return unreadable(rt, name);
     }
-    if held.holds_input() {
+    if streams.holds_input() {
         return Some("can't be opened");
     }
     unreadable(rt, "/dev/stdin")
@@ -284,8 +284,8 @@ fn sentence_line(rt: &HostRuntime, sentence: &str) -> Result<Vec<u8>, AllocError
 }
 
 /// Says that a file can't be read, if that is seen, and returns whether it is.
-fn explain_unread_file(rt: &HostRuntime, held: &HeldStreams, name: &str) -> bool {
-    match why_unread(rt, held, name) {
+fn explain_unread_file(rt: &HostRuntime, streams: &ReservedStreams, name: &str) -> bool {
+    match why_unread(rt, streams, name) {
         Some(why) => {
             say(rt, unread_line(rt, name, why));
             true
@@ -295,12 +295,12 @@ fn explain_unread_file(rt: &HostRuntime, held: &HeldStreams, name: &str) -> bool
 }
 
 /// Writes what is said where a file can't be read, or no random bytes come.
-pub(crate) fn explain_unread(rt: &HostRuntime, held: &HeldStreams, plan: &TaskPlan) {
-    if explain_unread_file(rt, held, plan.first.as_str()) {
+pub(crate) fn explain_unread(rt: &HostRuntime, streams: &ReservedStreams, plan: &TaskPlan) {
+    if explain_unread_file(rt, streams, plan.first.as_str()) {
         return;
     }
     if let Some(second) = plan.second.as_deref() {
-        if explain_unread_file(rt, held, second) {
+        if explain_unread_file(rt, streams, second) {
             return;
         }
     }
@@ -310,13 +310,13 @@ pub(crate) fn explain_unread(rt: &HostRuntime, held: &HeldStreams, plan: &TaskPl
 /// Writes what is said of a refused task after the line of its fault.
 pub(crate) fn explain(
     rt: &HostRuntime,
-    held: &HeldStreams,
+    streams: &ReservedStreams,
     seeds: &Seeds,
     plan: &TaskPlan,
     refusal: &Refusal,
 ) {
     match refusal.fault.kind {
-        Kind::ReadFault => explain_unread(rt, held, plan),
+        Kind::ReadFault => explain_unread(rt, streams, plan),
         _ => say(rt, explanation(rt, seeds, plan, refusal)),
     }
 }

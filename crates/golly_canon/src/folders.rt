@@ -36,7 +36,7 @@ enum Sort {
 }
 
 /// A copy of a name.
-fn copied(rt: &HostRuntime, name: &str) -> Result<String, AllocError> {
+fn name_copy(rt: &HostRuntime, name: &str) -> Result<String, AllocError> {
     String::from_str(rt.alloc(), name)
 }
 
@@ -65,7 +65,7 @@ impl Found {
         name: &str,
         why: ErrorKind,
     ) -> Result<(), AllocError> {
-        match self.unopened.insert(copied(rt, name)?, why) {
+        match self.unopened.insert(name_copy(rt, name)?, why) {
             Ok(_) => Ok(()),
             Err(_) => Err(AllocError),
         }
@@ -122,7 +122,7 @@ fn is_proper(name: &[u8]) -> bool {
 }
 
 /// The names that are listed, in their order byte by byte.
-fn sorted<'a>(rt: &HostRuntime, listed: &'a [u8]) -> Result<Vec<&'a [u8]>, AllocError> {
+fn sorted_names<'a>(rt: &HostRuntime, listed: &'a [u8]) -> Result<Vec<&'a [u8]>, AllocError> {
     let mut names = Vec::new(rt.alloc());
     for name in listed.split(|byte| *byte == 0) {
         if is_proper(name) && names.push(name).is_err() {
@@ -150,7 +150,7 @@ fn push_entries(
     listed: &[u8],
     left: &mut Vec<Entry>,
 ) -> Result<(), AllocError> {
-    let names = sorted(rt, listed)?;
+    let names = sorted_names(rt, listed)?;
     for name in names.as_slice().iter().rev() {
         if left.push(entry_in(rt, folder, name)?).is_err() {
             return Err(AllocError);
@@ -198,7 +198,7 @@ fn take_entry(
 /// Takes all that is in a folder and below it.
 fn take_folder(rt: &HostRuntime, word: &str, found: &mut Found) -> Result<(), AllocError> {
     let mut left = Vec::new(rt.alloc());
-    open_folder(rt, copied(rt, word)?, &mut left, found)?;
+    open_folder(rt, name_copy(rt, word)?, &mut left, found)?;
     for _ in 0..usize::MAX {
         let Some(entry) = left.pop() else {
             break;
@@ -215,7 +215,7 @@ pub(crate) fn take_list(
     found: &mut Found,
 ) -> Result<(), AllocError> {
     if let Some(name) = from {
-        found.list = Some(copied(rt, name)?);
+        found.list = Some(name_copy(rt, name)?);
     }
     Ok(())
 }
@@ -231,7 +231,7 @@ pub(crate) fn take_words(
         if *word != "-" && found.why(word).is_none() && is_folder(rt, word) {
             take_folder(rt, word, found)?;
         } else {
-            found.push(copied(rt, word)?)?;
+            found.push(name_copy(rt, word)?)?;
         }
     }
     Ok(())

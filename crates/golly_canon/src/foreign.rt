@@ -110,7 +110,7 @@ fn returns_advice(head: &[u8]) -> Option<&'static str> {
 }
 
 /// What a file is by its first bytes, if it is something that the program doesn't read. `is_table` says whether a rule table was wanted.
-pub(crate) fn recognized(head: &[u8], is_table: bool) -> Option<Foreign> {
+pub(crate) fn recognize(head: &[u8], is_table: bool) -> Option<Foreign> {
     if let Some(advice) = binary_advice(head) {
         let is_text = false;
         return Some(Foreign { advice, is_text });

@@ -3,7 +3,7 @@
 use crate::closing::{Hints, Tally};
 use crate::counting::NameCount;
 use crate::folders::{Found, take_list, take_words};
-use crate::opening::{HeldStreams, Input, open_no_folder};
+use crate::opening::{Input, ReservedStreams, open_no_folder};
 use crate::outputs::{Errors, Listed, Output, Visible};
 use crate::progress::ProgressLine;
 use crate::watching::{Watch, Watched, Watcher, watch_opened};
@@ -28,7 +28,7 @@ pub(crate) enum Listing {
 /// What a run over files keeps as it goes.
 #[derive(Drop)]
 struct Run<'a> {
-    held: &'a HeldStreams,
+    streams: &'a ReservedStreams,
     found: &'a Found,
     progress: ProgressLine,
     watcher: Watcher,
@@ -50,7 +50,7 @@ struct Run<'a> {
 /// Opens what a name represents, unless it is known that it can't be opened.
 fn open_found(
     rt: &HostRuntime,
-    held: &HeldStreams,
+    streams: &ReservedStreams,
     found: &Found,
     origin: Origin<'_>,
 ) -> IoResult<Opened<Input>> {
@@ -59,7 +59,7 @@ fn open_found(
             return Err(kind.into());
         }
     }
-    open_no_folder(rt, held, origin)
+    open_no_folder(rt, streams, origin)
 }
 
 /// The name of what is opened.
@@ -143,7 +143,7 @@ impl<'a> Run<'a> {
         self.warn(rt);
         self.progress.advance(rt, self.names.count.get());
         let names = self.watch(name_of(origin));
-        let opened = open_found(rt, self.held, self.found, origin);
+        let opened = open_found(rt, self.streams, self.found, origin);
         if names.is_none() {
             self.hints.take(origin, &opened);
         }
@@ -194,7 +194,7 @@ impl<'a> Run<'a> {
 /// Writes what is wanted of the plan's files.
 fn write_listing(
     rt: &HostRuntime,
-    held: &HeldStreams,
+    streams: &ReservedStreams,
     found: &Found,
     plan: &KeysPlan<'_>,
     listing: Listing,
@@ -203,7 +203,7 @@ fn write_listing(
         return refuse(&mut Device::new(rt.stderr()), Kind::ReadFault);
     };
     let run = Run {
-        held,
+        streams,
         found,
         progress: ProgressLine::new(rt, plan),
         watcher: Watcher::new(rt),
@@ -252,7 +252,7 @@ fn plan_of<'a>(
 /// Finds the files in the plan's folders, and writes what is wanted of them.
 fn write_below(
     rt: &HostRuntime,
-    held: &HeldStreams,
+    streams: &ReservedStreams,
     mut found: Found,
     plan: &KeysPlan<'_>,
     listing: Listing,
@@ -260,22 +260,22 @@ fn write_below(
     take_list(rt, plan.from, &mut found)?;
     take_words(rt, plan.files.as_slice(), &mut found)?;
     let whole = plan_of(rt, &found, plan)?;
-    Ok(write_listing(rt, held, &found, &whole, listing))
+    Ok(write_listing(rt, streams, &found, &whole, listing))
 }
 
 /// Draws the random words, and writes what is wanted of the plan's files. Without random words nothing is read. `found` says which of the names can't be
 /// opened.
 pub(crate) fn list_files(
     rt: &HostRuntime,
-    held: &HeldStreams,
+    streams: &ReservedStreams,
     found: Found,
     plan: &KeysPlan<'_>,
     listing: Listing,
 ) -> u8 {
     if !plan.recursive {
-        return write_listing(rt, held, &found, plan, listing);
+        return write_listing(rt, streams, &found, plan, listing);
     }
-    match write_below(rt, held, found, plan, listing) {
+    match write_below(rt, streams, found, plan, listing) {
         Ok(status) => status,
         Err(_) => refuse(&mut Device::new(rt.stderr()), Kind::Memory),
     }

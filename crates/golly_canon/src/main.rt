@@ -26,7 +26,7 @@ use life_base::{Device, Kind};
 use life_cli::plans::{KeysPlan, Request, Usage};
 use life_cli::{refuse, report, request, status};
 use listing::{Listing, list_files};
-use opening::{HeldStreams, hold_closed_streams};
+use opening::{ReservedStreams, reserve_closed_streams};
 use outputs::{Visible, is_broken_pipe};
 use std::alloc::AllocError;
 use std::io::{ErrorKind as IoErrorKind, IsTerminal, Result as IoResult, Write};
@@ -142,7 +142,7 @@ fn refuse_word(rt: &HostRuntime, word: &str) -> Result<u8, AllocError> {
 /// Writes what is wanted of the plan's files. Each argument that isn't UTF-8 text has to be the name of one: there is no such file.
 fn list(
     rt: &HostRuntime,
-    held: &HeldStreams,
+    streams: &ReservedStreams,
     damaged: &[String],
     plan: &KeysPlan<'_>,
     listing: Listing,
@@ -153,33 +153,37 @@ fn list(
     }
     match damaged {
         [word, ..] if !are_files(plan, &found, damaged.len()) => refuse_word(rt, word.as_str()),
-        _ => Ok(list_files(rt, held, found, plan, listing)),
+        _ => Ok(list_files(rt, streams, found, plan, listing)),
     }
 }
 
 /// Does what the arguments ask for.
-fn run(rt: &HostRuntime, held: &HeldStreams, arguments: &Arguments) -> Result<u8, AllocError> {
+fn run(
+    rt: &HostRuntime,
+    streams: &ReservedStreams,
+    arguments: &Arguments,
+) -> Result<u8, AllocError> {
     let damaged = arguments.damaged.as_slice();
     match request(rt.alloc(), arguments.words.as_slice()) {
         Ok(Request::Work(plan)) => match damaged {
-            [] => Ok(do_task(rt, held, &plan)),
+            [] => Ok(do_task(rt, streams, &plan)),
             [word, ..] => refuse_word(rt, word.as_str()),
         },
-        Ok(Request::Keys(plan)) => list(rt, held, damaged, &plan, Listing::Keys),
-        Ok(Request::Duplicates(plan)) => list(rt, held, damaged, &plan, Listing::Duplicates),
+        Ok(Request::Keys(plan)) => list(rt, streams, damaged, &plan, Listing::Keys),
+        Ok(Request::Duplicates(plan)) => list(rt, streams, damaged, &plan, Listing::Duplicates),
         Err(usage) => Ok(report_usage(rt, &usage, arguments.words.as_slice())),
     }
 }
 
 /// Reads the arguments, and does what they ask for.
-fn read_and_run(rt: &HostRuntime, held: &HeldStreams) -> Result<u8, AllocError> {
+fn read_and_run(rt: &HostRuntime, streams: &ReservedStreams) -> Result<u8, AllocError> {
     let arguments = read_arguments(rt)?;
-    run(rt, held, &arguments)
+    run(rt, streams, &arguments)
 }
 
 fn main(rt: HostRuntime) -> ExitCode {
-    let held = hold_closed_streams(&rt);
-    let status = match read_and_run(&rt, &held) {
+    let streams = reserve_closed_streams(&rt);
+    let status = match read_and_run(&rt, &streams) {
         Ok(status) => status,
         Err(_) => report_unreadable(&mut Device::new(rt.stderr()), Unreadable::Memory, b""),
     };

@@ -25,10 +25,10 @@ impl Read for Input {
 
 /// What holds the numbers of the standard streams that a caller has closed.
 #[derive(Drop)]
-pub(crate) struct HeldStreams([Option<File>; 3]);
+pub(crate) struct ReservedStreams([Option<File>; 3]);
 
-impl HeldStreams {
-    /// Whether standard input was closed, so that its number is held.
+impl ReservedStreams {
+    /// Whether standard input was closed, so that its number is reserved.
     pub(crate) fn holds_input(&self) -> bool {
         for folder in self.0.iter().flatten() {
             if folder.as_raw_fd() == 0 {
@@ -41,12 +41,12 @@ impl HeldStreams {
 
 /// Takes the numbers of the standard streams that a caller has closed, so that no file that is opened later gets one of them and is
 /// taken for it. They are given to a folder, of which nothing can be read and to which nothing can be written.
-pub(crate) fn hold_closed_streams(rt: &HostRuntime) -> HeldStreams {
-    HeldStreams([held(rt), held(rt), held(rt)])
+pub(crate) fn reserve_closed_streams(rt: &HostRuntime) -> ReservedStreams {
+    ReservedStreams([reserve_stream(rt), reserve_stream(rt), reserve_stream(rt)])
 }
 
-/// A folder that is held open.
-fn held(rt: &HostRuntime) -> Option<File> {
+/// A folder that stays open.
+fn reserve_stream(rt: &HostRuntime) -> Option<File> {
     File::open(rt, "/").ok()
 }
 
@@ -87,10 +87,10 @@ fn is_folder(rt: &HostRuntime, input: &Input) -> bool {
 /// Opens what a word names, unless it is a folder, or a standard input that a caller has closed.
 pub(crate) fn open_no_folder(
     rt: &HostRuntime,
-    held: &HeldStreams,
+    streams: &ReservedStreams,
     origin: Origin<'_>,
 ) -> Result<Opened<Input>> {
-    if matches!(origin, Origin::Standard) && held.holds_input() {
+    if matches!(origin, Origin::Standard) && streams.holds_input() {
         return Err(ErrorKind::NotConnected.into());
     }
     let opened = open(rt, origin)?;

@@ -1,6 +1,6 @@
 //! Files that are read again, to say more of a fault.
 
-use crate::foreign::{Foreign, recognized};
+use crate::foreign::{Foreign, recognize};
 use std::fs;
 use std::fs::File;
 use std::io::{ErrorKind, Read, Result as IoResult};
@@ -12,7 +12,7 @@ const HEAD: usize = 4096;
 pub(crate) const SHOWN: usize = 200;
 
 /// Opens what the system calls `path`, if it is a file. A pipe or a device can't be read again.
-fn opened(rt: &HostRuntime, path: &str) -> IoResult<Option<File>> {
+fn open_file(rt: &HostRuntime, path: &str) -> IoResult<Option<File>> {
     let metadata = fs::metadata(rt, path)?;
     if metadata.is_dir() {
         return Err(ErrorKind::IsADirectory.into());
@@ -24,11 +24,11 @@ fn opened(rt: &HostRuntime, path: &str) -> IoResult<Option<File>> {
 }
 
 /// A file that can be read again. Standard input isn't one.
-pub(crate) fn again(rt: &HostRuntime, name: &str) -> Option<File> {
+pub(crate) fn reopen(rt: &HostRuntime, name: &str) -> Option<File> {
     if name == "-" {
         return None;
     }
-    opened(rt, name).ok()?
+    open_file(rt, name).ok()?
 }
 
 /// Why a file can't be opened, in words.
@@ -43,7 +43,7 @@ fn reason(kind: ErrorKind) -> &'static str {
 
 /// Why what the system calls `path` can't be read, where that is seen without reading it.
 pub(crate) fn unreadable(rt: &HostRuntime, path: &str) -> Option<&'static str> {
-    match opened(rt, path) {
+    match open_file(rt, path) {
         Ok(_) => None,
         Err(error) => Some(reason(error.kind())),
     }
@@ -51,10 +51,10 @@ pub(crate) fn unreadable(rt: &HostRuntime, path: &str) -> Option<&'static str> {
 
 /// What a file is, if it is something that the program doesn't read. `is_table` says whether a rule table was wanted.
 pub(crate) fn foreign(rt: &HostRuntime, name: &str, is_table: bool) -> Option<Foreign> {
-    let mut file = again(rt, name)?;
+    let mut file = reopen(rt, name)?;
     let mut head = [0; HEAD];
     let count = file.read(&mut head).ok()?;
-    recognized(&head[..count], is_table)
+    recognize(&head[..count], is_table)
 }
 
 /// A line that is looked for.
@@ -84,7 +84,7 @@ impl Search {
 
 /// The line of this number, without its end, as far as it is shown and one byte more; nothing where the file can't be read again.
 pub(crate) fn line(rt: &HostRuntime, name: &str, number: u64) -> Option<Vec<u8>> {
-    let mut file = again(rt, name)?;
+    let mut file = reopen(rt, name)?;
     let mut search = Search {
         before: number.saturating_sub(1),
         text: Vec::new(rt.alloc()),

@@ -4,7 +4,7 @@ ghost use Rattle.std.specs.Prelude.{◌↔◌, IsSome};
 ghost use Rattle.life_cli.specs.Plans.{HasSecond};
 
 use crate::explaining::{explain, explain_unread, warn};
-use crate::opening::{HeldStreams, Input, open};
+use crate::opening::{Input, ReservedStreams, open};
 use crate::outputs::Output;
 use crate::watching::{Watch, Watched, watch_opened};
 use life_base::{Device, Fault, Kind};
@@ -110,34 +110,34 @@ fn done(
 /// Reports why a task is refused, and returns the status.
 fn report_refusal(
     rt: &HostRuntime,
-    held: &HeldStreams,
+    streams: &ReservedStreams,
     seeds: &Seeds,
     plan: &TaskPlan,
     refusal: &Refusal,
 ) -> u8 {
     tell(&mut Device::new(rt.stderr()), refusal);
     if is_explained(rt, plan) {
-        explain(rt, held, seeds, plan, refusal);
+        explain(rt, streams, seeds, plan, refusal);
     }
     status(refusal.fault.kind)
 }
 
 /// Reports that there are no random words, and returns the status.
-fn report_unseeded(rt: &HostRuntime, held: &HeldStreams, plan: &TaskPlan) -> u8 {
+fn report_unseeded(rt: &HostRuntime, streams: &ReservedStreams, plan: &TaskPlan) -> u8 {
     let status = refuse(&mut Device::new(rt.stderr()), Kind::ReadFault);
     if is_explained(rt, plan) {
-        explain_unread(rt, held, plan);
+        explain_unread(rt, streams, plan);
     }
     status
 }
 
 /// Draws the random words, opens the plan's files and does its task. Without random words nothing is read. Nothing is said where the reader of standard
 /// output has left.
-pub(crate) fn do_task(rt: &HostRuntime, held: &HeldStreams, plan: &TaskPlan) -> u8
+pub(crate) fn do_task(rt: &HostRuntime, streams: &ReservedStreams, plan: &TaskPlan) -> u8
     requires { IsSome plan.now.second ↔ HasSecond plan.now.task }
 {
     let Ok(seeds) = Seeds::drawn(rt) else {
-        return report_unseeded(rt, held, plan);
+        return report_unseeded(rt, streams, plan);
     };
     let watches = Watches::new(rt, plan);
     let is_left = Cell::new(false);
@@ -147,6 +147,6 @@ pub(crate) fn do_task(rt: &HostRuntime, held: &HeldStreams, plan: &TaskPlan) -> 
             status
         }
         Err(refusal) if is_left.get() => status(refusal.fault.kind),
-        Err(refusal) => report_refusal(rt, held, &seeds, plan, &refusal),
+        Err(refusal) => report_refusal(rt, streams, &seeds, plan, &refusal),
     }
 }

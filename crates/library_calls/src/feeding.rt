@@ -48,7 +48,7 @@ impl Feeding {
     }
 
     /// The same after the next piece.
-    pub(crate) fn fed(self, piece: &[u8]) -> Result<Feeding, Fault>
+    pub(crate) fn with_piece(self, piece: &[u8]) -> Result<Feeding, Fault>
         ensures fed { IfOk result (λ r. r ≡ record
             { output = self.output; room = self.room; bytes = self.bytes ++ piece.now }) }
         ensures front { OnOk result
@@ -89,7 +89,7 @@ impl Feeding {
             output,
         } = self;
         let found = reader.finish(&mut store);
-        // As in `fed`.
+        // As in `with_piece`.
         let _ = store.len();
         let pattern = found?;
         text_of_read(alloc, &mut store, pattern, output)

@@ -19,20 +19,20 @@ pub enum Session {
 }
 
 /// The session after the next piece. One that has a text or a fault stays as it is.
-pub(crate) fn fed(session: Session, piece: &[u8]) -> Session
+pub(crate) fn after_piece(session: Session, piece: &[u8]) -> Session
     ensures { Feeds piece.now (Some session) (Some result) }
 {
     match session {
-        Session::Reading(feeding) => match feeding.fed(piece) {
+        Session::Reading(feeding) => match feeding.with_piece(piece) {
             Ok(feeding) => Session::Reading(feeding),
             Err(fault) => Session::Refused(fault),
         },
-        ended => ended,
+        other => other,
     }
 }
 
 /// The session after the end of the file. One that has a text or a fault stays as it is.
-pub(crate) fn ended(session: Session, alloc: Global) -> Session
+pub(crate) fn after_end(session: Session, alloc: Global) -> Session
     ensures { Finishes (Some session) (Some result) }
 {
     match session {
@@ -40,6 +40,6 @@ pub(crate) fn ended(session: Session, alloc: Global) -> Session
             Ok(text) => Session::Written(text),
             Err(fault) => Session::Refused(fault),
         },
-        ended => ended,
+        other => other,
     }
 }

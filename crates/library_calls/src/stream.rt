@@ -17,7 +17,7 @@ pub struct Stream {
 
 impl Stream {
     /// A closed stream.
-    fn closed() -> Stream
+    fn new_closed() -> Stream
         ensures { result.held.session ≡ None }
     {
         Stream {
@@ -43,7 +43,7 @@ pub(crate) fn take(alloc: Global, stream: &mut Stream) -> Option<Box<Session>>
         (λ session. stream.old.held.session ≡ Some session.value) }
     ensures closed { stream.new.held.session ≡ None }
 {
-    let Stream { is_open, held } = mem::replace(stream, Stream::closed());
+    let Stream { is_open, held } = mem::replace(stream, Stream::new_closed());
     if is_open != 1 {
         held.end();
         return None;

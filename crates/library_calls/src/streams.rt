@@ -6,7 +6,7 @@ ghost use Rattle.library_calls.specs.Words.{text_in, form_numbered, session_of, 
 use crate::feeding::Feeding;
 use crate::in_form::{NO_FORM, form_of, text_in};
 use crate::options::Options;
-use crate::session::{Session, ended, fed};
+use crate::session::{Session, after_end, after_piece};
 use crate::stream::{Stream, put, take};
 use crate::texts::Output;
 use crate::told::{Told, give, refuse};
@@ -114,7 +114,7 @@ pub fn feed(alloc: Global, stream: &mut Stream, piece: &[u8]) -> Told
         return spent();
     };
     let before = mem::replace(&mut *session, Session::Refused(Fault::of(Kind::Spent)));
-    *session = fed(before, piece);
+    *session = after_piece(before, piece);
     let told = tell_piece(&session);
     put(stream, session);
     told
@@ -125,7 +125,7 @@ fn end(alloc: Global, session: &mut Session)
     ensures { Finishes (Some session.old) (Some session.new) }
 {
     let before = mem::replace(session, Session::Refused(Fault::of(Kind::Spent)));
-    *session = ended(before, alloc);
+    *session = after_end(before, alloc);
 }
 
 /// Ends the file, and gives its text or its fault, as often as it is called.

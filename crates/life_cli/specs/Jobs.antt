@@ -24,7 +24,7 @@ use Rattle.life_table.specs.declared.table.Table.{Table}
 use Rattle.life_step.specs.Refusals.{LifeRefusal, SomeOfNextFile, SomeOfNextFileBy, TableRefusal}
 use Rattle.life_step.specs.Stepped.{IsStepped, IsSteppedBy}
 use Rattle.life_cli.specs.Forms.{AreSameIn, HasTooLarge}
-use Rattle.pattern_sources.specs.Sources.{AreOfInput, HasNoText, HasText, HoldsNoneBut, InputRefuses, IsTooSmallFor, RefusesInForm, RefusesMany, IsSourceShortage, IsCallShortage}
+use Rattle.pattern_sources.specs.Sources.{AreOfInput, HasNoText, HasText, InputRefuses, IsTooSmallFor, RefusesInForm, RefusesMany, IsSourceShortage, IsCallShortage}
 use Rattle.pattern_sources.specs.Forms.{IsTextIn}
 use Rattle.command_line.specs.Plans.{HasSecond}
 use Rattle.command_line.specs.declared.plans.Form.{Form}
@@ -106,13 +106,6 @@ pub record IsPatternIn (old store : Nodes) (source : SourceRun) (found : Result 
   pub pattern : IfOk found (IsRead MAX_LEVEL bytes store)
   pub adds : OnOk found (AddsFile bytes old store)
   pub fault : IfErr found (Refuses MAX_LEVEL bytes)
-
--- the square is needed to read one of two files
-abbrev pub IsOfEither : (first second : List ℕ) → Tree → Type 0
-IsOfEither first second t = IsSquareOfFile first t ⊎ IsSquareOfFile second t
-
-abbrev pub HoldsTwoFiles : (first second : List ℕ) → Nodes → Type 0
-HoldsTwoFiles first second = HoldsNoneBut (IsOfEither first second)
 
 -- why two files aren't compared in a form: one of them has too large a form
 abbrev pub RefusesSame : Form → List ℕ → List ℕ → Fault → Type 0

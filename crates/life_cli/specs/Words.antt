@@ -10,7 +10,7 @@ pub use Rattle.life_canon.specs.Running.{AreWorking, ReadsPattern, RunsCanon}
 pub use Rattle.life_canon.specs.Store.{content, IsOfFile, IsRead, IsTrimmed, IsShortageOf, Keeps, universe_in}
 pub use Rattle.life_canon.specs.Texts.{IsRleOf, IsShownText}
 pub use Rattle.life_cli.specs.Forms.{AreSameIn, HasTooLarge}
-pub use Rattle.life_cli.specs.Jobs.{AreUncompared, IsWrittenInPart, CanonRefuses, HasNoTable, HasNoTextByTable, HasTable, HasTextByTable, HoldsTwoFiles, IsPatternIn}
+pub use Rattle.life_cli.specs.Jobs.{AreUncompared, IsWrittenInPart, CanonRefuses, HasNoTable, HasNoTextByTable, HasTable, HasTextByTable, IsPatternIn}
 pub use Rattle.life_cli.specs.Jobs.{made_status, made_text, MadeOf, OfFile, OfTable, RefusesSame, RefusesLifeStep, RefusesStepBy, TaskMakes, TaskRan, TaskRefuses}
 pub use Rattle.life_cli.specs.Jobs.{Worked, WritesPlacedText}
 pub use Rattle.life_cli.specs.Origins.{FailsToOpen, OpensFiles}

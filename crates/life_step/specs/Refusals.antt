@@ -138,14 +138,6 @@ LacksForLife rule root store = SomeByRule (IsNew store) rule root
 abbrev pub LacksForTable : Table → Rule → Tree → Nodes → Type 0
 LacksForTable table rule root store = SomeByTable (IsNew store) table rule root
 
--- the bytes are a file, and the store lacks a square that the step of its pattern needs under its own rule
-abbrev pub LacksForNext : List ℕ → Nodes → Type 0
-LacksForNext bytes store = SomeOfNextFile (IsNew store) bytes
-
--- the same by a table
-abbrev pub LacksForNextBy : Table → List ℕ → Nodes → Type 0
-LacksForNextBy table bytes store = SomeOfNextFileBy (IsNew store) table bytes
-
 -- the store lacks a square that the bytes need, to be read or to be stepped
 abbrev pub LacksForStep : List ℕ → Nodes → Type 0
 LacksForStep bytes store = SomeOfStep (IsNew store) bytes

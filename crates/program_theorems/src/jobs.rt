@@ -4,7 +4,7 @@ ghost use Rattle.std.specs.Prelude.{◌≡◌, ◌⊎◌, ◌<◌, ◌++◌, ℕ
 ghost use Rattle.program_theorems.specs.Words.{HasClaimedSecond, IsGiven, IsOutcome, IsShortFile, IsRefused, DeviceHolds};
 
 use crate::laws::layers_agree;
-use crate::runs::Run;
+use crate::runs::ProgramRun;
 use life_base::{Sink, Source};
 use life_cli::work_seeded;
 use std::alloc::Global;
@@ -14,7 +14,7 @@ use std::alloc::Global;
 /// A sink that fails, or takes no bytes, has a prefix of the text or of the line.
 pub fn does_its_job<A: Source, B: Source, O: Sink, E: Sink>(
     alloc: Global,
-    run: &mut Run<A, B, O, E>,
+    run: &mut ProgramRun<A, B, O, E>,
 ) -> u8
     requires { IsGiven run.old.task (A.failures run.old.first) B.failures run.old.second
         (O.failures run.old.out) (O.stalled run.old.out)

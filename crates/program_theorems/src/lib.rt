@@ -8,4 +8,4 @@ mod runs;
 
 pub use jobs::does_its_job;
 pub use outputs::{outputs_of_two_runs, written_text_is_that_of_canon};
-pub use runs::Run;
+pub use runs::ProgramRun;

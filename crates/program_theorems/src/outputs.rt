@@ -4,7 +4,7 @@ ghost use Rattle.std.specs.Prelude.{◌≡◌, ◌⊎◌, ◌↔◌, ◌<◌, �
 ghost use Rattle.program_theorems.specs.Words.{claimed_node_lines, SayOnePattern, pattern_of, Pattern, IsClaimedShown, IsGiven, WritesCanonical, FormValue, SameIn};
 
 use crate::laws::layers_agree;
-use crate::runs::Run;
+use crate::runs::ProgramRun;
 use life_base::{Fault, Sink, Source};
 use life_canon::canon;
 use life_cli::plans::{Form, Target, Task};
@@ -15,7 +15,7 @@ use std::alloc::Global;
 /// What `canon`, without a form, and `convert --to mc` write is the canonical text that `canon` of `life_canon` makes of the bytes of the file.
 pub fn written_text_is_that_of_canon<A: Source, B: Source, O: Sink, E: Sink>(
     alloc: Global,
-    run: &mut Run<A, B, O, E>,
+    run: &mut ProgramRun<A, B, O, E>,
     file: &[u8],
     limit: u64,
     seed: Seed,
@@ -42,8 +42,8 @@ pub fn written_text_is_that_of_canon<A: Source, B: Source, O: Sink, E: Sink>(
 /// node lines the text has that `canon` writes of the same bytes without a form.
 pub fn outputs_of_two_runs<A: Source, B: Source, O: Sink, E: Sink>(
     alloc: Global,
-    one: &mut Run<A, B, O, E>,
-    two: &mut Run<A, B, O, E>,
+    one: &mut ProgramRun<A, B, O, E>,
+    two: &mut ProgramRun<A, B, O, E>,
 ) -> (u8, u8)
     requires given { IsGiven one.old.task (A.failures one.old.first) B.failures one.old.second
         (O.failures one.old.out) (O.stalled one.old.out)

@@ -50,7 +50,7 @@ pub fn as_rle(alloc: Global, store: &mut Shared, bytes: &[u8]) -> Result<Vec<u8>
     to_rle(alloc, store, bytes)
 }
 
-pub fn shown(alloc: Global, store: &mut Shared, bytes: &[u8]) -> Result<Vec<u8>, Fault> {
+pub fn show_file(alloc: Global, store: &mut Shared, bytes: &[u8]) -> Result<Vec<u8>, Fault> {
     show(alloc, store, bytes)
 }
 

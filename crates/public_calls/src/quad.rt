@@ -89,7 +89,7 @@ pub fn run_put<S: Squares>(
     put_run(squares, root, x, y, len, state)
 }
 
-pub fn grown<S: Squares>(squares: &mut S, id: Id) -> Result<Id, Kind>
+pub fn grow_square<S: Squares>(squares: &mut S, id: Id) -> Result<Id, Kind>
     requires known { S.knows squares.old id }
     requires low { 1 ≤ depth (S.content squares.old id) }
     requires high { depth (S.content squares.old id) < MAX_LEVEL }
@@ -97,7 +97,7 @@ pub fn grown<S: Squares>(squares: &mut S, id: Id) -> Result<Id, Kind>
     grow(squares, id)
 }
 
-pub fn trimmed<S: Squares>(squares: &mut S, id: Id, least: u8) -> Result<Id, Kind>
+pub fn trim_square<S: Squares>(squares: &mut S, id: Id, least: u8) -> Result<Id, Kind>
     requires known { S.knows squares.old id }
     requires positive { 1 ≤ least }
 {

@@ -213,7 +213,7 @@ fn takes_two(task: &Task) -> bool
 
 /// The status of a task, what standard error took, which has space for `heard.0` bytes and takes `heard.1` at a time, and whether a read of the
 /// first file failed.
-pub(super) fn told<O: Sink>(
+pub(super) fn run_case<O: Sink>(
     rt: &impl Abort,
     alloc: Global,
     case: &Case,
@@ -268,7 +268,7 @@ pub(super) fn assert_case(
     wanted: &Left,
 ) {
     let mut out = sink_with(alloc, sink.0, sink.1);
-    let (status, err, first_failed) = told(rt, alloc, case, &mut out, (99, 3));
+    let (status, err, first_failed) = run_case(rt, alloc, case, &mut out, (99, 3));
     let is_told = status == wanted.status && first_failed == wanted.first_failed;
     let is_taken = out.taken.as_slice() == wanted.out && err.taken.as_slice() == wanted.err;
     if !is_told || !is_taken || (out.failed && status != 3) {

@@ -1,7 +1,7 @@
 //! Each call of a device in turn fails: each read, also the one after the last byte, a write after a prefix of the text, and the flush.
 
 use super::TASKS;
-use super::devices::{Case, End, Narrow, assert_case, assert_left, sink_with, told};
+use super::devices::{Case, End, Narrow, assert_case, assert_left, run_case, sink_with};
 use super::tasks::{WIDE, case_of, dripping, read_fault};
 use life_base::Device;
 use life_cli::plans::{Form, Task};
@@ -65,7 +65,7 @@ fn assert_front(
         end,
     };
     let mut out = Device::new(writer);
-    let (status, err, _) = told(rt, alloc, case, &mut out, (99, 3));
+    let (status, err, _) = run_case(rt, alloc, case, &mut out, (99, 3));
     drop(out);
     let is_fault = status == 3 && err.taken.as_slice() == b"WriteFault\n".as_slice();
     let is_front = text.starts_with(&taken) && taken.len() == room;
@@ -115,7 +115,7 @@ fn each_flush_fails(rt: HostRuntime) {
 fn assert_error_front(rt: &impl Abort, alloc: Global, room: usize, piece: usize, wanted: &[u8]) {
     let mut out = sink_with(alloc, 999, 7);
     let case = case_of(Task::Canon(Form::Placed), b"o!\n", None, 999);
-    let (status, err, _) = told(rt, alloc, &case, &mut out, (room, piece));
+    let (status, err, _) = run_case(rt, alloc, &case, &mut out, (room, piece));
     assert_left(rt, (status, out, err), (2, b"", wanted));
 }
 

@@ -69,7 +69,7 @@ fn short_flag<'a>(alloc: Global, id: &'a str, letter: char, help: &'a str) -> Ar
 }
 
 /// A command with its texts, and no argument yet.
-fn described<'a>(alloc: Global, name: &'a str, help: Help) -> Command<'a>
+fn new_command<'a>(alloc: Global, name: &'a str, help: Help) -> Command<'a>
     ensures { ReadsAs (new_app name.entry.now) result }
 {
     Command::new(alloc, name)
@@ -110,7 +110,7 @@ fn one_file<'a>(alloc: Global, name: &'a str, help: Help) -> Result<Command<'a>,
     ensures { IfOk result (ReadsAs (one_file_line name.entry.now)) }
 {
     let file = file(alloc, "FILE", "The pattern file, or - for standard input");
-    with_argument(described(alloc, name, help), file)
+    with_argument(new_command(alloc, name, help), file)
 }
 
 fn canon<'a>(alloc: Global) -> Result<Command<'a>, AllocError>
@@ -135,7 +135,7 @@ fn two_files<'a>(alloc: Global, name: &'a str, help: Help) -> Result<Command<'a>
     ensures { IfOk result (ReadsAs (two_files_line name.entry.now)) }
 {
     let first = file(alloc, "A", "A pattern file, or - for standard input");
-    let command = with_argument(described(alloc, name, help), first)?;
+    let command = with_argument(new_command(alloc, name, help), first)?;
     let second = file(alloc, "B", "Another one; only one of the two may be -");
     with_argument(command, second)
 }
@@ -165,7 +165,7 @@ fn any_files<'a>(
     ensures { IfOk result (ReadsAs (files_line name.entry.now)) }
 {
     let files = files(alloc, "Pattern files; one of them may be -, standard input");
-    let command = with_argument(described(alloc, name, help), files)?;
+    let command = with_argument(new_command(alloc, name, help), files)?;
     let command = with_argument(command, form(alloc, form_help))?;
     let help = "End names in NUL, and write them as they are";
     let command = with_argument(command, flag(alloc, "zero", help))?;
@@ -196,7 +196,7 @@ fn step<'a>(alloc: Global) -> Result<Command<'a>, AllocError>
 fn bare<'a>(alloc: Global) -> Result<Command<'a>, AllocError>
     ensures { IfOk result (λ command. ReadsAs named_program command) }
 {
-    let command = described(alloc, "golly_canon", PROGRAM).version("0.2.0");
+    let command = new_command(alloc, "golly_canon", PROGRAM).version("0.2.0");
     command.subcommand_required(true).bin_name("golly_canon")
 }
 

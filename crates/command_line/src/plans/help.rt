@@ -30,7 +30,7 @@ converts and steps pattern files.
 A pattern is a rule, a generation and a state for every cell of the plane. A file
 is extended RLE (.rle) or a macrocell file (.mc), as Golly reads and writes them:
 one whose line 1 begins with [M2] is read as macrocell, every other one as RLE.
-Two files have one canonical text exactly if they are the same pattern, in whichever
+Two files have the same canonical text exactly if they are the same pattern, in whichever
 format and however they are written.",
     notes: "Examples:
   golly_canon canon glider.rle
@@ -51,14 +51,13 @@ Exit status:
   4  there isn't enough memory, or more than 2^31 squares are needed
   5  the command line isn't understood
 
-With the statuses 2 to 4 one line on standard error says why: `line N: NAME`,
-where N is a line of the file, counted from 1, `table line N: NAME` for a line of a
-rule table, or `NAME` alone. A file that is refused writes nothing to standard
-output. With --explain a sentence follows that line: it says what is wrong and what
-to do. On a terminal you get the sentence without --explain too. `keys` and
-`duplicates` write the name of a file that has no key, and the sentence, in one line.
-With status 5 a text on standard error says what is wrong, or the line `TwoInputs`:
-both files are -.
+With the statuses 2 to 4 one line on standard error says why. It is `line N: NAME` for
+line N of the file (counted from 1), `table line N: NAME` for line N of a rule table, or
+`NAME` alone. If a file is refused, nothing is written to standard output. With
+--explain a sentence follows that line: it says what is wrong and what to do. On a
+terminal you get the sentence without --explain too. `keys` and `duplicates` write one
+line for a file that has no key: its name and the sentence. With status 5 a text on
+standard error says what is wrong; if both files are -, it is the line `TwoInputs`.
 
   NoHeader         the file begins with no header, neither [M2] nor `x = ..`
   BadRule          the rule is empty, too long or has a byte that no rule has
@@ -92,7 +91,7 @@ both files are -.
   BadVariable             a line `var` isn't of its form
   BadTransition           a transition isn't of its form
   UnboundOutput           the new state is a variable that isn't an input of its line
-  NotQuiet                a cell among cells of state 0 doesn't stay 0
+  NotQuiet                the table makes live cells where all cells are 0
   Ambiguous               the line that fits a cell of the pattern gives it two states
  without a line:
   NeedsTable       the rule is a name: `step` needs its rule table
@@ -106,8 +105,9 @@ both files are -.
   InputTooLong     a file has more than 2^30 bytes
   ReadFault        a file can't be opened or read
   WriteFault       the output can't be written
-  Full             a command needs more than 2^31 different squares: reading does so
-                   only for files of more than 153 MB; or a form has more than 2^21
+  Full             a command needs more than 2^31 different squares (reading a file
+                   does so only if it has more than 153 MB), or a pattern that
+                   --form has moved or turned has more than 2^21
   Memory           there isn't enough memory",
 };
 
@@ -116,9 +116,9 @@ pub const CANON: Help = Help {
     about: "Writes the one canonical text of a pattern file.
 
 It is a macrocell file: the line `[M2] (canonical 1)`, the rule in its canonical
-form, the generation if it isn't 0, and each different square that isn't blank once,
-each after its quarters. The last one is the least square about the middle of the
-plane that holds the pattern. Every cell keeps its state.
+form, the generation if it isn't 0, and one line for each different square that isn't
+blank, after the lines of its quarters. Of the squares about the middle of the plane,
+the last one is the smallest that holds the pattern. Every cell keeps its state.
 
 Golly opens the text as a blank pattern if its only square is a leaf of 8 x 8 cells, as
 for a small pattern about (0, 0). Give Golly what `golly_canon convert FILE --to rle`
@@ -127,16 +127,16 @@ writes.
 --form says in which form the pattern is written:
 
 placed  as it lies (the default)
-moved   with the bounding box of its cells at (0, 0); a box that would then leave the
-        plane ends with the plane instead
-turned  of its eight turns and reflections, each moved, the one with the least text,
-        byte by byte
+moved   with the north-west corner of its bounding box at (0, 0); if the box doesn't
+        fit there, it ends at the edge of the plane instead
+turned  turned or reflected, and then moved, in the one of the eight ways whose text
+        is the least, byte by byte
 
-Two patterns have the same moved text exactly if a shift takes one to the other, and
-the same turned text exactly if a turn or a reflection and then a shift does. The rule
-and the generation stay as they are, even if the rule distinguishes directions. A
-moved pattern has at most 2^21 different squares, and so has each of the eight of a
-turned one; otherwise the form is refused (Full).",
+Two patterns have the same moved text exactly if a shift takes one to the other. They
+have the same turned text exactly if a turn or a reflection, followed by a shift, takes
+one to the other. The rule and the generation stay as they are, even if the rule
+distinguishes directions. The form is refused (Full) if the moved pattern has more than
+2^21 different squares; for `turned`, if any of the eight moved patterns has so many.",
     notes: notes_over_one_file!(
         "Examples:
   golly_canon canon glider.rle
@@ -205,11 +205,12 @@ Exit status:
      2^21 in a form
   5  the command line isn't understood, or both files are -
 
-The line on standard error doesn't say which file it is about. With --explain, the
-sentence after it does, where that can be found out. The first of these is
-reported: A can't be read or is too long; B can't be read or is too long; A's first
-fault; B's first fault; and then, with --form moved, or with --form turned if both have
-the same generation, the form of one of them has more than 2^21 squares (Full).
+The line on standard error doesn't say which file it is about. With --explain the
+sentence after it names the file, if that is known. If several things are wrong, the first
+of this list is reported: A can't be read or is too long; B can't be read or is too
+long; A's first fault; B's first fault; a form with more than 2^21 squares (Full). The
+last of these is found only if --form is `moved`, or if it is `turned` and both files
+have the same generation.
 See `golly_canon --help` for the lines on standard error.",
 };
 
@@ -242,11 +243,11 @@ pub const STEP: Help = Help {
     about: "Writes the canonical text of the next generation of a pattern file.
 
 A pattern under a B/S rule needs no table: B3/S23 counts the eight neighbours of a
-cell, and B1/S0V, with a V after it, the four at its sides. A pattern under a name needs
-the rule table of that name, the section @TABLE of a .rule file: the first line that
-fits a cell and its neighbours gives the cell's next state, and a cell that no line
-fits keeps its state. The table is read before the pattern. A pattern with more than
-2^20 cells that aren't 0 is refused (TooManyCells).",
+cell, and B1/S0V, with a V after it, the four at its sides. A pattern whose rule is a
+name needs the rule table of that name, the section @TABLE of a .rule file. The first
+line of the table that fits a cell and its neighbours gives the cell's next state. A
+cell that no line fits keeps its state. The table is read before the pattern. A pattern
+with more than 2^20 cells that aren't 0 is refused (TooManyCells).",
     notes: "Examples:
   golly_canon step glider.rle
   golly_canon step - < glider.mc
@@ -270,18 +271,18 @@ spaces and the name of the file.
 
 The key is the SHA-256, in 64 hex digits, of the text that `golly_canon canon FILE`
 writes. So two files have the same key if they are the same pattern, in whichever format
-and however they are written. --form says in which form the patterns are taken:
+and however they are written. --form says which patterns get the same key:
 
-placed  as they lie (the default)
-moved   wherever they are: shifts of a pattern have the same key
-turned  however they are turned or reflected too
+placed  a pattern as it lies (the default)
+moved   a pattern and its shifts
+turned  a pattern, its turns and its reflections, and the shifts of all these
 
 A file that is refused or can't be opened is reported on standard error, by its name, and
 passed over. In a name, a backslash, a line feed and a carriage return are written as
 \\\\, \\n and \\r, and the line then begins with a backslash.
 
-Where standard error is a terminal, a line there says how many files are done, once that
-takes more than a second. It is cleared before any other line, and at the end.
+If standard error is a terminal and the work takes more than a second, a line there says
+how many files are done. It is cleared before any other line, and at the end.
 
 With -r, a FILE that is a folder represents the files in it and in the folders below it,
 in the order of their names. Links in a folder are passed over. A FILE that is a link
@@ -289,17 +290,17 @@ is followed.
 
 LIST has one name a line, as `find` writes them. With --zero each name ends in NUL, as
 `find -print0` writes them, and so do the lines of the output. The list is read before
-any file is opened. In it, - is a file of that name.
+any file is opened. In the list, - is the name of a file, and not standard input.
 
-With --json each file has an object of JSON, one a line, also if it has no key:
+With --json each file gets an object of JSON, one a line, even if it has no key:
 
   {\"name\":\"glider.rle\",\"key\":\"7b1c..\"}
   {\"name\":\"bad.rle\",\"kind\":\"ZeroCount\",\"line\":3,\"reason\":\"A count is 0.\"}
   {\"name\":\"gone.rle\",\"kind\":\"ReadFault\",\"reason\":\"no such file\"}
 
-Nothing is then written to standard error about a file without a key. A name that isn't
-UTF-8 text has U+FFFD for the bytes that aren't. Each object ends in a line feed, also
-with --zero.",
+Nothing is then written to standard error about a file without a key. In a name, U+FFFD
+replaces the bytes that aren't UTF-8 text. Each object ends in a line feed, even with
+--zero.",
     notes: "Examples:
   golly_canon keys *.rle *.mc
   golly_canon keys -r patterns > keys
@@ -316,10 +317,11 @@ Exit status:
   4  there isn't enough memory, or more than 2^31 squares are needed, for a file
   5  the command line isn't understood, no file is named, or - is named twice
 
-If several apply, the greatest is given; if the output can't be written, it is 3. A file
-that is refused is reported as `NAME: line N: KIND: ..`, or as `NAME: KIND: ..` if the
-fault is on no line; `golly_canon --help` lists the kinds. A list that can't be read is
-reported as `ReadFault`.",
+If several of these apply, the status is the greatest of them; but if the output can't
+be written, the status is 3. A file that is refused is reported as
+`NAME: line N: KIND: ..`, or as `NAME: KIND: ..` if the fault is on no line;
+`golly_canon --help` lists the kinds. A list that can't be read is reported as
+`ReadFault`.",
 };
 
 pub const DUPLICATES: Help = Help {
@@ -334,16 +336,16 @@ same bytes:
   patterns/glider.rle
   patterns/old/glider.mc
 
-A group has at least two files: all those that have one key, as `golly_canon keys`
-writes it in the same form. The names of its files are in the order in which you give the
-files, one a line. An empty line is between two groups, and the groups are in the order of
-their first files. A file that is the only one of its key isn't written.
+A group has at least two files: all files for which `golly_canon keys`, in the same form,
+writes the same key. Their names are written one a line, in the order in which you give
+the files. An empty line separates two groups, and the groups are in the order of their
+first files. A file isn't written if no other file has its key.
 
---form says in which form the patterns are taken:
+--form says which patterns are in one group:
 
-placed  as they lie
-moved   wherever they are: shifts of a pattern are in one group (the default)
-turned  however they are turned or reflected too
+placed  a pattern as it lies
+moved   a pattern and its shifts (the default)
+turned  a pattern, its turns and its reflections, and the shifts of all these
 
 The default is `moved`, because Golly writes the .rle file and the .mc file of one pattern
 at different places.
@@ -353,7 +355,7 @@ as by `golly_canon keys`, and passed over. Nothing is written to standard output
 each file has been read.
 
 In a name, a backslash, a line feed and a carriage return are written as \\\\, \\n and \\r.
-With --zero the names are written as they are and end in NUL, and one more NUL is between
+With --zero the names are written as they are and end in NUL, and one more NUL separates
 two groups.
 
 With -r, a FILE that is a folder represents the files in it and in the folders below it,
@@ -361,8 +363,8 @@ in the order of their names. Links in a folder are passed over. A FILE that is a
 is followed.
 
 LIST has one name a line, as `find` writes them; with --zero each name ends in NUL, as
-`find -print0` writes them. The list is read before any file is opened. In it, - is a file
-of that name.",
+`find -print0` writes them. The list is read before any file is opened. In the list, - is
+the name of a file, and not standard input.",
     notes: "Examples:
   golly_canon duplicates *.rle *.mc
   golly_canon duplicates -r patterns
@@ -378,7 +380,7 @@ Exit status:
   4  there isn't enough memory, or more than 2^31 squares are needed, for a file
   5  the command line isn't understood, no file is named, or - is named twice
 
-If several apply, the greatest is given, so 0 and 1 mean that each file has its key; if the
-output can't be written, it is 3. `golly_canon keys --help` says how a file without a key is
-reported.",
+If several of these apply, the status is the greatest of them, so 0 and 1 mean that each
+file has its key. But if the output can't be written, the status is 3.
+`golly_canon keys --help` says how a file without a key is reported.",
 };

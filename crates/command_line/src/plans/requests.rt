@@ -50,7 +50,7 @@ fn value<'a>(found: &ArgMatches<'a>, id: &str) -> Option<&'a str>
     found.get_str(id)
 }
 
-fn required(alloc: Global, found: &ArgMatches<'_>, id: &str) -> Result<String, Usage>
+fn required_text(alloc: Global, found: &ArgMatches<'_>, id: &str) -> Result<String, Usage>
     requires { IsFoundAmong id.now (rows_of (found_of found.now)) }
     ensures ok { IfOk result
         (λ s. first_of id.now (rows_of (found_of found.now)) ≡ Some (string_bytes s)) }
@@ -138,7 +138,7 @@ fn over_file(alloc: Global, found: &ArgMatches<'_>, task: Task) -> Result<TaskPl
         × HoldsFlag (codes "explain") (rows_of (found_of found.now)) p.explain) }
     ensures err { IfErr result (λ usage. usage ≡ Usage.Memory) }
 {
-    let first = required(alloc, found, "FILE")?;
+    let first = required_text(alloc, found, "FILE")?;
     Ok(TaskPlan {
         task,
         first,
@@ -162,8 +162,8 @@ fn over_files(
         × HoldsFlag (codes "explain") (rows_of (found_of found.now)) p.explain) }
     ensures err { IfErr result (λ usage. usage ≡ Usage.Memory) }
 {
-    let first = required(alloc, found, first)?;
-    let second = required(alloc, found, second)?;
+    let first = required_text(alloc, found, first)?;
+    let second = required_text(alloc, found, second)?;
     Ok(TaskPlan {
         task,
         first,
@@ -200,7 +200,7 @@ fn lacks_files(alloc: Global, call: &str) -> Usage
 }
 
 /// A copy of a list of names.
-fn copied<'a>(alloc: Global, names: &[&'a str]) -> Result<Vec<&'a str>, Error>
+fn copy_of<'a>(alloc: Global, names: &[&'a str]) -> Result<Vec<&'a str>, Error>
     ensures ok { IfOk result (λ copy. copy.items ≡ names.now) }
     ensures err { IfErr result (λ error. kind_of error ≡ ErrorKind.OutOfMemory) }
 {
@@ -216,7 +216,7 @@ fn values<'a>(alloc: Global, found: &ArgMatches<'a>, id: &str) -> Result<Vec<&'a
     ensures err { IfErr result (λ error. kind_of error ≡ ErrorKind.OutOfMemory) }
 {
     match found.get_strs(id) {
-        Some(names) => copied(alloc, names),
+        Some(names) => copy_of(alloc, names),
         None => Ok(Vec::new(alloc)),
     }
 }

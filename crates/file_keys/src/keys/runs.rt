@@ -15,12 +15,12 @@ use std::io::Result as IoResult;
 
 /// A run: its files, and what it writes of them.
 #[derive(Drop)]
-pub struct Run<F> {
+pub struct KeyRun<F> {
     files: Files<F>,
     outputs: Outputs,
 }
 
-impl<R: Source + Drop, F: FnMut(Origin<'_>) -> IoResult<R> + Drop> Run<F> {
+impl<R: Source + Drop, F: FnMut(Origin<'_>) -> IoResult<R> + Drop> KeyRun<F> {
     /// Takes the files that the words name.
     fn take_words<W: Sink, E: Sink>(
         &mut self,
@@ -134,7 +134,7 @@ where
         Ok(list) => list,
         Err(kind) => return refuse(err, kind),
     };
-    let mut run = Run {
+    let mut run = KeyRun {
         files,
         outputs: Outputs::new(alloc, Style::of(plan)),
     };

@@ -4,4 +4,4 @@ use Rattle.command_line.specs.CommandLine.{required_file}
 use Rattle.command_line.proofs.plans.commands.one_file.Goals as goal
 
 pub returns : goal.returns
-returns c = c.with_argument.ensures (new_app c.args.name.now) (required_file (codes "FILE")) c.described.ensures c.file-file.ensures
+returns c = c.with_argument.ensures (new_app c.args.name.now) (required_file (codes "FILE")) c.new_command.ensures c.file-file.ensures

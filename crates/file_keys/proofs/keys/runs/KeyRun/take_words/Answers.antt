@@ -2,7 +2,7 @@ use Rattle.std.proofs.Common.{◌∙◌, map, drop, ◌+◌, refl}
 use Rattle.std.proofs.lemmas.Result.{err_from_is_err_and}
 use Rattle.file_keys.specs.KeyRuns.{by_call, Word}
 use Rattle.file_keys.proofs.KeyRunLemmas.{hears_on, takes_err, takes_next, takes_none, words_next}
-use Rattle.file_keys.proofs.keys.runs.Run.take_words.Goals as goal
+use Rattle.file_keys.proofs.keys.runs.KeyRun.take_words.Goals as goal
 
 pub loop-word-init : goal.loop-word-init
 loop-word-init g c = record { can = c.requires; stalled = refl; style = refl; form = refl; took = takes_none _ _ _ _ _ _ _ _ _ _ _ _ _ c.requires.hears }

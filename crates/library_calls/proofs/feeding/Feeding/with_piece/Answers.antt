@@ -8,7 +8,7 @@ use Rattle.life_canon.specs.Store.{IsShortageOf}
 use Rattle.library_calls.specs.Outputs.{Piecewise, RefusesPiece}
 use Rattle.library_calls.proofs.NeedFacts.{if-err, on-ok, piece-low}
 use Rattle.library_calls.proofs.StreamFacts.{piece-fault}
-use Rattle.library_calls.proofs.feeding.Feeding.fed.Goals as goal
+use Rattle.library_calls.proofs.feeding.Feeding.with_piece.Goals as goal
 
 pub returns-in_err-taken-clause-fault : goal.returns-in_err-taken-clause-fault
 returns-in_err-taken-clause-fault c =

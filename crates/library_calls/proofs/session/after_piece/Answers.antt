@@ -1,5 +1,5 @@
 use Rattle.library_calls.proofs.StreamFacts.{feeds-piece, feeds-fault, fed-ended}
-use Rattle.library_calls.proofs.session.fed.Goals as goal
+use Rattle.library_calls.proofs.session.after_piece.Goals as goal
 
 pub returns-in-Ok : goal.returns-in-Ok
 returns-in-Ok c = feeds-piece c.args.piece.now c.args.session c.in-Reading.feeding c.in-Ok.feeding c.in-Reading.is c.in-Ok.ensures.fed c.in-Ok.ensures.front

@@ -3,7 +3,7 @@ use Rattle.std.proofs.lemmas.Result.{err_from_is_err_and}
 use Rattle.file_keys.specs.Keys.{end_byte_of_name}
 use Rattle.file_keys.specs.KeyRuns.{Listed, names_in}
 use Rattle.file_keys.proofs.KeyRunLemmas.{hears_on, on_ok, takes_both, takes_err, takes_flushed, takes_longer}
-use Rattle.file_keys.proofs.keys.runs.Run.take_all.Goals as goal
+use Rattle.file_keys.proofs.keys.runs.KeyRun.take_all.Goals as goal
 
 pub take_words-requires : goal.take_words-requires
 take_words-requires g c = record { callable = c.requires.callable; works = c.requires.works; hears = c.requires.hears }

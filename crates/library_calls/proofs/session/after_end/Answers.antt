@@ -1,5 +1,5 @@
 use Rattle.library_calls.proofs.StreamFacts.{ends-text, ends-fault, ended-ended}
-use Rattle.library_calls.proofs.session.ended.Goals as goal
+use Rattle.library_calls.proofs.session.after_end.Goals as goal
 
 pub returns-in-Ok : goal.returns-in-Ok
 returns-in-Ok c = ends-text c.args.session c.in-Reading.feeding c.in-Ok.text c.in-Reading.is c.in-Ok.ensures.text c.in-Ok.ensures.fits

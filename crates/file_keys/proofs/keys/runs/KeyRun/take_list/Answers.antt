@@ -3,8 +3,8 @@ use Rattle.std.proofs.lemmas.Result.{err_from_is_err_and}
 use Rattle.file_keys.specs.Keys.{end_byte_of_name}
 use Rattle.file_keys.specs.KeyRuns.{Listed, names_in}
 use Rattle.file_keys.proofs.KeyRunLemmas.{hears_on, names_next, takes_err, takes_next, takes_none}
-use Rattle.file_keys.proofs.keys.runs.Run.take_list.Goals as goal
-use Rattle.file_keys.proofs.keys.runs.Run.take_list.Goals.{then-zero, else-zero}
+use Rattle.file_keys.proofs.keys.runs.KeyRun.take_list.Goals as goal
+use Rattle.file_keys.proofs.keys.runs.KeyRun.take_list.Goals.{then-zero, else-zero}
 
 pub loop-rest-init : goal.loop-rest-init
 loop-rest-init g c = record {
