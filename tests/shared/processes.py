@@ -41,10 +41,14 @@ def has_node(*more):
     return bool(version) and int(version[1]) >= NODE
 
 
-def run(words, source=b"", **how):
-    """Runs a program with this standard input."""
-    found = subprocess.run(words, input=source, stdout=subprocess.PIPE, stderr=subprocess.PIPE, check=False, **how)
+def answer_of(words, **how):
+    found = subprocess.run(words, stdout=subprocess.PIPE, stderr=subprocess.PIPE, check=False, **how)
     return Answer(found.returncode, found.stdout, found.stderr)
+
+
+def run(words, source=b"", **how):
+    """Runs a program with this standard input, which comes through a pipe."""
+    return answer_of(words, input=source, **how)
 
 
 def spawned(words, given):
@@ -80,8 +84,12 @@ def compiled(source, path, *words):
 
 def preloaded(shared_object, words, settings, count, source=b"", **how):
     """Runs a program whose calls of the C library go through a shared object first, with these settings for it. Returns what it answers, and so many
-    numbers that the shared object reports, or zeros where it reports none."""
-    with tempfile.NamedTemporaryFile() as report:
-        given = {name: str(it) for name, it in settings.items()}
-        answer = run(words, source, env={**os.environ, **given, "REPORT": report.name, "LD_PRELOAD": shared_object}, **how)
+    numbers that the shared object reports, or zeros where it reports none. Standard input is a file: a pipe gives it in pieces that differ from run to run,
+    and so do the calls that take them."""
+    with tempfile.NamedTemporaryFile() as report, tempfile.TemporaryFile() as given:
+        given.write(source)
+        given.seek(0)
+        variables = {name: str(it) for name, it in settings.items()}
+        environment = {**os.environ, **variables, "REPORT": report.name, "LD_PRELOAD": shared_object}
+        answer = answer_of(words, stdin=given, env=environment, **how)
         return answer, [int(it) for it in report.read().split()] or [0] * count
