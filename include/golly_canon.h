@@ -176,9 +176,9 @@ uint32_t golly_canon_same(const unsigned char *first, size_t first_length,
 
 /* The canonical text of the pattern of a file in a form. Two files have the same text exactly if they have the same rule and generation, and the cells
  * of one are those of the other: as they lie (placed: the text of golly_canon_canon), shifted (moved), or turned or reflected and then shifted
- * (turned). The moved pattern has a store of its own, and so has each of the eight of the form turned; each of these stores may hold as many squares as the
- * limit says, and at most 2^21. If one of them is too small, the call returns Full. For a number of no form the call returns NoForm, with 0 in `*needed` and
- * `*line`.
+ * (turned). The moved pattern is made in a second store of squares. For the form turned there are up to four such stores, one after the other. Each of them
+ * may hold as many squares as the limit says, and at most 2^21. If one of them is too small, the call returns Full. For a number of no form the call
+ * returns NoForm, with 0 in `*needed` and `*line`.
  * The caller guarantees what golly_canon_canon names: `out` was written before, and neither `needed` nor `line` is NULL. */
 uint32_t golly_canon_canon_form(const unsigned char *bytes, size_t length, uint32_t form, uint64_t limit, uint64_t seed,
                                 unsigned char *out, size_t room, size_t *needed, uint64_t *line);

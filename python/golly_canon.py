@@ -1,6 +1,6 @@
 """One canonical text for each cellular-automaton pattern, by the proved library libgolly_canon.
 
-A pattern file is bytes in extended RLE or in macrocell. Two files have one canonical text exactly if they are one pattern:
+A pattern file is bytes in extended RLE or in macrocell. Two files have the same canonical text exactly if they are the same pattern:
 
     >>> import golly_canon
     >>> golly_canon.canon(b"x = 3, y = 3, rule = 23/3\\nbo$2bo$3o!\\n")

@@ -189,7 +189,7 @@ class Instance {
 
   call(name, ...words) {
     if (this.isLost) {
-      throw new Fault("what was opened on this module was lost with it");
+      throw new Fault("this module has failed, and everything that was opened on it is lost");
     }
     try {
       return this.#calls[name](...words);
@@ -419,7 +419,7 @@ class Library {
 
   stream({ gives = "canon", form = "placed", limit = SQUARES } = {}) {
     if (!Object.hasOwn(STREAMS, gives) || (gives !== "canon" && form !== "placed")) {
-      throw new RangeError(`a stream gives canon in a form, or ${Object.keys(STREAMS).slice(1).join(", ")}, and not ${gives} ${form}`);
+      throw new RangeError(`gives is canon in any form, or ${Object.keys(STREAMS).slice(1).join(", ")} as placed, and not ${gives} ${form}`);
     }
     return new Stream(this.#here(), gives, numberOf(form), limit, this.#seed);
   }

@@ -229,7 +229,7 @@ async function takeTable(file) {
   colours.set(name, coloursOfRule(bytes));
   const hasTable = /^@TABLE/m.test(new TextDecoder("latin1").decode(bytes));
   const isColoured = colours.get(name).size > 0;
-  say(hasTable ? `Step and Run now use the rule table of ${name}${isColoured ? ", and the picture its colours" : ""}.`
+  say(hasTable ? `Step and Run now use the rule table of ${name}${isColoured ? ", and the picture uses its colours" : ""}.`
     : `The rule file of ${name} has no @TABLE, so it can't be used for a step.${isColoured ? " The picture uses its colours." : ""}`);
   if (shown !== null) {
     picture.show(shown.tree, shown.summary.box, false, colours.get(shown.summary.rule));
@@ -342,19 +342,19 @@ function answerOf(groups) {
     return `${files.length === 2 ? "Both" : `All ${grouped(files.length)}`} files are one pattern${HOW[formOf(groups[0])]}.`;
   }
   if (groups.length === 0) {
-    const what = patterns.length === 2 ? "The files are two patterns" : "No two files are one pattern";
+    const what = patterns.length === 2 ? "The files are two patterns" : "No two files are the same pattern";
     const few = patterns.length === 1 ? "Only one of the files is a pattern." : "None of the files is a pattern: all were refused.";
     return patterns.length < 2 ? few : `${what}${WHATEVER[form]}.`;
   }
   const duplicates = groups.reduce((sum, it) => sum + it.length, 0);
   const how = `${WHATEVER[form]}: ${counted(groups.length, "group", "groups")}`;
-  return `${grouped(duplicates)} of ${grouped(files.length)} files share a pattern with another${how}.`;
+  return `${grouped(duplicates)} of ${grouped(files.length)} files are the same pattern as another file${how}.`;
 }
 
 /** Whether files are probably meant otherwise than they are read, in a sentence. */
 function warned() {
   const count = files.filter(it => it.warning).length;
-  return count > 0 ? `Warning: ${counted(count, "file seems", "files seem")} to be meant as another pattern; see the list.` : "";
+  return count > 0 ? `Warning: ${counted(count, "file doesn't seem", "files don't seem")} to hold the pattern that was meant; see the list.` : "";
 }
 
 /** What two files differ in, or by how much the one is moved; of more files how many were refused, or can't be compared in the form. */
@@ -363,7 +363,7 @@ function whyOf(groups) {
   const without = files.filter(it => it.failed === undefined && it.keys[form] === undefined).length;
   if (files.length !== 2 || refused > 0 || without > 0) {
     const said = [refused > 0 ? `${counted(refused, "file was", "files were")} refused.` : "",
-      without > 0 ? `${counted(without, "file has", "files have")} no key of this form, and can't be compared in it.` : ""];
+      without > 0 ? `${counted(without, "file has", "files have")} no key for this form, and can't be compared.` : ""];
     return said.filter(it => it !== "").join(" ");
   }
   const [one, other] = files.map(it => it.summary);
@@ -371,7 +371,7 @@ function whyOf(groups) {
     const names = { rule: "rules", generation: "generations", population: "numbers of cells" };
     const differing = Object.keys(names).find(it => one[it] !== other[it]);
     if (differing) {
-      return `They have other ${names[differing]}: ${one[differing]} and ${other[differing]}.`;
+      return `They have different ${names[differing]}: ${one[differing]} and ${other[differing]}.`;
     }
     const boxes = [one, other].map(boxOf);
     return boxes[0] !== boxes[1] ? `Their boxes are ${boxes.join(" and ")}.` : "They have the same rule, generation and box, but different cells.";
@@ -445,8 +445,8 @@ function rowOf(file, group) {
 /** Why a file has no key in a form, in words. */
 function whyNoKey(file, which) {
   const kind = file.lacking?.[which];
-  return kind === undefined ? "It isn't computed yet, or was stopped." : kind === "Full"
-    ? `There is none, because the moved pattern has more than ${powerOf(21)} different squares.` : `There is none: ${kind}. ${sentenceOf(kind)}`;
+  return kind === undefined ? "The key isn't computed yet, or its computation was stopped." : kind === "Full"
+    ? `There is no key, because the moved pattern has more than ${powerOf(21)} different squares.` : `There is no key: ${kind}. ${sentenceOf(kind)}`;
 }
 
 /** The list as a table with commas: a line for each file, those of one pattern with one number, and its key in the form that is shown. */

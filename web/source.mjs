@@ -79,7 +79,7 @@ export async function* chunksOfSource(source, onProgress) {
     reader.cancel().catch(() => {}); // where nobody reads on
   }
   if (sum !== undefined && (found !== sum || size !== length)) {
-    throw new Unreadable("it is damaged: its check sum is another one");
+    throw new Unreadable("it is damaged: its checksum doesn't match");
   }
 }
 

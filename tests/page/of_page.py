@@ -151,13 +151,13 @@ def comparing(page, folder):
     page.dropped([one, third])
     counting.row("two files of two patterns", differing(
         {"answer": page.text("answer"), "why": page.text("why")},
-        {"answer": "The files are two patterns.", "why": "They have other rules: B3/S23 and B36/S23."}))
+        {"answer": "The files are two patterns.", "why": "They have different rules: B3/S23 and B36/S23."}))
     page.cleared()
     page.browser.give("files", [one, other, third])
     page.until("document.querySelectorAll('#list tbody tr').length === 3")
     page.rests()
     counting.row("three files are opened", differing({"answer": page.text("answer"), "groups": [it[0] for it in page.list()]},
-                                                    {"answer": "2 of 3 files share a pattern with another: 1 group.", "groups": ["1", "1", ""]}))
+                                                    {"answer": "2 of 3 files are the same pattern as another file: 1 group.", "groups": ["1", "1", ""]}))
 
 
 def pasting(page):
@@ -337,8 +337,8 @@ def warning(page, folder):
           [page.text("warning"), page.text("said")])
     page.dropped([one, two])
     said = [page.text("answer"), page.text("why"), *[it[1] for it in page.list()], *[it["note"] for it in table(page).values()]]
-    holds("two files that lost their line ends", said[0] == "Both files are one pattern." and said[1].endswith("Warning: 2 files seem to be meant as "
-          "another pattern; see the list.") and all("lost its line ends" in it for it in said[2:]), said)
+    holds("two files that lost their line ends", said[0] == "Both files are one pattern." and said[1].endswith("Warning: 2 files don't seem to hold "
+          "the pattern that was meant; see the list.") and all("lost its line ends" in it for it in said[2:]), said)
     for data in (b"[M2]\n#RB36/S23\n$$..*$\n", b"[M2]\n#C a\n#G7\r\n#R B3/S23\n$$..*$\n", b"[M2]\n#R23/3\n"):
         page.dropped(put(folder, comment_mc=data))
         holds(f"a comment that is meant as a rule or a generation: {data}", "a comment here" in page.text("warning"), page.text("warning"))
@@ -694,7 +694,8 @@ def rows_of_list(browser, width):
     """The list is a table with a name, whose rows have headings; on a narrow window each cell is seen, with the name of its column."""
     nodes = browser.command("Accessibility.getFullAXTree")["nodes"]
     named = [(it["role"]["value"], it.get("name", {}).get("value", "")) for it in nodes if not it["ignored"]]
-    problems = [] if [name for role, name in named if role == "table"] == ["The files, those of one pattern with one group number"] else ["no table"]
+    tables = [name for role, name in named if role == "table"]
+    problems = [] if tables == ["The files; those that are the same pattern have the same group number"] else ["no table"]
     rows = browser.run("return document.querySelectorAll('#list tbody tr').length;")
     problems += [] if sum(role == "rowheader" for role, _ in named) == rows > 1 else ["rows without headings"]
     columns = [name for role, name in named if role == "columnheader"]
@@ -747,8 +748,9 @@ def opening(browser, address, program, where):
         browser.give("files", [one, other, pentomino])
         page.until("document.querySelectorAll('#list tbody tr').length === 3")
         page.rests()
-        counting.row(f"three files are opened {where}", differing({"answer": page.text("answer"), "groups": [it[0] for it in page.list()]},
-                                                                 {"answer": "2 of 3 files share a pattern with another: 1 group.", "groups": ["1", "1", ""]}))
+        counting.row(f"three files are opened {where}", differing(
+            {"answer": page.text("answer"), "groups": [it[0] for it in page.list()]},
+            {"answer": "2 of 3 files are the same pattern as another file: 1 group.", "groups": ["1", "1", ""]}))
         page.cleared()
         browser.give("files", [pentomino])
         page.until("!document.getElementById('clear').hidden")

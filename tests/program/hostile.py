@@ -509,8 +509,8 @@ LARGE_RLE = [
     accepted("2^13 single cells anywhere that die", DEEP_RLE, canonical(b"B3/S23", 1), "step input", each=4, times=100),
     accepted("2^11 single cells anywhere that become rings", rle_of(loners, b"B1/S"), [canonical(b"B1/S", 1), lambda: lines_of(rings, 3)], "step input",
              each=6, times=240),
-    accepted("2^11 single cells anywhere, moved", rle_of(loners), macrocell_of(lambda: moved(loners())), "canon input --form moved", each=8, times=200),
-    accepted("2^11 single cells anywhere, turned", rle_of(loners), [least_image], "canon input --form turned", each=80, times=400),
+    accepted("2^11 single cells anywhere, moved", rle_of(loners), macrocell_of(lambda: moved(loners())), "canon input --form moved", each=8, times=400),
+    accepted("2^11 single cells anywhere, turned", rle_of(loners), [least_image], "canon input --form turned", each=80, times=500),
     accepted("2^13 cells of many states in a row", [lambda: scattered_rle(scattered())], states_in_nodes(scattered), each=6, times=300),
     Case("2^13 single cells anywhere in both formats", "same input other", output=b"same\n", files={"input": DEEP_RLE, "other": DEEP_TEXT}),
 ]
@@ -878,7 +878,27 @@ def seam_in_a_margin(count, columns, level):
     return text
 
 
+def seam_of_corners(above, below, columns, level, northern, southern):
+    """The same of squares that have a leaf in their north-western corner alone. The moved form begins in the middle of a leaf, so its squares see
+    of each northern square all but the first four rows, and of each southern one these alone. `northern` and `southern` say what the leaves are."""
+    @once
+    def text():
+        order, nodes = random.Random(3), Nodes()
+        north, south = rows_along_a_seam(
+            nodes, [chain_to(nodes, leaf(northern(order)), 0, level) for _ in range(above)],
+            [chain_to(nodes, leaf(southern(order)), 0, level) for _ in range(below)], columns)
+        first = chain_to(nodes, leaf(1 << 27), 0, level + columns)
+        yield from gathered(nodes.lines(nodes.join(level + columns + 1, first, north, 0, south)))
+    return text
+
+
 SEAM, MARGIN_SEAM = seam(128, 129, 14, 12), seam_in_a_margin(64, 12, 40)
+# A million pairs of squares, of which more would be in the form than it may have.
+LONG_SEAM = seam(1024, 1025, 20, 16)
+# Each square across the seam comes again many times, but only after 65,000 others, on each of 20 levels.
+SEAM_AGAIN = seam_of_corners(363, 362, 30, 3, lambda order: order.getrandbits(32), lambda order: order.getrandbits(32) << 32)
+# A million pairs of squares, all of which differ where nothing of them is seen: the form has few squares.
+SEAM_UNSEEN = seam_of_corners(1024, 1023, 20, 12, lambda order: order.getrandbits(24) << 40 | 1 << 7, lambda order: 1 << 63 | order.getrandbits(24))
 
 
 def random_rows(side):
@@ -920,6 +940,13 @@ FORMS = [
     *in_both_forms("786,432 cells in chains at random", [LIFE, mixed_blocks], little=60 * MEGABYTE),
     *in_both_forms("a seam of two sequences", [LIFE, SEAM], little=400 * MEGABYTE, each=10),
     *in_both_forms("a seam in a margin", [LIFE, MARGIN_SEAM], little=60 * MEGABYTE, each=15),
+    # What each square costs: the bound is the same, however many pairs of squares a file of this kind has.
+    *(accepted(f"{name}, {form}", [LIFE, text], re.compile(rb"\A%s" % re.escape(LIFE)), f"canon input --form {form}", little=400 * MEGABYTE, seconds=40,
+               start=16, each=0)
+      for name, text in (("a seam whose squares come again", SEAM_AGAIN), ("a seam of squares that differ where they aren't seen", SEAM_UNSEEN))
+      for form in ("moved", "turned")),
+    *(refused(f"a seam of a million pairs of squares, {form}", [LIFE, LONG_SEAM], "Full", f"canon input --form {form}", status=4, little=400 * MEGABYTE,
+              seconds=60, start=24, each=0) for form in ("moved", "turned")),
     # Its form would have 2.2 million squares, and the limit is 2^21.
     *(refused(f"10^8 cells at random, {form}", [HEADER, functools.partial(random_rows, 10_240)], "Full", f"canon input --form {form}", status=4,
               little=400 * MEGABYTE, times=0, seconds=20, start=8, each=0) for form in ("moved", "turned")),
