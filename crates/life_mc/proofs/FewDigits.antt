@@ -1,5 +1,5 @@
 -- Numbers of few digits in front of a text.
-use Rattle.std.proofs.Common.{◌≡◌, ℕ, zero, suc, ◌+◌, ◌-◌, ◌*◌, ◌^◌, ◌<◌, ◌≤◌, true, false, ◌&&◌, List, [], ◌∷◌, take, drop, get_or, length, length-drop, refl, ap, sym, ◌∙◌, add-one, arith, drop-drop, get_or-drop}
+use Rattle.std.proofs.Common.{◌≡◌, ℕ, zero, suc, ◌+◌, ◌-◌, ◌*◌, ◌%◌, ◌^◌, ◌<◌, ◌≤◌, true, false, ◌&&◌, List, [], ◌∷◌, take, drop, get_or, length, length-drop, refl, ap, sym, ◌∙◌, add-one, arith, drop-drop, get_or-drop}
 use Rattle.std.specs.Char.{is_ascii_digit, digit_value}
 use Rattle.std.specs.List.{list_all}
 use Rattle.std.proofs.Math.Nat.{pow-suc, pow-le-pow_right}
@@ -12,6 +12,7 @@ use Rattle.std.proofs.lemmas.Bool.{and_parts}
 use Rattle.life_mc.proofs.Words.{digit_no_space}
 use Rattle.life_base.specs.Numbers.{capped_number}
 use Rattle.life_base.specs.Text.{is_blank, is_whitespace, is_digit_text, onto_first, value_of, words_of}
+use Rattle.life_mc.specs.Standing.{IsLastNumber, IsSpacedNumber, WritesBetween}
 
 -- ---- how large a number is
 
@@ -139,3 +140,67 @@ digit_text_between text from end h l d = some_digits (end - from) (drop from tex
 -- a number of the type stands as it is
 pub no_cap : (n : ℕ) (word : List ℕ) → n ≡ value_of word → n < 18446744073709551616 → n ≡ capped_number (value_of word)
 no_cap n word e h = omega (arith, e, h)
+
+-- ---- a number in the making
+
+pub no_digits : (text : List ℕ) (from : ℕ) → from ≤ length text → WritesBetween text from from 0
+no_digits text from h =
+    let none : from - from ≡ 0 = omega arith in
+    record {
+      start = omega arith;
+      within = h;
+      digits = rw none refl;
+      value = rw none refl;
+      small = rw none (omega arith);
+    }
+
+pub digit_more : (text : List ℕ) (from at number digit : ℕ) → WritesBetween text from at number → at < length text
+    → is_ascii_digit (get_or text at 0) ≡ true → digit ≡ get_or text at 0 - 48 → WritesBetween text from (at + 1) (number * 10 + digit)
+digit_more text from at number digit held within is value = record {
+  start = omega (arith, held.start);
+  within = omega (arith, within);
+  digits = digits_behind text from at held.start within is held.digits;
+  value = ap (λ d. number * 10 + d) value ∙ number_behind text from at number held.start within is held.value;
+  small = size_behind number digit from at held.start held.small (omega (arith, value, digit_small (get_or text at 0) is));
+}
+
+-- the same where the digits so far are counted
+pub digit_next : (text : List ℕ) (from count number digit : ℕ) → WritesBetween text from (from + count) number → from + count < length text
+    → is_ascii_digit (get_or text (from + count) 0) ≡ true → digit ≡ get_or text (from + count) 0 - 48
+    → WritesBetween text from (from + (count + 1)) (number * 10 + digit)
+digit_next text from count number digit held within is value =
+    let next : from + count + 1 ≡ from + (count + 1) = omega arith in
+    rw (sym next) (digit_more text from (from + count) number digit held within is value)
+
+-- fewer than 19 digits write a number that has room for one more
+pub few_written : (text : List ℕ) (from at number : ℕ) → WritesBetween text from at number → at - from < 19 → number < 1000000000000000000
+few_written text from at number held few = short number (at - from) held.small few
+
+pub spaced_is : (text : List ℕ) (from at number : ℕ) → WritesBetween text from at number → at - from < 19 → from < at → at < length text
+    → get_or text at 0 ≡ 32 → IsSpacedNumber text from (number, at + 1)
+spaced_is text from at number held few some within space = (
+  take (at - from) (drop from text),
+  spaced_word text from at some within held.digits space,
+  digit_text_between text from at some held.within held.digits,
+  no_cap number (take (at - from) (drop from text)) held.value (omega (arith, few_written text from at number held few)),
+  omega (arith, within),
+)
+
+pub last_is : (text : List ℕ) (from at number : ℕ) → WritesBetween text from at number → at - from < 19 → from < at → at ≡ length text
+    → IsLastNumber text from number
+last_is text from at number held few some whole = (
+  take (at - from) (drop from text),
+  last_word text from at some whole held.digits,
+  digit_text_between text from at some held.within held.digits,
+  no_cap number (take (at - from) (drop from text)) held.value (omega (arith, few_written text from at number held few)),
+)
+
+-- ---- digits in parts of four
+
+-- in a part that has begun its bytes are there
+pub begun_room : (from count n : ℕ) → from + count + 4 ≤ n + count % 4 → from + count < n
+begun_room from count n h = omega (arith, h)
+
+-- and they are still there behind one of them, unless that is the last
+pub room_left : (from count n : ℕ) → from + count + 4 ≤ n + count % 4 → 0 < (count + 1) % 4 → from + (count + 1) + 4 ≤ n + (count + 1) % 4
+room_left from count n h more = omega (arith, h, more)

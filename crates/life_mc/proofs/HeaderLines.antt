@@ -1,5 +1,5 @@
 -- The lines of a written file that tell its rule and its generation.
-use Rattle.std.proofs.Common.{◌≡◌, ℕ, suc, ◌+◌, ◌-◌, ◌^◌, ◌<◌, ◌≤◌, List, [], ◌∷◌, ◌++◌, length, Bool, true, false, cond, not, ◌&&◌, ◌||◌, refl, ap, sym, subst, ◌∙◌, arith, append_assoc, length-append, decimal, nat_le, ◌==◌, map, filter, codes, Some, None, Ok, Err, le-leb}
+use Rattle.std.proofs.Common.{◌≡◌, ℕ, suc, ◌+◌, ◌-◌, ◌^◌, ◌<◌, ◌≤◌, List, [], ◌∷◌, ◌++◌, length, Bool, true, false, cond, not, refl, ap, sym, subst, ◌∙◌, arith, append_assoc, length-append, decimal, nat_le, ◌==◌, map, filter, codes, Some, None, Ok, Err, le-leb}
 use Rattle.std.specs.Result.{result_ok, result_err}
 use Rattle.std.proofs.lemmas.Bool.Decides.{nat_tests}
 use Rattle.std.proofs.lemmas.Bool.{and_from}

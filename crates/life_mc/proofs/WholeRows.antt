@@ -1,9 +1,10 @@
 -- The first eight bytes of a row, looked at together.
-use Rattle.std.proofs.Common.{◌≡◌, ℕ, zero, suc, ◌+◌, ◌-◌, ◌*◌, ◌/◌, ◌%◌, ◌<◌, ◌≤◌, List, [], ◌∷◌, ◌++◌, length, take, get_or, map, Bool, true, false, not, cond, ◌&&◌, refl, ap, ◌∙◌, arith, ◌==◌, ◌^◌, nat_le, nat_lt, le-leb}
+use Rattle.std.proofs.Common.{◌≡◌, ℕ, zero, suc, ◌+◌, ◌-◌, ◌*◌, ◌/◌, ◌%◌, ◌<◌, ◌≤◌, List, [], ◌∷◌, ◌++◌, length, take, get_or, map, Bool, true, false, not, cond, ◌&&◌, refl, ap, ◌∙◌, arith, ◌==◌, ◌^◌, nat_le, nat_lt, le-leb, eqb-true, replicate, bit_or, bit_and, Fits, w8}
 use Rattle.std.specs.List.{list_all, prefix_len}
-use Rattle.std.specs.Simd.Lanes.{mask_l, top}
+use Rattle.std.specs.Simd.Lanes.{mask_l, top, zip2}
 use Rattle.std.proofs.lemmas.Bool.Decides.{nat_tests}
 use mathlib.Core.Bool.{and-false}
+use Rattle.life_base.proofs.RoundTrip.{all_below, all_below_at}
 use Rattle.life_mc.specs.Reading.{byte_of_row}
 use Rattle.life_mc.specs.Grammar.{is_cell, is_row}
 use Rattle.life_mc.specs.Standing.{first_row, leading_cells}
@@ -12,16 +13,36 @@ use Rattle.life_mc.proofs.TestFacts.{weigh, at_most_one}
 
 -- ---- marks of bytes
 
-one_of : (b : ℕ) → cond (b == 42) 1 0 + cond (b == 46) 1 0 ≡ cond (is_cell b) 1 0
-one_of b = grind (arith, nat_tests)
+-- with the bit of 4 set the cells are `.`
+abbrev is_dot_with_four : ℕ → Bool
+is_dot_with_four b = bit_or b 4 == 46
 
--- the marks of `*` and `.` are those of cells
-pub cells_marked : (text : List ℕ) → mask_l (map (λ b. b == 42) text) + mask_l (map (λ b. b == 46) text) ≡ mask_l (map is_cell text)
-cells_marked [] = refl
-cells_marked (b ∷ text) = sum (cond (b == 42) 1 0) (cond (b == 46) 1 0) (cond (is_cell b) 1 0) _ _ _ (one_of b) (cells_marked text)
+abbrev tells_cell : ℕ → Bool
+tells_cell b = cond (is_cell b) (is_dot_with_four b) (not (is_dot_with_four b))
+
+each_byte_told : all_below 256 tells_cell ≡ true
+each_byte_told = refl
+
+cell_told : (b : ℕ) → b < 256 → is_dot_with_four b ≡ is_cell b
+cell_told b h = by (is_cell b) (is_dot_with_four b) (all_below_at 256 tells_cell b each_byte_told h)
   where
-    sum : (a b c x y z : ℕ) → a + b ≡ c → x + y ≡ z → (a + 2 * x) + (b + 2 * y) ≡ c + 2 * z
-    sum a b c x y z e f = omega (arith, e, f)
+    by : (v w : Bool) → cond v w (not w) ≡ true → w ≡ v
+    by true w h = h
+    by false true h = cc
+    by false false h = refl
+
+pub dots_are_cells : (n : ℕ) (text : List ℕ) → ((i : ℕ) → Fits w8 (get_or text i 0))
+    → map (λ b. b == 46) (zip2 bit_or (take n text) (replicate n 4)) ≡ map is_cell (take n text)
+dots_are_cells zero text h = refl
+dots_are_cells (suc n) [] h = refl
+dots_are_cells (suc n) (b ∷ text) h =
+    ap (λ v. v ∷ map (λ b. b == 46) (zip2 bit_or (take n text) (replicate n 4))) (cell_told b (omega (arith, h 0)))
+    ∙ ap (λ (vs : List Bool). is_cell b ∷ vs) (dots_are_cells n text (λ i. h (suc i)))
+
+pub as_many_dots : (n : ℕ) (text : List ℕ) → n ≤ length text → length (zip2 bit_or (take n text) (replicate n 4)) ≡ n
+as_many_dots zero text h = refl
+as_many_dots (suc n) [] h = absurd (omega (arith, h))
+as_many_dots (suc n) (b ∷ text) h = ap (λ k. suc k) (as_many_dots n text (omega (arith, h)))
 
 abbrev all_marks : ℕ → ℕ
 all_marks zero = 2
@@ -39,10 +60,10 @@ others_marked (b ∷ text) = by (is_cell b) (mask_l (map is_cell text)) (mask_l 
     by true x y z h = omega (arith, h)
     by false x y z h = omega (arith, h)
 
-pub marks_left : (text : List ℕ) → length text ≡ 8 → mask_l (map (λ b. b == 42) text) + mask_l (map (λ b. b == 46) text) + mask_l (others text) ≡ 511
+pub marks_left : (text : List ℕ) → length text ≡ 8 → mask_l (map is_cell text) + mask_l (others text) ≡ 511
 marks_left text l =
     let e : all_marks (length text) ≡ 512 = ap all_marks l in
-    omega (arith, cells_marked text, others_marked text, e)
+    omega (arith, others_marked text, e)
 
 pub some_other : (text : List ℕ) → 0 < mask_l (others text)
 some_other [] = omega arith
@@ -172,6 +193,25 @@ columns_in_front k (a ∷ b ∷ c ∷ d ∷ e ∷ []) l m = absurd (omega (arith
 columns_in_front k (a ∷ b ∷ c ∷ d ∷ e ∷ f ∷ []) l m = absurd (omega (arith, m))
 columns_in_front k (a ∷ b ∷ c ∷ d ∷ e ∷ f ∷ g ∷ []) l m = absurd (omega (arith, m))
 columns_in_front k (a ∷ b ∷ c ∷ d ∷ e ∷ f ∷ g ∷ h ∷ text) l m = columns_of k a b c d e f g h text l
+
+-- the bits of the columns before one
+abbrev columns_before : List ℕ
+columns_before = 0 ∷ 128 ∷ 192 ∷ 224 ∷ 240 ∷ 248 ∷ 252 ∷ 254 ∷ 255 ∷ []
+
+abbrev keeps_columns : ℕ → ℕ → Bool
+keeps_columns k row = bit_and row (get_or columns_before k 0) == without row (2 ^ (8 - k))
+
+pub columns_kept : (k row : ℕ) → k ≤ 8 → row < 256 → bit_and row (get_or columns_before k 0) ≡ without row (2 ^ (8 - k))
+columns_kept zero row l h = eqb-true _ _ (all_below_at 256 (keeps_columns 0) row refl h)
+columns_kept (suc zero) row l h = eqb-true _ _ (all_below_at 256 (keeps_columns 1) row refl h)
+columns_kept (suc (suc zero)) row l h = eqb-true _ _ (all_below_at 256 (keeps_columns 2) row refl h)
+columns_kept (suc (suc (suc zero))) row l h = eqb-true _ _ (all_below_at 256 (keeps_columns 3) row refl h)
+columns_kept (suc (suc (suc (suc zero)))) row l h = eqb-true _ _ (all_below_at 256 (keeps_columns 4) row refl h)
+columns_kept (suc (suc (suc (suc (suc zero))))) row l h = eqb-true _ _ (all_below_at 256 (keeps_columns 5) row refl h)
+columns_kept (suc (suc (suc (suc (suc (suc zero)))))) row l h = eqb-true _ _ (all_below_at 256 (keeps_columns 6) row refl h)
+columns_kept (suc (suc (suc (suc (suc (suc (suc zero))))))) row l h = eqb-true _ _ (all_below_at 256 (keeps_columns 7) row refl h)
+columns_kept (suc (suc (suc (suc (suc (suc (suc (suc zero)))))))) row l h = eqb-true _ _ (all_below_at 256 (keeps_columns 8) row refl h)
+columns_kept (suc (suc (suc (suc (suc (suc (suc (suc (suc k))))))))) row l h = absurd (omega (arith, l))
 
 -- ---- the row
 

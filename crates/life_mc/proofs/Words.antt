@@ -1,5 +1,5 @@
 -- Words, and the numbers that they write.
-use Rattle.std.proofs.Common.{◌≡◌, ℕ, suc, ◌+◌, ◌<◌, List, [], ◌∷◌, length, take, drop, map, Bool, true, false, cond, not, ◌&&◌, refl, ap, sym, ◌∙◌, arith, Option, Some, None, ◌==◌, take_while}
+use Rattle.std.proofs.Common.{◌≡◌, ℕ, suc, ◌+◌, ◌<◌, List, [], ◌∷◌, length, take, drop, Bool, true, false, cond, not, ◌&&◌, refl, ap, sym, ◌∙◌, arith, Option, Some, None, ◌==◌, take_while}
 use Rattle.std.specs.List.{list_all, prefix_len}
 use Rattle.std.specs.Char.{is_ascii_digit}
 use Rattle.std.proofs.lemmas.Bool.Decides.{nat_tests}
@@ -10,7 +10,6 @@ use Rattle.life_base.proofs.Basics.{left_of_and}
 use Rattle.life_base.specs.Numbers.{capped_number}
 use Rattle.life_base.specs.Text.{is_empty, is_blank, is_whitespace, trim_start, words_of, is_digit_text, value_of, with_word}
 use Rattle.life_mc.specs.Standing.{begins_with_number, quad_words}
-use Rattle.life_mc.specs.Reading.{quad_of_numbers}
 use Rattle.life_mc.specs.declared.line.Line.{Line}
 use Rattle.life_mc.specs.declared.line.Line.TheVariants.{Quad}
 

@@ -12,9 +12,10 @@ pub use Rattle.life_mc.specs.Macrocell.{is_child, is_quarter, largest_state, lev
 pub use Rattle.life_mc.specs.Reading.{broken_rule, broken_after, broken_by_node, broken_by_square, is_letter_command, is_leaf, is_leaf_byte, is_macrocell_kind}
 pub use Rattle.life_mc.specs.Reading.{is_node_line, leaf_bytes, MacrocellLinesBreakByKinds, RefusesMacrocell, byte_of_row, square_of_text, squares_of}
 pub use Rattle.life_mc.specs.Squares.{LinesStandForSquares}
-pub use Rattle.life_mc.specs.Standing.{begins_with_number, first_row, leading_cells, IsCommandRead, IsParsed, quad_words, TellsRow}
+pub use Rattle.life_mc.specs.Standing.{begins_with_number, first_row, leading_cells, IsCommandRead, IsParsed, IsLastNumber, IsSpacedNumber, quad_words, TellsRow, WritesBetween}
 pub use Rattle.life_mc.specs.Writing.{file_text, header_lines_text, mc_text, node_text, row_text, TextsReadBack}
 pub use Rattle.life_mc.specs.declared.line.Line.TheVariants.{Quad}
+pub use Rattle.life_mc.specs.declared.line.ParsedLine.TheVariants.{NodeLine}
 pub use Rattle.std.specs.Char.{is_ascii_digit}
 pub use Rattle.std.specs.List.{list_all}
 pub use Rattle.std.specs.Option.{option_map}

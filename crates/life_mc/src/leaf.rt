@@ -1,18 +1,18 @@
 //! The rows of a leaf line.
 
-ghost use Rattle.std.specs.Prelude.{◌≡◌, ◌<◌, ◌≤◌, ◌+◌, ◌-◌, ◌%◌, ◌^◌, ◌==◌, take, map, true, false, drop, length, MatchOption};
-ghost use Rattle.life_mc.specs.Words.{mask_l, is_leaf, leaf_bytes, byte_of_row, first_row, leading_cells, TellsRow};
+ghost use Rattle.std.specs.Prelude.{◌≡◌, ◌<◌, ◌≤◌, ◌+◌, ◌-◌, ◌%◌, ◌^◌, take, map, true, false, drop, length, MatchOption};
+ghost use Rattle.life_mc.specs.Words.{mask_l, is_cell, is_leaf, leaf_bytes, byte_of_row, first_row, leading_cells, TellsRow};
 
 use std::simd::prelude::*;
 
-/// Which of the first eight bytes of a text are this one: a bit each, that of the first byte the lowest.
-fn places(text: &[u8], byte: u8) -> u64
+/// Which of the first eight bytes of a text are cells: a bit each, that of the first byte the lowest. With the bit of 4 set, `*` is `.`, and
+/// no other byte but `.` is.
+fn cell_places(text: &[u8]) -> u64
     requires { 8 ≤ length text.now }
-    ensures { result ≡ mask_l (map (λ b. b == byte) (take 8 text.now)) }
+    ensures { result ≡ mask_l (map is_cell (take 8 text.now)) }
 {
-    u8x8::from_slice(text)
-        .simd_eq(u8x8::splat(byte))
-        .to_bitmask()
+    let bytes = u8x8::from_slice(text) | u8x8::splat(4);
+    bytes.simd_eq(u8x8::splat(b'.')).to_bitmask()
 }
 
 /// How many of the first eight bytes of a text are cells, up to the first that is none. Bit 8 represents the byte after these.
@@ -20,8 +20,7 @@ fn cells_in_front(text: &[u8]) -> usize
     requires { 8 ≤ length text.now }
     ensures { result ≡ leading_cells 8 text.now }
 {
-    let cells = places(text, b'*') + places(text, b'.');
-    (511 - cells).trailing_zeros() as usize
+    (511 - cell_places(text)).trailing_zeros() as usize
 }
 
 /// The first eight bytes of a text as a row.
@@ -33,13 +32,15 @@ fn eight_columns(text: &[u8]) -> u8
     bytes.simd_eq(u8x8::splat(b'*')).to_bitmask() as u8
 }
 
+/// The bits of the columns before one.
+const COLUMNS_BEFORE: [u8; 9] = [0, 128, 192, 224, 240, 248, 252, 254, 255];
+
 /// A row without its columns from this one on.
 fn first_columns(row: u8, column: usize) -> u8
     requires { column ≤ 8 }
     ensures { result ≡ row - row % 2 ^ (8 - column) }
 {
-    let rest = u32::from(row) % (1 << (8 - column));
-    row - rest as u8
+    row & COLUMNS_BEFORE[column]
 }
 
 /// The first row of a text of more than eight bytes, if it is one of a leaf, and how many bytes it has. The first eight bytes are looked at

@@ -1,9 +1,9 @@
 //! The lines of a macrocell file: what one is, and the square that a node line writes.
 
-ghost use Rattle.std.specs.Prelude.{◌≡◌, ◌<◌, ◌-◌, ◌^◌, length, true, None, Some, Err, MatchResult, ◌⊎◌};
-ghost use Rattle.life_mc.specs.Words.{trim, value_of, u64_of, Memory, result_err, is_letter_command, is_node_line, broken_after, IsCommandRead, IsParsed};
+ghost use Rattle.std.specs.Prelude.{◌≡◌, ◌<◌, ◌-◌, ◌^◌, length, true, None, Some, Err, List, ℕ, MatchResult, slice_index, false, ◌⊎◌};
+ghost use Rattle.life_mc.specs.Words.{trim, value_of, u64_of, Memory, result_err, is_leaf_byte, is_letter_command, is_node_line, broken_after, IsCommandRead, IsParsed, NodeLine};
 
-use crate::node::read_node;
+use crate::node::{read_leaf_line, read_node, read_quad};
 use life_base::{Kind, MAX_LEVEL, Rule, begins_with, is_blank, is_whitespace, read_u64, trimmed};
 use std::alloc::Global;
 
@@ -53,35 +53,8 @@ fn read_generation(text: &[u8]) -> Result<u64, Kind>
     read_u64(trimmed(text))
 }
 
-/// Whether a line has a first byte, which is neither whitespace nor `#`.
-fn begins_as_node(line: &[u8]) -> bool
-    ensures { result ≡ true → is_node_line line.now ≡ true }
-{
-    match line {
-        [first, ..] => !is_whitespace(*first) && *first != b'#',
-        [] => false,
-    }
-}
-
 /// What a line after the header is, where this is the rule and these the levels so far; None of a node line.
-#[inline(always)]
 fn parse_command(
-    alloc: Global,
-    rule: &Rule,
-    levels: &[u8],
-    line: &[u8],
-) -> Result<Option<ParsedLine>, Kind>
-    ensures { IsCommandRead MAX_LEVEL rule.now levels.now line.now result }
-{
-    if begins_as_node(line) {
-        return Ok(None);
-    }
-    parse_by_tests(alloc, rule, levels, line)
-}
-
-/// The same by one test after another. It is never inlined: of most lines the first byte says that they are node lines.
-#[inline(never)]
-fn parse_by_tests(
     alloc: Global,
     rule: &Rule,
     levels: &[u8],
@@ -113,7 +86,35 @@ fn parse_by_tests(
     Ok(None)
 }
 
-/// What a line after the header is, where this is the rule and these the levels so far.
+/// The square of a quarter line, where this is the rule and these the levels so far.
+#[inline(always)]
+pub(crate) fn parse_quad(rule: &Rule, levels: &[u8], line: &[u8]) -> Result<Line, Kind>
+    requires room { length levels.now < 2 ^ 64 - 1 }
+    requires node { is_node_line line.now ≡ true }
+    requires quad { is_leaf_byte (slice_index (trim line.now) 0) ≡ false }
+    ensures { MatchResult result (λ square. IsParsed line.now (NodeLine square)
+        × (broken_after MAX_LEVEL rule.now levels.now line.now ≡ None))
+        (λ kind. broken_after MAX_LEVEL rule.now levels.now line.now ≡ Some kind) }
+{
+    read_quad(rule, levels, line)
+}
+
+/// The square of a leaf line. The rule and the levels don't matter.
+#[inline(always)]
+pub(crate) fn parse_leaf(line: &[u8]) -> Result<Line, Kind>
+    requires node { is_node_line line.now ≡ true }
+    requires leaf { is_leaf_byte (slice_index (trim line.now) 0) ≡ true }
+    ensures { (rule : Rule) (levels : List ℕ) → MatchResult result
+        (λ square. IsParsed line.now (NodeLine square)
+        × (broken_after MAX_LEVEL rule levels line.now ≡ None))
+        (λ kind. broken_after MAX_LEVEL rule levels line.now ≡ Some kind) }
+{
+    read_leaf_line(line)
+}
+
+/// What a line after the header is, where this is the rule and these the levels so far. It is never inlined: most lines begin as node lines,
+/// for which there is `parse_quad` and `parse_leaf`.
+#[inline(never)]
 pub(crate) fn parse_line(
     alloc: Global,
     rule: &Rule,

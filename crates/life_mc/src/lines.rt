@@ -3,7 +3,8 @@
 ghost use Rattle.std.specs.Prelude.{◌≡◌};
 ghost use Rattle.life_mc.specs.Words.{level_of, IsMemory};
 
-use crate::line::{Line, ParsedLine, parse_line};
+use crate::line::{Line, ParsedLine, parse_leaf, parse_line, parse_quad};
+use crate::node::{begins_with_digit, is_leaf_line};
 use life_base::{Kind, LineLog, MAX_LEVEL, Rule, begins_with, is_too_long};
 use std::alloc::Global;
 use std::marker::Model;
@@ -57,7 +58,8 @@ impl Kept {
         }
     }
 
-    /// Takes the next line, and returns its square, if it has one.
+    /// Takes the next line, and returns its square, if it has one. Each kind of node line goes its own way, so that its square is put
+    /// together once.
     fn take(&mut self, line: &[u8]) -> Result<Option<Line>, Kind>
         ensures ok { (lines : List (List ℕ)) → StandsAfter MAX_LEVEL lines self.old
             → IfOk result (λ square. (square ≡ square_after lines line.now)
@@ -76,8 +78,30 @@ impl Kept {
             self.started = true;
             return Ok(None);
         }
+        if begins_with_digit(line) {
+            let square = parse_quad(&self.rule, &self.levels, line)?;
+            return self.keep_square(square);
+        }
+        if is_leaf_line(line) {
+            let square = parse_leaf(line)?;
+            return self.keep_square(square);
+        }
         let parsed = parse_line(self.alloc, &self.rule, &self.levels, line)?;
         self.keep(parsed)
+    }
+
+    /// Keeps the level of a square, and returns the square.
+    #[inline(always)]
+    fn keep_square(&mut self, square: Line) -> Result<Option<Line>, Kind>
+        ensures square { IfOk result (λ found. found ≡ Some square) }
+        ensures rule { OnOk result (self.new.rule ≡ self.old.rule) }
+        ensures generation { OnOk result (self.new.generation ≡ self.old.generation) }
+        ensures levels { OnOk result (self.new.levels ≡ self.old.levels ++ level_of square ∷ []) }
+        ensures started { self.new.started ≡ self.old.started }
+        ensures err { IfErr result IsMemory }
+    {
+        self.levels.push(level_of_square(&square))?;
+        Ok(Some(square))
     }
 
     /// Keeps what a line is, and returns its square.
@@ -102,10 +126,7 @@ impl Kept {
                 self.generation = generation;
                 Ok(None)
             }
-            ParsedLine::NodeLine(square) => {
-                self.levels.push(level_of_square(&square))?;
-                Ok(Some(square))
-            }
+            ParsedLine::NodeLine(square) => self.keep_square(square),
         }
     }
 
@@ -190,10 +211,12 @@ impl McLines {
             return Err(Kind::Spent);
         }
         self.refused = true;
-        let square = self.kept.take(line)?;
-        self.log = self.log.then(line);
-        self.refused = false;
-        Ok(square)
+        let taken = self.kept.take(line);
+        if taken.is_ok() {
+            self.log = self.log.then(line);
+            self.refused = false;
+        }
+        taken
     }
 
     /// The rule and the generation of the file that the lines are.

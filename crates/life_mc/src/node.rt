@@ -1,7 +1,7 @@
 //! One node line.
 
-ghost use Rattle.std.specs.Prelude.{◌≡◌, ◌<◌, ◌≤◌, ◌-◌, ◌^◌, ◌∷◌, [], length, Some, None, MatchResult, slice_index, true};
-ghost use Rattle.life_mc.specs.Words.{largest_state, is_child, is_quarter, broken_by_square, broken_by_node, is_leaf_byte, square_of_text, Quad, list_all, trim};
+ghost use Rattle.std.specs.Prelude.{◌≡◌, ◌<◌, ◌≤◌, ◌-◌, ◌^◌, ◌∷◌, [], length, Some, None, MatchResult, List, ℕ, slice_index, true, false};
+ghost use Rattle.life_mc.specs.Words.{largest_state, is_child, is_quarter, broken_by_square, broken_by_node, is_ascii_digit, is_leaf_byte, is_node_line, square_of_text, Quad, list_all, trim};
 
 use crate::leaf::read_leaf;
 use crate::line::Line;
@@ -88,9 +88,11 @@ fn square_of_numbers(
     }
 }
 
-/// Whether a node line begins as a leaf.
-fn is_leaf_line(text: &[u8]) -> bool
-    ensures { result ≡ is_leaf_byte (slice_index text.now 0) }
+/// Whether a line begins as a leaf.
+pub(crate) fn is_leaf_line(text: &[u8]) -> bool
+    ensures byte { result ≡ is_leaf_byte (slice_index text.now 0) }
+    ensures node { result ≡ true → is_node_line text.now ≡ true }
+    ensures leaf { result ≡ true → is_leaf_byte (slice_index (trim text.now) 0) ≡ true }
 {
     match text {
         [first, ..] => *first == b'.' || *first == b'*' || *first == b'$',
@@ -98,23 +100,57 @@ fn is_leaf_line(text: &[u8]) -> bool
     }
 }
 
-/// The square of a node line, without the whitespace at its ends.
+/// Whether a line begins with a digit.
+pub(crate) fn begins_with_digit(line: &[u8]) -> bool
+    ensures digit { result ≡ is_ascii_digit (slice_index line.now 0) }
+    ensures node { result ≡ true → is_node_line line.now ≡ true }
+    ensures quad { result ≡ true → is_leaf_byte (slice_index (trim line.now) 0) ≡ false }
+{
+    match line {
+        [first, ..] => first.is_ascii_digit(),
+        [] => false,
+    }
+}
+
+/// The square of a node line that doesn't begin as a leaf.
 #[inline(always)]
+pub(crate) fn read_quad(rule: &Rule, levels: &[u8], line: &[u8]) -> Result<Line, Kind>
+    requires room { length levels.now < 2 ^ 64 - 1 }
+    requires quad { is_leaf_byte (slice_index (trim line.now) 0) ≡ false }
+    ensures { MatchResult result (λ square. (square_of_text (trim line.now) ≡ Some square)
+        × (broken_by_node MAX_LEVEL rule.now levels.now (trim line.now) ≡ None))
+        (λ kind. broken_by_node MAX_LEVEL rule.now levels.now (trim line.now) ≡ Some kind) }
+{
+    match read_numbers(line) {
+        Some(numbers) => square_of_numbers(rule, levels, numbers),
+        None => Err(Kind::BadNode),
+    }
+}
+
+/// The square of a leaf line.
+#[inline(always)]
+pub(crate) fn read_leaf_line(line: &[u8]) -> Result<Line, Kind>
+    requires { is_leaf_byte (slice_index (trim line.now) 0) ≡ true }
+    ensures { (rule : Rule) (levels : List ℕ) → MatchResult result
+        (λ square. (square_of_text (trim line.now) ≡ Some square)
+        × (broken_by_node MAX_LEVEL rule levels (trim line.now) ≡ None))
+        (λ kind. broken_by_node MAX_LEVEL rule levels (trim line.now) ≡ Some kind) }
+{
+    match read_leaf(trimmed(line)) {
+        Some(rows) => Ok(Line::Leaf(rows)),
+        None => Err(Kind::BadLeaf),
+    }
+}
+
+/// The square of a node line, without the whitespace at its ends.
 pub(crate) fn read_node(rule: &Rule, levels: &[u8], line: &[u8]) -> Result<Line, Kind>
     requires { length levels.now < 2 ^ 64 - 1 }
     ensures { MatchResult result (λ square. (square_of_text (trim line.now) ≡ Some square)
         × (broken_by_node MAX_LEVEL rule.now levels.now (trim line.now) ≡ None))
         (λ kind. broken_by_node MAX_LEVEL rule.now levels.now (trim line.now) ≡ Some kind) }
 {
-    let text = trimmed(line);
-    if is_leaf_line(text) {
-        return match read_leaf(text) {
-            Some(rows) => Ok(Line::Leaf(rows)),
-            None => Err(Kind::BadLeaf),
-        };
+    if is_leaf_line(trimmed(line)) {
+        return read_leaf_line(line);
     }
-    match read_numbers(line) {
-        Some(numbers) => square_of_numbers(rule, levels, numbers),
-        None => Err(Kind::BadNode),
-    }
+    read_quad(rule, levels, line)
 }

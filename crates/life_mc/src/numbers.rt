@@ -1,7 +1,7 @@
 //! The numbers of a quarter line, of any length.
 
 ghost use Rattle.std.specs.Prelude.{◌≡◌, ◌∷◌, ◌<◌, ◌≤◌, ◌+◌, ◌-◌, ◌^◌, List, ℕ, Some, true, false, length, take, drop, IfSome, MatchOption};
-ghost use Rattle.life_mc.specs.Words.{is_ascii_digit, list_all, capped_number, is_blank, is_digit_text, value_of, words_of, is_empty, begins_with_number, quad_words, option_map, Quad};
+ghost use Rattle.life_mc.specs.Words.{is_ascii_digit, capped_number, is_blank, is_digit_text, value_of, words_of, is_empty, begins_with_number, quad_words, option_map, IsLastNumber, IsSpacedNumber, Quad, WritesBetween};
 
 use life_base::{is_whitespace, leading_number, trimmed_start};
 
@@ -15,46 +15,111 @@ fn is_word_end(text: &[u8]) -> bool
     }
 }
 
-/// The most digits of a number that is read without a look at its size: each number of so many is below 2^64.
-const FEW: usize = 19;
+/// A number is read at once if it has fewer digits than this. They are taken in parts of `PART` bytes.
+const FEW: usize = 12;
 
-/// The number that the digits from a place on write, at most `FEW`, and where these end.
+/// After one look at the length so many bytes are taken.
+const PART: usize = 4;
+
+/// The value of a digit. It is more than 9 for another byte.
 #[inline(always)]
-fn few_digits(text: &[u8], from: usize) -> (u64, usize)
-    requires { from ≤ length text.now }
-    ensures from { from ≤ result.1 }
-    ensures within { result.1 ≤ length text.now }
-    ensures digits { list_all is_ascii_digit (take (result.1 - from) (drop from text.now)) ≡ true }
-    ensures number { result.0 ≡ value_of (take (result.1 - from) (drop from text.now)) }
-    ensures small { result.0 < 2 ^ 64 }
+fn digit_of(byte: u8) -> u64
+    ensures { result ≤ 9 → (is_ascii_digit byte ≡ true) × (result ≡ byte - 48) }
 {
-    let most = text.len().min(from + FEW);
-    let mut number = 0u64;
-    for i in from..most {
-        let byte = text[i];
-        if !byte.is_ascii_digit() {
-            return (number, i);
-        }
-        number = number * 10 + u64::from(byte - b'0');
-    }
-    (number, most)
+    u64::from(byte).wrapping_sub(48)
 }
 
-/// Whether digits between two places are a word, and a space is after it.
+/// The number from a place on, and the place after the space that ends it, where its digits before another place write `begun`. It is
+/// taken byte by byte.
 #[inline(always)]
-fn is_spaced_word(text: &[u8], from: usize, end: usize) -> bool
-    requires from { from ≤ end }
-    requires within { end ≤ length text.now }
-    requires digits { list_all is_ascii_digit (take (end - from) (drop from text.now)) ≡ true }
-    ensures within { result ≡ true → end < length text.now }
-    ensures word { result ≡ true → words_of (drop from text.now)
-        ≡ take (end - from) (drop from text.now) ∷ words_of (drop (end + 1) text.now) }
-    ensures digits { result ≡ true → is_digit_text (take (end - from) (drop from text.now)) ≡ true }
+fn spaced_rest(text: &[u8], from: usize, at: usize, begun: u64) -> Option<(u64, usize)>
+    requires begun { WritesBetween text.now from at begun }
+    requires few { length text.now - from < FEW }
+    ensures { IfSome result (IsSpacedNumber text.now from) }
 {
-    match text.get(end) {
-        Some(byte) => from < end && *byte == b' ',
-        None => false,
+    let mut number = begun;
+    for i in at..text.len() {
+        let byte = text[i];
+        let digit = digit_of(byte);
+        if digit > 9 {
+            return if i > from && byte == b' ' {
+                Some((number, i + 1))
+            } else {
+                None
+            };
+        }
+        number = number * 10 + digit;
     }
+    None
+}
+
+/// The number from a place on, and the place after the space that ends it, if it has few digits.
+#[inline(always)]
+fn spaced_number(text: &[u8], from: usize) -> Option<(u64, usize)>
+    requires { from ≤ length text.now }
+    ensures { IfSome result (IsSpacedNumber text.now from) }
+{
+    let mut number = 0u64;
+    for count in 0..FEW {
+        let at = from + count;
+        if count % PART == 0 && text.len() - from < count + PART {
+            return spaced_rest(text, from, at, number);
+        }
+        let byte = text[at];
+        let digit = digit_of(byte);
+        if digit > 9 {
+            return if count > 0 && byte == b' ' {
+                Some((number, at + 1))
+            } else {
+                None
+            };
+        }
+        number = number * 10 + digit;
+    }
+    None
+}
+
+/// The number from a place on, if it ends the text, where its digits before another place write `begun`. It is taken byte by byte.
+#[inline(always)]
+fn last_rest(text: &[u8], from: usize, at: usize, begun: u64) -> Option<u64>
+    requires begun { WritesBetween text.now from at begun }
+    requires few { length text.now - from < FEW }
+    ensures { IfSome result (IsLastNumber text.now from) }
+{
+    let mut number = begun;
+    for i in at..text.len() {
+        let digit = digit_of(text[i]);
+        if digit > 9 {
+            return None;
+        }
+        number = number * 10 + digit;
+    }
+    if from == text.len() {
+        None
+    } else {
+        Some(number)
+    }
+}
+
+/// The number from a place on, if it ends the text and has few digits.
+#[inline(always)]
+fn last_number(text: &[u8], from: usize) -> Option<u64>
+    requires { from ≤ length text.now }
+    ensures { IfSome result (IsLastNumber text.now from) }
+{
+    let mut number = 0u64;
+    for count in 0..FEW {
+        let at = from + count;
+        if count % PART == 0 && text.len() - from < count + PART {
+            return last_rest(text, from, at, number);
+        }
+        let digit = digit_of(text[at]);
+        if digit > 9 {
+            return None;
+        }
+        number = number * 10 + digit;
+    }
+    None
 }
 
 /// The first number of a text and what follows it, if the first word is a digit text.
@@ -88,26 +153,11 @@ fn few_numbers(text: &[u8]) -> Option<(u64, u64, u64, u64, u64)>
     ensures { IfSome result
         (λ n. quad_words (words_of text.now) ≡ Some (Quad n.0 n.1 n.2 n.3 n.4)) }
 {
-    let (level, level_end) = few_digits(text, 0);
-    if !is_spaced_word(text, 0, level_end) {
-        return None;
-    }
-    let (nw, nw_end) = few_digits(text, level_end + 1);
-    if !is_spaced_word(text, level_end + 1, nw_end) {
-        return None;
-    }
-    let (ne, ne_end) = few_digits(text, nw_end + 1);
-    if !is_spaced_word(text, nw_end + 1, ne_end) {
-        return None;
-    }
-    let (sw, sw_end) = few_digits(text, ne_end + 1);
-    if !is_spaced_word(text, ne_end + 1, sw_end) {
-        return None;
-    }
-    let (se, se_end) = few_digits(text, sw_end + 1);
-    if se_end == sw_end + 1 || se_end < text.len() {
-        return None;
-    }
+    let (level, rest) = spaced_number(text, 0)?;
+    let (nw, rest) = spaced_number(text, rest)?;
+    let (ne, rest) = spaced_number(text, rest)?;
+    let (sw, rest) = spaced_number(text, rest)?;
+    let se = last_number(text, rest)?;
     Some((level, nw, ne, sw, se))
 }
 

@@ -1,33 +1,4 @@
-use Rattle.std.proofs.Common.{◌≡◌, ◌∙◌, ◌≤◌, List, ℕ, sym, ap, false, arith, slice_index, Some}
-use Rattle.life_base.specs.Text.{trim}
-use Rattle.life_mc.specs.Reading.{is_leaf_byte, broken_by_square}
-use Rattle.life_mc.specs.Standing.{quad_words}
-use Rattle.life_mc.specs.declared.line.Line.{Line}
-use Rattle.life_mc.specs.declared.line.Line.TheVariants.{Quad}
-use Rattle.life_base.specs.declared.cell.TheConstants.{MAX_LEVEL}
-use Rattle.life_mc.proofs.Around.{words_trimmed}
-use Rattle.life_mc.proofs.Nodes.{match_map, quad_read, none_read}
 use Rattle.life_mc.proofs.node.read_node.Goals as goal
 
-pub returns-in-Some-read_numbers : goal.returns-in-Some-read_numbers
-returns-in-Some-read_numbers c =
-    let n = c.in-Some-read_numbers.numbers in
-    let q : Line = Quad n.0 n.1 n.2 n.3 n.4 in
-    let text = trim c.args.line.now in
-    let no : is_leaf_byte (slice_index text 0) ≡ false =
-    ap (λ (t : List ℕ). is_leaf_byte (slice_index t 0)) (sym c.trimmed-text.ensures) ∙ sym c.is_leaf_line.ensures ∙ c.if-is_leaf_line.false in
-    let low : MAX_LEVEL ≤ 255 = omega arith in
-    let read = c.in-Some-read_numbers.ensures ∙ ap quad_words (sym (words_trimmed c.args.line.now)) in
-    let r = quad_read MAX_LEVEL c.args.rule.now c.args.levels.now low c.requires text no q read in
-    match_map c.square_of_numbers.result c.square_of_numbers.ensures
-    (λ square p. let e = ap (λ s. broken_by_square MAX_LEVEL c.args.rule.now c.args.levels.now (Some s)) (sym p.0) ∙ p.1 in
-    (r.1 e ∙ ap Some (sym p.0), sym r.0 ∙ e))
-    (λ kind p. sym r.0 ∙ p)
-
-pub returns-in-None-read_numbers : goal.returns-in-None-read_numbers
-returns-in-None-read_numbers c =
-    let text = trim c.args.line.now in
-    let no : is_leaf_byte (slice_index text 0) ≡ false =
-    ap (λ (t : List ℕ). is_leaf_byte (slice_index t 0)) (sym c.trimmed-text.ensures) ∙ sym c.is_leaf_line.ensures ∙ c.if-is_leaf_line.false in
-    let read = c.in-None-read_numbers.ensures ∙ ap quad_words (sym (words_trimmed c.args.line.now)) in
-    none_read MAX_LEVEL c.args.rule.now c.args.levels.now (omega arith) c.requires text no read
+pub returns-then-is_leaf_line : goal.returns-then-is_leaf_line
+returns-then-is_leaf_line c = c.read_leaf_line.ensures c.args.rule.now c.args.levels.now

@@ -11,7 +11,7 @@ use Rattle.life_base.specs.declared.rule.Rule.{Rule}
 use Rattle.life_base.proofs.LineEnds.{all_behind}
 use Rattle.std.specs.Result.{result_err}
 use Rattle.life_mc.proofs.Stands.{rule_breaks, rule_parsed_so, generation_breaks, generation_parsed_so, none_left}
-use Rattle.life_mc.proofs.line.parse_by_tests.Goals as goal
+use Rattle.life_mc.proofs.line.parse_command.Goals as goal
 
 rule_read : (line : List ℕ) (rule : Rule) → Answers (Ok rule) (rule_of (take (length line - 2) (drop 2 line))) → rule_of (drop 2 line) ≡ Ok rule
 rule_read line rule (inl m) = cc
