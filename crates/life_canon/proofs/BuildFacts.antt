@@ -1,14 +1,12 @@
 -- The runs of a file's lines may be given to a builder one after another.
-use Rattle.std.proofs.Common.{◌≡◌, ℕ, zero, suc, ◌+◌, ◌-◌, ◌<◌, List, [], ◌∷◌, ◌++◌, length, take, drop, get_or, ap, sym, ◌∙◌, subst, arith, inl, inr, append_assoc, Some, drop-cons, slice_get}
-use Rattle.std.proofs.Math.Seq.{take-suc}
+use Rattle.std.proofs.Common.{◌≡◌, ℕ, zero, suc, ◌-◌, List, [], ◌∷◌, ◌++◌, length, sym, subst, inl, inr, append_assoc, Some, slice_get}
 use Rattle.life_base.specs.declared.cell.TheConstants.{MAX_LEVEL}
 use Rattle.life_base.specs.declared.cell.Run.{Run}
 use Rattle.life_base.specs.declared.rule.Rule.{Rule}
 use Rattle.life_rle.specs.File.{HasRuns}
 use Rattle.life_rle.specs.RunsLaw.{IsGoodRun, AreGoodRuns, StandsBefore, StandsBeforeAll, AreRunsInOrder}
 use Rattle.life_rle.proofs.RunsLaws.{runs_are_cells}
-use Rattle.life_strip.specs.Given.{IsAfterRun, IsRunOnPlane}
-use Rattle.life_canon.specs.Building.{AreNext}
+use Rattle.life_strip.specs.Given.{AreNext, IsAfterRun, IsRunOnPlane}
 
 -- ---- the runs of a file are good and in order
 
@@ -53,25 +51,3 @@ lines-next lines before runs (inl h) = subst (AreNext before) (sym (nothing befo
 lines-next lines before runs (inr h) =
     let r = runs_are_cells MAX_LEVEL lines h.0 h.1 in
     next-runs h.0.rule before runs (subst (AreGoodRuns MAX_LEVEL h.0.rule) (sym h.2) r.0) (subst AreRunsInOrder (sym h.2) r.1)
-
--- ---- one run after another
-
-pub given-more : (before so_far next : List Run) (runs : List Run) (i : ℕ) (d : Run) → i < length runs → so_far ≡ before ++ take i runs
-    → next ≡ so_far ++ get_or runs i d ∷ [] → next ≡ before ++ take (i + 1) runs
-given-more before so_far next runs i d h e f =
-    let one : take (suc i) runs ≡ take i runs ++ get_or runs i d ∷ [] = take-suc runs i d h in
-    let same : i + 1 ≡ suc i = omega arith in
-    f ∙ ap (λ (l : List Run). l ++ get_or runs i d ∷ []) e ∙ append_assoc before (take i runs) (get_or runs i d ∷ [])
-    ∙ ap (λ (l : List Run). before ++ l) (sym one ∙ ap (λ (n : ℕ). take n runs) (sym same))
-
--- the first of the further runs, and those behind it
-pub next-first : (so_far : List Run) (runs : List Run) (i : ℕ) (d : Run) → i < length runs → AreNext so_far (drop i runs)
-    → AreNext so_far (get_or runs i d ∷ drop (suc i) runs)
-next-first so_far runs i d h a = subst (AreNext so_far) (drop-cons runs i d h) a
-
-pub next-more : (so_far next : List Run) (runs : List Run) (i : ℕ) (d : Run) → i < length runs → AreNext so_far (drop i runs)
-    → next ≡ so_far ++ get_or runs i d ∷ [] → AreNext next (drop (i + 1) runs)
-next-more so_far next runs i d h a f =
-    let same : i + 1 ≡ suc i = omega arith in
-    subst (λ (n : ℕ). AreNext next (drop n runs)) (sym same)
-    (subst (λ (l : List Run). AreNext l (drop (suc i) runs)) (sym f) (next-first so_far runs i d h a).3)

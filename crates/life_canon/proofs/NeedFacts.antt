@@ -1,5 +1,5 @@
 -- The squares that a refused call lacked: of the root that is grown or trimmed, of runs, and of lines with more lines behind them.
-use Rattle.std.proofs.Common.{◌≡◌, ◌⊎◌, inl, inr, ℕ, zero, suc, ◌+◌, ◌-◌, ◌<◌, ◌≤◌, true, List, [], ◌∷◌, ◌++◌, length, take, drop, get_or, max, ap, sym, ◌∙◌, subst, arith, append_assoc, drop-cons, refl, ℤ, ◌+ℤ◌, pos, nat_abs, append-nil, take-append-drop}
+use Rattle.std.proofs.Common.{◌≡◌, ◌⊎◌, inl, inr, ℕ, zero, suc, ◌+◌, ◌-◌, ◌<◌, ◌≤◌, true, List, [], ◌∷◌, ◌++◌, max, ap, sym, ◌∙◌, subst, arith, append_assoc, refl, ℤ, append-nil}
 use Rattle.life_base.specs.Lines.{has_no_feed, whole_lines, rest_line, one_line}
 use Rattle.life_base.specs.Refusal.{Prefix, fault_at, fault_of}
 use Rattle.life_base.specs.Text.{lines_of}
@@ -13,7 +13,7 @@ use Rattle.life_base.proofs.WholeLines.{lines_are_whole, lines_continue}
 use Rattle.life_mc.specs.Reading.{AcceptsMacrocell, squares_of}
 use Rattle.life_mc.specs.declared.line.Line.{Line}
 use Rattle.life_rle.specs.File.{HasRuns}
-use Rattle.life_strip.specs.Given.{half_plane, state_by, by_columns}
+use Rattle.life_strip.specs.Given.{by_columns}
 use Rattle.life_strip.specs.Needed.{SomeSquare}
 use Rattle.life_canon.specs.Files.{is_macrocell}
 use Rattle.life_canon.specs.Taking.{IsGoing, IsEnd, taken_lines}
@@ -100,22 +100,6 @@ root-trimmed P u t n full low high cells s =
     trimmed_root (subst (λ (r : Tree). depth r < n) is lower) (subst P is s.has)
 
 -- ---- runs
-
--- the square of the runs before the next one
-pub runs-above : (P : Tree → Type 0) (before so_far : List Run) (runs : List Run) (i : ℕ) (d : Run) → i < length runs
-    → so_far ≡ before ++ take i runs
-    → SomeSquare P (nat_abs ((get_or runs i d).y +ℤ pos half_plane)) (by_columns (state_by so_far)) → SomeOfRuns P (before ++ runs)
-runs-above P before so_far runs i d h e s =
-    let split : runs ≡ take i runs ++ get_or runs i d ∷ drop (suc i) runs =
-    sym (take-append-drop i runs) ∙ ap (λ (l : List Run). take i runs ++ l) (drop-cons runs i d h) in
-    record {
-      before = so_far;
-      run = get_or runs i d;
-      behind = drop (suc i) runs;
-      are = ap (λ (l : List Run). before ++ l) split ∙ sym (append_assoc before (take i runs) (get_or runs i d ∷ drop (suc i) runs))
-          ∙ ap (λ (l : List Run). l ++ get_or runs i d ∷ drop (suc i) runs) (sym e);
-      above = s;
-    }
 
 -- the runs of the lines so far
 pub line-runs : (P : Tree → Type 0) (lines : List (List ℕ)) (runs : List Run) → HasRuns MAX_LEVEL lines runs → SomeOfRuns P runs

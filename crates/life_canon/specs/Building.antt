@@ -1,15 +1,9 @@
 -- Runs of a file that are put into a store row by row.
-use Rattle.std.specs.Prelude.{◌≤◌, List, [], ◌∷◌, ◌++◌}
+use Rattle.std.specs.Prelude.{List}
 use Rattle.life_base.specs.Tree.{Tree}
 use Rattle.life_base.specs.declared.cell.Run.{Run}
 use Rattle.life_quad.specs.declared.id.Id.{Id}
 use Rattle.life_strip.specs.Filling.{Building, IsFilling}
-use Rattle.life_strip.specs.Given.{IsNextRunStart, IsRunOnPlane}
-
--- further runs that may be given behind these: of at least one cell each, in the plane, each behind the one before
-abbrev pub AreNext : List Run → List Run → Type 0
-AreNext before [] = Unit {0}
-AreNext before (run ∷ runs) = (1 ≤ run.len) × IsRunOnPlane run.x run.y run.len × IsNextRunStart before run.x run.y × AreNext (before ++ run ∷ []) runs
 
 -- a builder was given such runs, and the store knows what it keeps
 pub record IsBuilt (knows : Id → Type 0) (content : Id → Tree) (Runs : List Run → Type 0) (builder : Building) : Type 0 where

@@ -1,6 +1,6 @@
 -- The squares that are stored while a file is read: those of its node lines, or of the plane that its runs fill, those through which its root is
 -- grown, and that to which it is trimmed. After `Full` the store lacks one of them. The project's own.
-use Rattle.std.specs.Prelude.{◌≡◌, ℕ, zero, suc, ◌+◌, ◌-◌, ◌^◌, ◌<◌, ◌≤◌, true, false, max, if◌then◌else◌, List, [], ◌∷◌, ◌++◌, Contains, nat_abs, ◌+ℤ◌, pos}
+use Rattle.std.specs.Prelude.{◌≡◌, ℕ, zero, suc, ◌+◌, ◌-◌, ◌^◌, ◌<◌, ◌≤◌, true, false, max, if◌then◌else◌, List, [], ◌∷◌, ◌++◌, Contains}
 use Rattle.life_base.specs.Lines.{whole_lines}
 use Rattle.life_base.specs.Refusal.{Prefix}
 use Rattle.life_base.specs.Text.{lines_of}
@@ -15,8 +15,9 @@ use Rattle.life_quad.specs.Moves.{grown_square}
 use Rattle.life_quad.specs.Refused.{SomePart}
 use Rattle.life_quad.specs.Store.{Nodes, stored_squares}
 use Rattle.life_rle.specs.File.{HasRuns}
-use Rattle.life_strip.specs.Given.{half_plane, state_by, by_columns}
+use Rattle.life_strip.specs.Given.{by_columns}
 use Rattle.life_strip.specs.Needed.{SomeSquare}
+pub use Rattle.life_strip.specs.Needed.{SomeOfRuns}
 use Rattle.life_canon.specs.Files.{Says, is_macrocell}
 use Rattle.life_canon.specs.Universe.{Universe, least_level, centred_square, whole}
 
@@ -29,14 +30,6 @@ abbrev pub SomeOfLine : (Tree → Type 0) → List Line → Line → Type 0
 SomeOfLine P lines (Leaf rows) = SomePart P (leaf_tree rows)
 SomeOfLine P lines (Quad level nw ne sw se) =
     P (quad (tree_of lines (level - 1) nw) (tree_of lines (level - 1) ne) (tree_of lines (level - 1) sw) (tree_of lines (level - 1) se))
-
--- a square of runs has a property: a square of the plane above the row in which one of them begins, with the cells of the runs before it
-pub record SomeOfRuns (P : Tree → Type 0) (runs : List Run) : Type 0 where
-  pub before : List Run
-  pub run : Run
-  pub behind : List Run
-  pub are : runs ≡ before ++ run ∷ behind
-  pub above : SomeSquare P (nat_abs (run.y +ℤ pos half_plane)) (by_columns (state_by before))
 
 -- a square of the front of a file has a property: of a node line, or of the runs so far
 pub data SomeOfLines (top : ℕ) (P : Tree → Type 0) (lines : List (List ℕ)) : Type 0 where

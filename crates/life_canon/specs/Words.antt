@@ -11,7 +11,7 @@ pub use Rattle.life_base.specs.declared.fault.Fault.{Fault as FaultValue}
 pub use Rattle.life_base.specs.declared.kind.Kind.{Kind as KindValue}
 pub use Rattle.life_base.specs.declared.kind.Kind.TheVariants.{Full, Memory, NoHeader, Spent, TooManyCells, WriteFault}
 pub use Rattle.life_base.specs.declared.rule.Rule.{Rule as RuleValue}
-pub use Rattle.life_canon.specs.Building.{AreNext, IsBuilt}
+pub use Rattle.life_canon.specs.Building.{IsBuilt}
 pub use Rattle.life_canon.specs.Calls.{EndsInto, FeedsInto, ReadsBothInto, ReadsInto, Stores, StoresFile, StoresIn, StoresLines}
 pub use Rattle.life_canon.specs.Counting.{CountsLines, line_count, number_count}
 pub use Rattle.life_canon.specs.Feeding.{IsOverAt, RefusesFront, Stands}

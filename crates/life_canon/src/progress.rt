@@ -1,7 +1,7 @@
 //! The lines of a file of either format, put into a store as they come.
 
 ghost use Rattle.std.specs.Prelude.{◌≡◌, ◌↔◌, ◌⊎◌, ◌++◌, ◌∷◌, [], ◌<◌, ◌≤◌, ℤ, Some, IsTrue, false, ℕ, List, IfOk, IfErr, OnOk, max, length, All};
-ghost use Rattle.life_canon.specs.Words.{Full, NoHeader, Prefix, depth, tree_cell, macrocell_cell, root_level, Macrocell, IsValidMacrocell, AcceptsMacrocell, squares_of, broken_rule, Nodes, stored_squares, Grows, IsShortageKind, LacksHeader, HasRuns, BreaksRle, IsSomeRle, IsFilling, IsBuilt, AreNext, Stores, StoresIn, Breaks, Says, is_macrocell, least_level, IsOpenIn, IsKnown, content, IsPatternOf, AreSquaresIn, ForMacrocell, HasGrown, HoldsFile, IsEnd, SomeAtEnd, SomeOfLines, SomeOfMacrocell, SomeOfRuns, SomeRoot, IsOpen, IsOver, IsReadyToTake, StandsFor, taken_lines, Universe, CanJoin, HasJoined, IsReadyFor, KeepsLines, quads_of, SomeOf, MOST_WAITING};
+ghost use Rattle.life_canon.specs.Words.{Full, NoHeader, Prefix, depth, tree_cell, macrocell_cell, root_level, Macrocell, IsValidMacrocell, AcceptsMacrocell, squares_of, broken_rule, Nodes, stored_squares, Grows, IsShortageKind, LacksHeader, HasRuns, BreaksRle, IsSomeRle, IsFilling, IsBuilt, Stores, StoresIn, Breaks, Says, is_macrocell, least_level, IsOpenIn, IsKnown, content, IsPatternOf, AreSquaresIn, ForMacrocell, HasGrown, HoldsFile, IsEnd, SomeAtEnd, SomeOfLines, SomeOfMacrocell, SomeRoot, IsOpen, IsOver, IsReadyToTake, StandsFor, taken_lines, Universe, CanJoin, HasJoined, IsReadyFor, KeepsLines, quads_of, SomeOf, MOST_WAITING};
 
 use crate::line_squares::{grow_to, line_quarters, names_first};
 use crate::pattern::{Pattern, least_level};
@@ -32,22 +32,6 @@ pub(crate) enum Progress {
     Macrocell(McLines, Vec<Id>, Vec<Quarters>),
 }
 
-/// Gives the runs to the builder, in their order.
-fn add_runs<S: Squares>(squares: &mut S, builder: &mut Builder, runs: &[Run]) -> Result<(), Kind>
-    requires filling { IsFilling (S.knows squares.old) (S.content squares.old) builder.old }
-    requires next { AreNext builder.old.runs runs.now }
-    ensures filling { OnOk result
-        (IsFilling (S.knows squares.new) (S.content squares.new) builder.new) }
-    ensures runs { OnOk result (builder.new.runs ≡ builder.old.runs ++ runs.now) }
-    ensures grows { Grows S.Squares squares.old squares.new result
-        (λ P. SomeOfRuns P (builder.old.runs ++ runs.now)) }
-{
-    for run in runs {
-        builder.add_run(squares, *run)?;
-    }
-    Ok(())
-}
-
 /// Takes a line of an RLE file. The vector lends memory for its runs.
 fn take_rle_line<S: Squares>(
     squares: &mut S,
@@ -71,7 +55,7 @@ fn take_rle_line<S: Squares>(
 {
     runs.clear();
     lines.line_into(line, runs)?;
-    add_runs(squares, builder, runs)
+    builder.add_runs(squares, runs)
 }
 
 /// Joins the squares of the lines that wait, and puts their Ids after those of the lines before them.

@@ -9,10 +9,10 @@ use Rattle.life_quad.specs.Keeping.{KeepsSquares}
 use Rattle.life_quad.specs.Span.{is_in_span}
 use Rattle.life_strip.specs.declared.row.Row.{Row}
 use Rattle.life_strip.specs.declared.spans.Strip.{Strip}
-use Rattle.life_strip.specs.Blocks.{AreRowBlocks, cell_in_blocks}
+use Rattle.life_strip.specs.Blocks.{AreBlocksBefore, AreRowBlocks, cell_in_blocks}
 use Rattle.life_strip.specs.Picture.{IsSoundStrip, height, picture, state_in_strip}
-use Rattle.life_strip.specs.Row.{IsRow, IsRowBefore, row_state, rows_state, state_with_rows}
-use Rattle.life_strip.specs.Strip.{AreWithin, IsStrip, Rise, square_at}
+use Rattle.life_strip.specs.Row.{FillsRow, IsRow, IsRowBefore, row_state, rows_state, state_with_rows}
+use Rattle.life_strip.specs.Strip.{AreBefore, AreWithin, IsStrip, Rise, square_at}
 use Rattle.life_strip.proofs.BlockLemmas.{all-later}
 use Rattle.life_strip.proofs.PictureLemmas.{picture-append, picture-beyond, picture-keeps}
 use Rattle.life_strip.proofs.SpanLemmas.{Keeps, before_more, square-keeps, strip-keeps}
@@ -252,3 +252,31 @@ with-below content strips rows i j =
     let back : height strips + j - height strips ≡ j = omega arith in
     ap (λ b. if b then picture content strips i (height strips + j) else rows_state content rows i (height strips + j - height strips)) out
     ∙ ap (rows_state content rows i) back
+
+-- cells of the state 1 go into a row of blocks
+module _ (knows : Id → Type 0) (content : Id → Tree) (old new : Row) (start end state : ℕ) (is : IsRow knows content old) (none : old.spans.items ≡ [])
+    (same : new.spans.items ≡ old.spans.items) (one : state ≡ 1) where
+  pub fills-blocks : AreRowBlocks new.blocks.items → AreBlocksBefore end new.blocks.items
+      → ((c : ℕ) → start ≤ c → c < end → cell_in_blocks new.blocks.items c ≡ 1)
+      → ((c : ℕ) → ¬ ((start ≤ c) × (c < end)) → cell_in_blocks new.blocks.items c ≡ cell_in_blocks old.blocks.items c)
+      → FillsRow knows content old new start end state
+  fills-blocks blocks before inside others = record {
+    row = record {
+      blocks = blocks;
+      squares = subst (λ z. IsStrip knows content 0 z) (sym same) is.squares;
+      within = subst (AreWithin 0) (sym same) is.within;
+      rises = subst Rise (sym same) is.rises;
+      one = inr (same ∙ none);
+    };
+    before = record { blocks = before; spans = subst (AreBefore end) (sym (same ∙ none)) (λ k d lt. absurd (omega (arith, lt))) };
+    states = λ c. row-of-blocks content new c (same ∙ none) ∙ by c (nat_le start c) refl (nat_lt c end) refl;
+  }
+    where
+      by : (c : ℕ) (a : Bool) → nat_le start c ≡ a → (b : Bool) → nat_lt c end ≡ b
+          → cell_in_blocks new.blocks.items c ≡ (if nat_le start c && nat_lt c end then state else row_state content old c)
+      by c true e true f = inside c (grind (arith, e)) (grind (arith, f)) ∙ sym one
+          ∙ sym (λ i. if e i && f i then state else row_state content old c)
+      by c true e false f = others c (λ h. let lt = h.1 in absurd (grind (arith, f, lt))) ∙ sym (row-of-blocks content old c none)
+          ∙ sym (λ i. if e i && f i then state else row_state content old c)
+      by c false e b f = others c (λ h. let le = h.0 in absurd (grind (arith, e, le))) ∙ sym (row-of-blocks content old c none)
+          ∙ sym (λ i. if e i && f i then state else row_state content old c)

@@ -1,5 +1,5 @@
 -- The runs that a builder was given, and the cells that they say.
-use Rattle.std.specs.Prelude.{◌≡◌, ◌↔◌, ℕ, ◌-◌, ◌^◌, ◌⊎◌, Bool, ◌&&◌, if◌then◌else◌, ℤ, pos, neg_ℤ, ◌+ℤ◌, ◌-ℤ◌, ◌<ℤ◌, ◌≤ℤ◌, int_lt, int_le, List, [], ◌∷◌, ◌++◌, length, Some, slice_get, AllPairs}
+use Rattle.std.specs.Prelude.{◌≡◌, ◌↔◌, ℕ, ◌-◌, ◌^◌, ◌≤◌, ◌⊎◌, Bool, ◌&&◌, if◌then◌else◌, ℤ, pos, neg_ℤ, ◌+ℤ◌, ◌-ℤ◌, ◌<ℤ◌, ◌≤ℤ◌, int_lt, int_le, List, [], ◌∷◌, ◌++◌, length, Some, slice_get, AllPairs}
 use Rattle.std.specs.Ordering.{int_eq}
 use Rattle.life_base.specs.declared.cell.TheConstants.{MAX_LEVEL}
 use Rattle.life_base.specs.declared.cell.Run.{Run}
@@ -36,6 +36,11 @@ pub record IsRunOnPlane (left top : ℤ) (len : ℕ) : Type 0 where
   pub east : (left +ℤ pos len) ≤ℤ pos half_plane
   pub north : neg_ℤ (pos half_plane) ≤ℤ top
   pub south : top <ℤ pos half_plane
+
+-- further runs that may be given behind these: of at least one cell each, in the plane, each behind the one before
+abbrev pub AreNext : List Run → List Run → Type 0
+AreNext before [] = Unit {0}
+AreNext before (run ∷ runs) = (1 ≤ run.len) × IsRunOnPlane run.x run.y run.len × IsNextRunStart before run.x run.y × AreNext (before ++ run ∷ []) runs
 
 -- the same states by the column and the row of the plane, counted from its north west corner
 abbrev pub by_columns : (ℤ → ℤ → ℕ) → ℕ → ℕ → ℕ

@@ -10,8 +10,9 @@ pub use Rattle.life_quad.specs.Store.{four}
 pub use Rattle.life_strip.specs.Band.{block_goes_to, cells_among_four, IsAtBlock, IsLeastOfFour, IsPastBlocks, square_of_words, word_in}
 pub use Rattle.life_strip.specs.Blocks.{AddsCells, AreRowBlocks, AreBlocksBefore, IsRowBlock, IsBlockBefore, cell_in_blocks, cell_in_word, four_in, two_in}
 pub use Rattle.life_strip.specs.Filling.{EmptyFills, FillingStays, IsEmpty, IsFilling}
-pub use Rattle.life_strip.specs.Given.{AreInOrder, by_columns, half_plane, IsAfterRun, IsNextRunStart, IsRunOnPlane, RunsAreApart, RunsGrow, state_by}
-pub use Rattle.life_strip.specs.Needed.{SomeColumn, SomeSquare}
+pub use Rattle.life_strip.specs.Given.{AreInOrder, AreNext, by_columns, half_plane, IsAfterRun, IsNextRunStart, IsRunOnPlane, RunsAreApart, RunsGrow, state_by}
+pub use Rattle.life_strip.specs.Needed.{SomeColumn, SomeOfRuns, SomeSquare}
+pub use Rattle.life_strip.specs.Open.{AreOpen, blocks_of}
 pub use Rattle.life_strip.specs.Picture.{AreFalling, AreStacked, height, IsLowest, IsNotLast, IsSoundStrip, IsStack, picture, state_in_strip}
 pub use Rattle.life_strip.specs.Pile.{HasClosedRows, IsPile, pile_height, pile_state, pile_state_with, SomeOfPile}
 pub use Rattle.life_strip.specs.Plane.{AddsRun, BeginsRow, cell_so_far, IsFilled, IsFree, IsUnfilled, state_so_far}
@@ -21,3 +22,4 @@ pub use Rattle.life_strip.specs.Strip.{ArePieces, IsOnly, IsOnlyColumn, IsPaired
 pub use Rattle.life_strip.specs.declared.spans.Span.{Span as SpanValue}
 pub use Rattle.std.specs.Borrow.{ftrue}
 pub use Rattle.std.specs.Int.{bit_at}
+pub use Rattle.std.specs.Vec.{vec_capacity, vec_len}

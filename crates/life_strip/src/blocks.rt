@@ -18,12 +18,30 @@ pub(crate) struct Block {
 
 // The bits of so many columns of a block from one of them on.
 #[inline(always)]
-fn bits_of(from: u64, count: u64) -> u64
+pub(crate) fn bits_of(from: u64, count: u64) -> u64
     requires some { 0 < count }
     requires within { from + count ≤ 64 }
     ensures { result ≡ 2 ^ (64 - from) - 2 ^ (64 - (from + count)) }
 {
     (u64::MAX << (64 - count)) >> from
+}
+
+// The block of cells in some of its columns.
+#[inline(always)]
+pub(crate) fn block_of(start: u64, len: u64) -> Block
+    requires some { 0 < len }
+    requires one { start % 64 + len ≤ 64 }
+    requires within { start + len ≤ 2 ^ MAX_LEVEL }
+    ensures start { result.start ≡ start / 64 }
+    ensures end { result.end ≡ start / 64 + 1 }
+    ensures cells { result.cells ≡ 2 ^ (64 - start % 64) - 2 ^ (64 - (start % 64 + len)) }
+{
+    let block = start / 64;
+    Block {
+        start: block,
+        end: block + 1,
+        cells: bits_of(start % 64, len),
+    }
 }
 
 // Cells in columns of one block, east of the others.

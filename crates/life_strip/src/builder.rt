@@ -1,6 +1,6 @@
 //! A builder that fills a store row by row.
-ghost use Rattle.std.specs.Prelude.{◌≡◌, ℤ, pos, nat_abs, ◌+ℤ◌, ◌^◌, ◌≤◌, ◌++◌, ◌∷◌, [], IfOk, OnOk};
-ghost use Rattle.life_strip.specs.Words.{depth, tree_cell, Grows, IsAfterRun, IsNextRunStart, IsRunOnPlane, AreInOrder, state_by, by_columns, half_plane, SomeSquare, IsEmpty, IsFilling};
+ghost use Rattle.std.specs.Prelude.{◌≡◌, ℤ, pos, nat_abs, ◌+ℤ◌, ◌^◌, ◌≤◌, ◌++◌, ◌∷◌, [], length, IfOk, OnOk};
+ghost use Rattle.life_strip.specs.Words.{depth, tree_cell, Grows, IsAfterRun, IsNextRunStart, IsRunOnPlane, AreInOrder, state_by, by_columns, half_plane, SomeSquare, IsEmpty, IsFilling, AreNext, SomeOfRuns};
 
 use crate::plane::Plane;
 use crate::run_log::RunLog;
@@ -8,6 +8,9 @@ use life_base::{Kind, MAX_LEVEL, Run};
 use life_quad::{Id, Squares};
 use std::alloc::Global;
 use std::marker::Model;
+
+/// It pays to look for the runs of a row among so many runs and more.
+const MANY_RUNS: usize = 8;
 
 /// A pattern that is being filled into a store by runs of cells: row by row from the north, and in a row from west to east.
 ///
@@ -62,6 +65,78 @@ impl Builder {
         self.plane.add_run(squares, run)?;
         self.log = self.log.then(&run);
         Ok(())
+    }
+
+    /// Gives the cells of runs their states, run by run.
+    ///
+    /// # Errors
+    ///
+    /// As for one run.
+    #[inline(always)]
+    pub fn add_runs<S: Squares>(&mut self, squares: &mut S, runs: &[Run]) -> Result<(), Kind>
+        requires filling { IsFilling (S.knows squares.old) (S.content squares.old) self.old }
+        requires next { AreNext self.old.runs runs.now }
+        ensures filling { OnOk result
+            (IsFilling (S.knows squares.new) (S.content squares.new) self.new) }
+        ensures runs { OnOk result (self.new.runs ≡ self.old.runs ++ runs.now) }
+        ensures grows { Grows S.Squares squares.old squares.new result
+            (λ P. SomeOfRuns P (self.old.runs ++ runs.now)) }
+    {
+        if runs.len() < MANY_RUNS || self.plane.has_spans() {
+            self.add_one_by_one(squares, runs)
+        } else {
+            self.add_by_rows(squares, runs)
+        }
+    }
+
+    // The same for few runs, or where a state is above 1.
+    #[inline(always)]
+    fn add_one_by_one<S: Squares>(&mut self, squares: &mut S, runs: &[Run]) -> Result<(), Kind>
+        requires filling { IsFilling (S.knows squares.old) (S.content squares.old) self.old }
+        requires next { AreNext self.old.runs runs.now }
+        ensures filling { OnOk result
+            (IsFilling (S.knows squares.new) (S.content squares.new) self.new) }
+        ensures runs { OnOk result (self.new.runs ≡ self.old.runs ++ runs.now) }
+        ensures grows { Grows S.Squares squares.old squares.new result
+            (λ P. SomeOfRuns P (self.old.runs ++ runs.now)) }
+    {
+        for run in runs {
+            self.add_run(squares, *run)?;
+        }
+        Ok(())
+    }
+
+    // The same for many runs: those of a row go into its blocks at once, as far as they can.
+    #[inline(never)]
+    fn add_by_rows<S: Squares>(&mut self, squares: &mut S, runs: &[Run]) -> Result<(), Kind>
+        requires filling { IsFilling (S.knows squares.old) (S.content squares.old) self.old }
+        requires next { AreNext self.old.runs runs.now }
+        ensures filling { OnOk result
+            (IsFilling (S.knows squares.new) (S.content squares.new) self.new) }
+        ensures runs { OnOk result (self.new.runs ≡ self.old.runs ++ runs.now) }
+        ensures grows { Grows S.Squares squares.old squares.new result
+            (λ P. SomeOfRuns P (self.old.runs ++ runs.now)) }
+    {
+        let mut left = self.add_row_runs(squares, runs);
+        while !left.is_empty() {
+            self.add_run(squares, left[0])?;
+            left = self.add_row_runs(squares, &left[1..]);
+        }
+        Ok(())
+    }
+
+    // Gives the cells of the first runs their state, as far as these go into the blocks of the row that was begun. Returns the runs that are left.
+    #[inline(always)]
+    fn add_row_runs<'a, S: Squares>(&mut self, squares: &S, runs: &'a [Run]) -> &'a [Run]
+        requires filling { IsFilling (S.knows squares.now) (S.content squares.now) self.old }
+        requires next { AreNext self.old.runs runs.now }
+        ensures filling { IsFilling (S.knows squares.now) (S.content squares.now) self.new }
+        ensures next { AreNext self.new.runs result.now }
+        ensures runs { self.new.runs ++ result.now ≡ self.old.runs ++ runs.now }
+        ensures fewer { length result.now ≤ length runs.now }
+    {
+        let log = &mut self.log;
+        self.plane.add_row_runs(squares, log, runs)
     }
 
     /// The square of the whole plane with the cells of the runs.

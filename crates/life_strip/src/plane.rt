@@ -1,9 +1,11 @@
 //! The plane as far as it is filled, row by row.
-ghost use Rattle.std.specs.Prelude.{◌≡◌, ℤ, pos, neg_ℤ, nat_abs, ◌+ℤ◌, ◌<ℤ◌, ◌≤ℤ◌, ◌+◌, ◌^◌, ◌<◌, ◌≤◌, IfOk, OnOk};
-ghost use Rattle.life_strip.specs.Words.{depth, tree_cell, Grows, IsRunOnPlane, half_plane, SomeSquare, IsFilled, IsUnfilled, IsFree, AddsRun, BeginsRow, state_so_far, cell_so_far};
+ghost use Rattle.std.specs.Prelude.{◌≡◌, ℤ, pos, neg_ℤ, nat_abs, ◌+ℤ◌, ◌<ℤ◌, ◌≤ℤ◌, ◌+◌, ◌^◌, ◌<◌, ◌≤◌, ◌++◌, length, IfOk, OnOk};
+ghost use Rattle.life_strip.specs.Words.{depth, tree_cell, Grows, IsRunOnPlane, half_plane, SomeSquare, IsFilled, IsUnfilled, IsFree, AddsRun, BeginsRow, state_so_far, cell_so_far, AreNext, IsFilling, vec_len};
 
+use crate::open_blocks::OpenBlocks;
 use crate::pile::Pile;
 use crate::row::Row;
+use crate::run_log::RunLog;
 use life_base::{Kind, MAX_LEVEL, Run};
 use life_quad::{Id, Squares};
 use std::alloc::Global;
@@ -26,12 +28,22 @@ pub(crate) struct Plane {
 }
 
 // The column or the row of a coordinate, counted from the edge of the plane.
-fn offset(x: i64) -> u64
+#[inline(always)]
+pub(crate) fn offset(x: i64) -> u64
     requires low { neg_ℤ (pos half_plane) ≤ℤ x }
     requires high { x <ℤ pos half_plane }
     ensures { pos result ≡ (x +ℤ pos half_plane) }
 {
     (x + HALF_PLANE) as u64
+}
+
+// The coordinate of a column or a row that is counted from the edge of the plane.
+#[inline(always)]
+pub(crate) fn coordinate(n: u64) -> i64
+    requires { n < 2 ^ MAX_LEVEL }
+    ensures { result +ℤ pos half_plane ≡ pos n }
+{
+    n as i64 - HALF_PLANE
 }
 
 impl Plane {
@@ -105,6 +117,74 @@ impl Plane {
         let spare = &mut self.pile.spare;
         self.row
             .add(squares, spare, column, column + run.len, run.state)
+    }
+
+    // Gives the cells of the first runs their state: of those that are in the row that was begun, which has a block, each within one block. It
+    // stops at another run, and where there is no capacity for one block more. Returns the runs that are left.
+    #[inline(never)]
+    fn add_short_runs<'a, S: Squares>(
+        &mut self,
+        _squares: &S,
+        log: &mut RunLog,
+        runs: &'a [Run],
+    ) -> &'a [Run]
+        requires filling { IsFilling (S.knows _squares.now) (S.content _squares.now)
+            (record { runs = log.old.runs; kept = self.old }) }
+        requires next { AreNext log.old.runs runs.now }
+        requires some { 0 < vec_len self.old.row.blocks }
+        ensures filling { IsFilling (S.knows _squares.now) (S.content _squares.now)
+            (record { runs = log.new.runs; kept = self.new }) }
+        ensures next { AreNext log.new.runs result.now }
+        ensures runs { log.new.runs ++ result.now ≡ log.old.runs ++ runs.now }
+        ensures fewer { length result.now ≤ length runs.now }
+    {
+        let alloc = self.pile.alloc;
+        let mut blocks = mem::replace(&mut self.row.blocks, Vec::new(alloc));
+        let Some(last) = blocks.pop() else {
+            return runs;
+        };
+        let y = coordinate(self.rows);
+        let mut row = OpenBlocks::new(blocks, last);
+        let mut index = 0;
+        while index < runs.len() {
+            let run = &runs[index];
+            if run.y != y || run.state != 1 || !row.add(run.x, run.len) {
+                break;
+            }
+            *log = log.then(run);
+            index += 1;
+        }
+        self.row.blocks = row.close();
+        &runs[index..]
+    }
+
+    // The same in any row. It gives none where the first run is in another row than the one that was begun.
+    #[inline(always)]
+    pub(crate) fn add_row_runs<'a, S: Squares>(
+        &mut self,
+        squares: &S,
+        log: &mut RunLog,
+        runs: &'a [Run],
+    ) -> &'a [Run]
+        requires filling { IsFilling (S.knows squares.now) (S.content squares.now)
+            (record { runs = log.old.runs; kept = self.old }) }
+        requires next { AreNext log.old.runs runs.now }
+        ensures filling { IsFilling (S.knows squares.now) (S.content squares.now)
+            (record { runs = log.new.runs; kept = self.new }) }
+        ensures next { AreNext log.new.runs result.now }
+        ensures runs { log.new.runs ++ result.now ≡ log.old.runs ++ runs.now }
+        ensures fewer { length result.now ≤ length runs.now }
+    {
+        if runs.is_empty() || runs[0].y != coordinate(self.rows) || self.row.blocks.is_empty() {
+            return runs;
+        }
+        self.add_short_runs(squares, log, runs)
+    }
+
+    // Whether the row that was begun is one of spans.
+    #[inline(always)]
+    pub(crate) fn has_spans(&self) -> bool {
+        !self.row.spans.is_empty()
     }
 
     // The square of the whole plane.

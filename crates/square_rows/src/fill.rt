@@ -1,10 +1,10 @@
 //! Runs put into a square one by one, and row by row.
 
-ghost use Rattle.std.specs.Prelude.{◌≡◌, ◌<◌, ◌≤◌, ◌-◌, ◌^◌, ◌+ℤ◌, pos, IfOk, IfSome, IsTrue, OnOk, ℤ};
+ghost use Rattle.std.specs.Prelude.{◌≡◌, [], ◌<◌, ◌≤◌, ◌-◌, ◌^◌, ◌+ℤ◌, pos, IfOk, IfSome, IsTrue, OnOk, ℤ};
 ghost use Rattle.life_base.specs.Tree.{depth};
 ghost use Rattle.life_quad.specs.Grows.{KeepsStore};
 ghost use Rattle.life_strip.specs.Filling.{IsFilling};
-ghost use Rattle.life_strip.specs.Given.{IsAfterRun, IsNextRunStart, IsRunOnPlane};
+ghost use Rattle.life_strip.specs.Given.{AreNext, IsAfterRun, IsNextRunStart, IsRunOnPlane};
 
 use crate::answer::Unanswered;
 use crate::step::numbers_of;
@@ -64,6 +64,7 @@ fn run_of(text: &[u8]) -> Result<Run, Unanswered> {
 /// A builder without runs.
 fn begun<S: Squares>(alloc: Global, squares: &S) -> Builder
     ensures filling { IsFilling (S.knows squares.now) (S.content squares.now) result }
+    ensures none { result.runs ≡ [] }
     ensures next { (x y : ℤ) → IsNextRunStart result.runs x y }
 {
     let _ = squares;
@@ -178,6 +179,62 @@ pub(crate) fn fill_plane<S: Squares>(
     ensures keeps { KeepsStore S.Squares squares.old squares.new }
 {
     let builder = built(alloc, squares, runs)?;
+    match builder.finish(squares) {
+        Ok(id) => Ok(id),
+        Err(kind) => Err(Unanswered::Refused(kind)),
+    }
+}
+
+/// Adds a run that comes after the last one.
+fn push_run(runs: &mut Vec<Run>, last: Run, run: Run) -> Result<(), Unanswered>
+    requires all { AreNext [] runs.old.items }
+    requires next { (x y : ℤ) → IsAfterRun last x y → IsNextRunStart runs.old.items x y }
+    ensures all { OnOk result (AreNext [] runs.new.items) }
+    ensures next { OnOk result ((x y : ℤ) → IsAfterRun run x y → IsNextRunStart runs.new.items x y) }
+{
+    if !is_on_plane(run.x, run.y, run.len) || !is_after(last, run) {
+        return Err(Unanswered::BadRow);
+    }
+    match runs.push(run) {
+        Ok(()) => Ok(()),
+        Err(_) => Err(Unanswered::NoMemory),
+    }
+}
+
+/// The runs of a text, each of which comes after the one before it.
+fn listed_runs(alloc: Global, text: &[u8]) -> Result<Vec<Run>, Unanswered>
+    ensures { IfOk result (λ runs. AreNext [] runs.items) }
+{
+    let mut runs = Vec::new(alloc);
+    let mut last = FIRST;
+    let mut rest = text;
+    for _run in 0..RUNS {
+        let (word, others) = split_word(rest);
+        if word.is_empty() {
+            return Ok(runs);
+        }
+        let run = run_of(word)?;
+        push_run(&mut runs, last, run)?;
+        last = run;
+        rest = others;
+    }
+    Err(Unanswered::BadRow)
+}
+
+/// The plane with the runs of a text, which a builder is given as a slice.
+pub(crate) fn fill_at_once<S: Squares>(
+    alloc: Global,
+    squares: &mut S,
+    text: &[u8],
+) -> Result<Id, Unanswered>
+    ensures known { IfOk result (S.knows squares.new) }
+    ensures keeps { KeepsStore S.Squares squares.old squares.new }
+{
+    let runs = listed_runs(alloc, text)?;
+    let mut builder = begun(alloc, squares);
+    if let Err(kind) = builder.add_runs(squares, runs.as_slice()) {
+        return Err(Unanswered::Refused(kind));
+    }
     match builder.finish(squares) {
         Ok(id) => Ok(id),
         Err(kind) => Err(Unanswered::Refused(kind)),

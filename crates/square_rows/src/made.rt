@@ -5,7 +5,7 @@ ghost use Rattle.life_base.specs.Tree.{depth};
 ghost use Rattle.life_quad.specs.Grows.{KeepsStore};
 
 use crate::answer::Unanswered;
-use crate::fill::{fill_plane, put, run_at};
+use crate::fill::{fill_at_once, fill_plane, put, run_at};
 use crate::step::{Change, Make, New, Step};
 use life_base::{MAX_LEVEL, Run};
 use life_quad::{Id, Squares, grow, trim};
@@ -170,6 +170,7 @@ fn begun<S: Squares>(
         New::Small => small(squares, step.numbers[0]),
         New::Quarter => quarter(squares, step.numbers[0]),
         New::Rows => fill_plane(alloc, squares, step.runs),
+        New::Slice => fill_at_once(alloc, squares, step.runs),
     }
 }
 

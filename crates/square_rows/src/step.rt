@@ -12,6 +12,8 @@ pub(crate) enum New {
     Small,
     Quarter,
     Rows,
+    /// The same, by a slice of runs.
+    Slice,
 }
 
 /// A step that makes a square of squares of the list.
@@ -65,7 +67,7 @@ pub(crate) enum Verb {
 }
 
 /// The first word of each step with what it does, and how many numbers come after it.
-const VERBS: [(&[u8], Verb, usize); 22] = [
+const VERBS: [(&[u8], Verb, usize); 23] = [
     (b"empty", Verb::Make(Make::New(New::Empty)), 1),
     (b"cell", Verb::Make(Make::New(New::Cell)), 1),
     (b"small", Verb::Make(Make::New(New::Small)), 1),
@@ -75,6 +77,7 @@ const VERBS: [(&[u8], Verb, usize); 22] = [
     (b"grow", Verb::Make(Make::Change(Change::Grow)), 1),
     (b"trim", Verb::Make(Make::Change(Change::Trim)), 2),
     (b"rows", Verb::Make(Make::New(New::Rows)), 0),
+    (b"slice", Verb::Make(Make::New(New::Slice)), 0),
     (b"level", Verb::Ask(Question::Level), 1),
     (b"state", Verb::Ask(Question::State), 1),
     (b"small_cells", Verb::Ask(Question::SmallCells), 1),
@@ -128,7 +131,10 @@ pub(crate) struct Step<'a> {
 
 /// Whether the rest of a step are runs.
 fn has_runs(verb: Verb) -> bool {
-    matches!(verb, Verb::Make(Make::New(New::Rows)) | Verb::Build)
+    matches!(
+        verb,
+        Verb::Make(Make::New(New::Rows | New::Slice)) | Verb::Build
+    )
 }
 
 /// The step that a text writes.

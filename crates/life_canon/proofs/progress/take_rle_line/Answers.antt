@@ -8,7 +8,7 @@ use Rattle.life_rle.specs.File.{HasRuns}
 use Rattle.life_rle.specs.Grammar.{BreaksRle}
 use Rattle.life_base.specs.declared.cell.Run.{Run}
 use Rattle.life_quad.proofs.KeepingLemmas.{keeps-same, adds-none, adds-as}
-use Rattle.life_canon.specs.Building.{AreNext}
+use Rattle.life_strip.specs.Given.{AreNext}
 use Rattle.life_canon.proofs.BuildFacts.{lines-next}
 use Rattle.life_canon.proofs.PatternFacts.{both-ok, not-full-rle, told-fault}
 use Rattle.life_canon.specs.Needs.{SomeOfLines, SomeOfRuns}

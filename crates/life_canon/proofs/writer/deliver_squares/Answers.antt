@@ -1,4 +1,4 @@
-use Rattle.std.proofs.Common.{◌++◌, ◌∙◌, ap, flat_map}
+use Rattle.std.proofs.Common.{◌++◌, ap, flat_map}
 use Rattle.std.proofs.lemmas.Result.{err_from_is_err_and}
 use Rattle.life_mc.specs.Writing.{node_text}
 use Rattle.life_canon.specs.Listing.{lines_for, listed_squares}

@@ -1,13 +1,11 @@
-use Rattle.std.proofs.Common.{◌≡◌, ℕ, ◌≤◌, ◌<◌, Bool, true, false, ◌&&◌, inr, nat_lt, nat_le, if◌then◌else◌, [], Result, Ok, Err, OnOk, refl, sym, ◌∙◌, ap, subst, arith}
+use Rattle.std.proofs.Common.{◌≡◌, ℕ, ◌<◌, Bool, true, false, ◌&&◌, nat_lt, nat_le, if◌then◌else◌, [], Result, Ok, Err, OnOk, refl, sym, ◌∙◌, ap, arith}
 use Rattle.std.proofs.lemmas.List.{nil_from_length}
 use Rattle.life_base.specs.Tree.{Tree}
 use Rattle.life_quad.specs.declared.id.Id.{Id}
 use Rattle.life_strip.specs.declared.row.Row.{Row}
-use Rattle.life_strip.specs.Blocks.{AreRowBlocks, AreBlocksBefore, cell_in_blocks}
 use Rattle.life_strip.specs.Row.{FillsRow, IsRow, IsRowBefore, row_state}
-use Rattle.life_strip.specs.Strip.{AreBefore, AreWithin, IsStrip, Rise}
 use Rattle.life_strip.proofs.BlockLemmas.{no-cell-from}
-use Rattle.life_strip.proofs.RowLemmas.{row-later, row-of-blocks}
+use Rattle.life_strip.proofs.RowLemmas.{fills-blocks, row-later, row-of-blocks}
 use Rattle.life_strip.proofs.row.Row.add.Goals as goal
 
 -- of columns in which a row has no cell
@@ -26,34 +24,6 @@ nothing knows content row start end state is before some none zero = record {
     by c true e false = ap (λ a. if a && false then state else row_state content row c) (sym e)
     by c false e b = ap (λ a. if a && b then state else row_state content row c) (sym e)
 
--- of cells of the state 1 in a row of blocks
-module _ (knows : Id → Type 0) (content : Id → Tree) (old new : Row) (start end state : ℕ) (is : IsRow knows content old) (none : old.spans.items ≡ [])
-    (same : new.spans.items ≡ old.spans.items) (one : state ≡ 1) where
-  cells : AreRowBlocks new.blocks.items → AreBlocksBefore end new.blocks.items
-      → ((c : ℕ) → start ≤ c → c < end → cell_in_blocks new.blocks.items c ≡ 1)
-      → ((c : ℕ) → ¬ ((start ≤ c) × (c < end)) → cell_in_blocks new.blocks.items c ≡ cell_in_blocks old.blocks.items c)
-      → FillsRow knows content old new start end state
-  cells blocks before inside others = record {
-    row = record {
-      blocks = blocks;
-      squares = subst (λ z. IsStrip knows content 0 z) (sym same) is.squares;
-      within = subst (AreWithin 0) (sym same) is.within;
-      rises = subst Rise (sym same) is.rises;
-      one = inr (same ∙ none);
-    };
-    before = record { blocks = before; spans = subst (AreBefore end) (sym (same ∙ none)) (λ k d lt. absurd (omega (arith, lt))) };
-    states = λ c. row-of-blocks content new c (same ∙ none) ∙ by c (nat_le start c) refl (nat_lt c end) refl;
-  }
-    where
-      by : (c : ℕ) (a : Bool) → nat_le start c ≡ a → (b : Bool) → nat_lt c end ≡ b
-          → cell_in_blocks new.blocks.items c ≡ (if nat_le start c && nat_lt c end then state else row_state content old c)
-      by c true e true f = inside c (grind (arith, e)) (grind (arith, f)) ∙ sym one
-          ∙ sym (λ i. if e i && f i then state else row_state content old c)
-      by c true e false f = others c (λ h. let lt = h.1 in absurd (grind (arith, f, lt))) ∙ sym (row-of-blocks content old c none)
-          ∙ sym (λ i. if e i && f i then state else row_state content old c)
-      by c false e b f = others c (λ h. let le = h.0 in absurd (grind (arith, e, le))) ∙ sym (row-of-blocks content old c none)
-          ∙ sym (λ i. if e i && f i then state else row_state content old c)
-
 on_ok_map4 : {T E : Type 0} {P Q R S X : Type 0} (r : Result T E) → (P → Q → R → S → X) → OnOk r P → OnOk r Q → OnOk r R → OnOk r S → OnOk r X
 on_ok_map4 (Ok x) f p q s t = f p q s t
 on_ok_map4 (Err e) f p q s t = tt
@@ -62,7 +32,7 @@ pub returns-then-state-eq1-clause-fills : goal.returns-then-state-eq1-clause-fil
 returns-then-state-eq1-clause-fills g c =
     let e = c.add_cells.ensures in
     on_ok_map4 c.add_cells.result
-    (cells (g.S.Squares.knows c.args.squares.now) (g.S.Squares.content c.args.squares.now) c.args.self.now
+    (fills-blocks (g.S.Squares.knows c.args.squares.now) (g.S.Squares.content c.args.squares.now) c.args.self.now
     (record c.args.self.now { blocks = c.add_cells.new.blocks }) c.args.start c.args.end c.args.state c.requires.row
     (nil_from_length c.args.self.now.spans.items (grind (arith, c.is_empty.ensures, c.if-is_empty.true))) refl c.if-state-eq1.true)
     e.blocks e.before e.inside e.others
