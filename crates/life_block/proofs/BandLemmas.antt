@@ -1,9 +1,9 @@
 -- Four rows of sixteen cells as a word: from squares, moved, and a generation later.
-use Rattle.std.proofs.Common.{◌≡◌, ℕ, zero, suc, ◌+◌, ◌*◌, ◌-◌, ◌/◌, ◌%◌, ◌^◌, ◌<◌, ◌≤◌, inl, inr, ℤ, pos, ◌+ℤ◌, [], ◌∷◌, refl, sym, ◌∙◌, ap, arith}
+use Rattle.std.proofs.Common.{◌≡◌, ℕ, zero, suc, ◌+◌, ◌*◌, ◌-◌, ◌/◌, ◌%◌, ◌^◌, ◌<◌, ◌≤◌, inl, inr, ℤ, pos, ◌+ℤ◌, [], ◌∷◌, ◌∙◌, ap, arith}
 use Rattle.std.specs.Int.{bit_at}
 use Rattle.std.proofs.lemmas.Int.{ints}
 use Rattle.std.proofs.lemmas.Bool.{cases_lt}
-use Rattle.std.proofs.lemmas.Nat.Bits.{bit_at-lt, bit_at_cat_low, bit_at_cat_high}
+use Rattle.std.proofs.lemmas.Nat.Bits.{bit_at_cat_low, bit_at_cat_high}
 use Rattle.life_base.specs.Sets.{OuterTotalistic}
 use Rattle.life_base.specs.declared.rule.Near.{Near}
 use Rattle.life_base.specs.declared.rule.Near.TheVariants.{Moore, VonNeumann}
@@ -11,10 +11,8 @@ use Rattle.life_sweep.specs.Generation.{one_before, one_after, next_by_count, ne
 use Rattle.life_table.specs.Meaning.{count_of}
 use Rattle.life_lanes.specs.Places.{place_in}
 use Rattle.life_lanes.proofs.WordLemmas.{bit-mod, bit-shr, shl-high}
-use Rattle.life_block.specs.Bits.{RowWords, counted_in, HasSquareBits, HasBand}
+use Rattle.life_block.specs.Bits.{NineWords, counted_in, HasSquareBits, HasBand}
 use Rattle.life_block.specs.Pieces.{step_ahead}
-use Rattle.life_block.proofs.CountLemmas.{four}
-use Rattle.life_sweep.proofs.LawLemmas.{eight}
 use Rattle.life_block.proofs.SquareLemmas.{place-small}
 
 pub HasBand-moved : (cells : ℤ → ℤ → ℕ) (x y z : ℤ) (word : ℕ) → y ≡ z → HasBand cells x y word → HasBand cells x z word
@@ -98,86 +96,66 @@ rows-between cells x y a b n k m ln ek em small ha hb r i lr li = elim (cases_lt
 
 -- ---- the next states
 
--- neighbours count the same counter-clockwise
-eight-mirrored : (a b c d e f g h : ℕ) → a < 2 → b < 2 → c < 2 → d < 2 → e < 2 → f < 2 → g < 2 → h < 2
-    → count_of 1 (a ∷ b ∷ c ∷ d ∷ e ∷ f ∷ g ∷ h ∷ []) ≡ count_of 1 (a ∷ h ∷ g ∷ f ∷ e ∷ d ∷ c ∷ b ∷ [])
-eight-mirrored a b c d e f g h la lb lc ld le lf lg lh =
-    let same : a + b + c + d + e + f + g + h ≡ a + h + g + f + e + d + c + b = omega arith in
-    sym (eight a b c d e f g h la lb lc ld le lf lg lh) ∙ same ∙ eight a h g f e d c b la lh lg lf le ld lc lb
-
-four-mirrored : (a b c d : ℕ) → a < 2 → b < 2 → c < 2 → d < 2 → count_of 1 (a ∷ b ∷ c ∷ d ∷ []) ≡ count_of 1 (a ∷ d ∷ c ∷ b ∷ [])
-four-mirrored a b c d la lb lc ld =
-    let same : a + b + c + d ≡ a + d + c + b = omega arith in sym (four a b c d la lb lc ld) ∙ same ∙ four a d c b la ld lc lb
-
-module _ (rule : OuterTotalistic) (cells : ℤ → ℤ → ℕ) (x y : ℤ) (w : RowWords) (hn : HasBand cells x (one_before y) w.north) (hh : HasBand cells x y w.here)
-    (hs : HasBand cells x (one_after y) w.south) where
-  -- the state behind a place among four rows
-  module _ (r i : ℕ) (lr : r < 4) (li : i < 14) where
-    abbrev place : ℕ
-    place = 61 - (16 * r + i)
-
-    abbrev column : ℤ
-    column = x +ℤ pos (i + 1)
-
-    abbrev row : ℤ
-    row = y +ℤ pos r
-
-    north : (p a : ℕ) (z : ℤ) → a < 16 → p ≡ 63 - (16 * r + a) → x +ℤ pos a ≡ z → bit_at w.north p ≡ cells z (one_before row)
-    north p a z la is e =
-        let f : one_before y +ℤ pos r ≡ one_before row = omega (arith, ints) in ap (bit_at w.north) is ∙ hn r a lr la ∙ (λ j. cells (e j) (f j))
-
-    here : (p a : ℕ) (z : ℤ) → a < 16 → p ≡ 63 - (16 * r + a) → x +ℤ pos a ≡ z → bit_at w.here p ≡ cells z row
-    here p a z la is e = ap (bit_at w.here) is ∙ hh r a lr la ∙ ap (λ k. cells k row) e
-
-    south : (p a : ℕ) (z : ℤ) → a < 16 → p ≡ 63 - (16 * r + a) → x +ℤ pos a ≡ z → bit_at w.south p ≡ cells z (one_after row)
-    south p a z la is e =
-        let f : one_after y +ℤ pos r ≡ one_after row = omega (arith, ints) in ap (bit_at w.south) is ∙ hs r a lr la ∙ (λ j. cells (e j) (f j))
-
-    c : bit_at w.here (place + 1) ≡ cells column row
-    c = here _ (i + 1) _ (omega (arith, li)) (omega (arith, lr, li)) refl
-
-    n : bit_at w.north (place + 1) ≡ cells column (one_before row)
-    n = north _ (i + 1) _ (omega (arith, li)) (omega (arith, lr, li)) refl
-
-    ne : bit_at w.north place ≡ cells (one_after column) (one_before row)
-    ne = north _ (i + 2) _ (omega (arith, li)) (omega (arith, lr, li)) (omega (arith, ints))
-
-    e : bit_at w.here place ≡ cells (one_after column) row
-    e = here _ (i + 2) _ (omega (arith, li)) (omega (arith, lr, li)) (omega (arith, ints))
-
-    se : bit_at w.south place ≡ cells (one_after column) (one_after row)
-    se = south _ (i + 2) _ (omega (arith, li)) (omega (arith, lr, li)) (omega (arith, ints))
-
-    s : bit_at w.south (place + 1) ≡ cells column (one_after row)
-    s = south _ (i + 1) _ (omega (arith, li)) (omega (arith, lr, li)) refl
-
-    sw : bit_at w.south (place + 2) ≡ cells (one_before column) (one_after row)
-    sw = south _ i _ (omega (arith, li)) (omega (arith, lr, li)) (omega (arith, ints))
-
-    west : bit_at w.here (place + 2) ≡ cells (one_before column) row
-    west = here _ i _ (omega (arith, li)) (omega (arith, lr, li)) (omega (arith, ints))
-
-    nw : bit_at w.north (place + 2) ≡ cells (one_before column) (one_before row)
-    nw = north _ i _ (omega (arith, li)) (omega (arith, lr, li)) (omega (arith, ints))
-
+-- the next state of a cell whose bit and those of its neighbours are known
+pub next-of_bits : (rule : OuterTotalistic) (cells : ℤ → ℤ → ℕ) (x y : ℤ) (w : NineWords) (p : ℕ)
+    → bit_at w.before.before p ≡ cells (one_before x) (one_before y) → bit_at w.before.here p ≡ cells x (one_before y)
+    → bit_at w.before.after p ≡ cells (one_after x) (one_before y) → bit_at w.here.before p ≡ cells (one_before x) y → bit_at w.here.here p ≡ cells x y
+    → bit_at w.here.after p ≡ cells (one_after x) y → bit_at w.after.before p ≡ cells (one_before x) (one_after y)
+    → bit_at w.after.here p ≡ cells x (one_after y) → bit_at w.after.after p ≡ cells (one_after x) (one_after y)
+    → next_by_count rule.sets (bit_at w.here.here p) (count_of 1 (counted_in rule.near w p)) ≡ next_life rule cells x y
+next-of_bits rule cells x y w p nw n ne west c e sw s se = by rule.near
+  where
     by : (near : Near)
-        → next_by_count rule.sets (bit_at w.here (place + 1)) (count_of 1 (counted_in near w place))
-        ≡ next_life (record { sets = rule.sets; near = near }) cells column row
-    by Moore =
-        let lt = bit_at-lt in
-        ap (next_by_count rule.sets (bit_at w.here (place + 1)))
-        (eight-mirrored _ _ _ _ _ _ _ _ (lt w.north (place + 1)) (lt w.north (place + 2)) (lt w.here (place + 2)) (lt w.south (place + 2))
-        (lt w.south (place + 1)) (lt w.south place) (lt w.here place) (lt w.north place))
-        ∙ (λ j. next_by_count rule.sets (c j) (count_of 1 (n j ∷ ne j ∷ e j ∷ se j ∷ s j ∷ sw j ∷ west j ∷ nw j ∷ [])))
-    by VonNeumann =
-        let lt = bit_at-lt in
-        ap (next_by_count rule.sets (bit_at w.here (place + 1)))
-        (four-mirrored _ _ _ _ (lt w.north (place + 1)) (lt w.here (place + 2)) (lt w.south (place + 1)) (lt w.here place))
-        ∙ (λ j. next_by_count rule.sets (c j) (count_of 1 (n j ∷ e j ∷ s j ∷ west j ∷ [])))
+        → next_by_count rule.sets (bit_at w.here.here p) (count_of 1 (counted_in near w p)) ≡ next_life (record { sets = rule.sets; near = near }) cells x y
+    by Moore = (λ j. next_by_count rule.sets (c j) (count_of 1 (n j ∷ ne j ∷ e j ∷ se j ∷ s j ∷ sw j ∷ west j ∷ nw j ∷ [])))
+    by VonNeumann = (λ j. next_by_count rule.sets (c j) (count_of 1 (n j ∷ e j ∷ s j ∷ west j ∷ [])))
+
+-- the places between the first and the last of each row of three words, amid those beside them
+abbrev pub band_words : ℕ → ℕ → ℕ → NineWords
+band_words north here south =
+    record {
+      before = record { before = north / 2 ^ 2; here = north / 2 ^ 1; after = north };
+      here = record { before = here / 2 ^ 2; here = here / 2 ^ 1; after = here };
+      after = record { before = south / 2 ^ 2; here = south / 2 ^ 1; after = south };
+    }
+
+module _ (rule : OuterTotalistic) (cells : ℤ → ℤ → ℕ) (x y : ℤ) (north here south : ℕ) (hn : HasBand cells x (one_before y) north) (hh : HasBand cells x y here)
+    (hs : HasBand cells x (one_after y) south) where
+  abbrev words : NineWords
+  words = band_words north here south
+
+  -- the state behind a place among four rows
+  next-of_place : (r i : ℕ) → r < 4 → i < 14 → let place = 61 - (16 * r + i) in
+      next_by_count rule.sets (bit_at (here / 2 ^ 1) place) (count_of 1 (counted_in rule.near words place))
+      ≡ next_life rule cells (x +ℤ pos (i + 1)) (y +ℤ pos r)
+  next-of_place r i lr li =
+      let place = 61 - (16 * r + i) in
+      let column = x +ℤ pos (i + 1) in
+      let row = y +ℤ pos r in
+      let up : one_before y +ℤ pos r ≡ one_before row = omega (arith, ints) in
+      let down : one_after y +ℤ pos r ≡ one_after row = omega (arith, ints) in
+      let west : x +ℤ pos i ≡ one_before column = omega (arith, ints) in
+      let east : x +ℤ pos (i + 2) ≡ one_after column = omega (arith, ints) in
+      let a : place + 2 ≡ 63 - (16 * r + i) = omega (arith, lr, li) in
+      let b : place + 1 ≡ 63 - (16 * r + (i + 1)) = omega (arith, lr, li) in
+      let c : place ≡ 63 - (16 * r + (i + 2)) = omega (arith, lr, li) in
+      let first : i < 16 = omega (arith, li) in
+      let second : i + 1 < 16 = omega (arith, li) in
+      let third : i + 2 < 16 = omega (arith, li) in
+      next-of_bits rule cells column row words place
+      (bit-shr north 2 place ∙ ap (bit_at north) a ∙ hn r i lr first ∙ (λ j. cells (west j) (up j)))
+      (bit-shr north 1 place ∙ ap (bit_at north) b ∙ hn r (i + 1) lr second ∙ ap (cells column) up)
+      (ap (bit_at north) c ∙ hn r (i + 2) lr third ∙ (λ j. cells (east j) (up j)))
+      (bit-shr here 2 place ∙ ap (bit_at here) a ∙ hh r i lr first ∙ ap (λ z. cells z row) west)
+      (bit-shr here 1 place ∙ ap (bit_at here) b ∙ hh r (i + 1) lr second)
+      (ap (bit_at here) c ∙ hh r (i + 2) lr third ∙ ap (λ z. cells z row) east)
+      (bit-shr south 2 place ∙ ap (bit_at south) a ∙ hs r i lr first ∙ (λ j. cells (west j) (down j)))
+      (bit-shr south 1 place ∙ ap (bit_at south) b ∙ hs r (i + 1) lr second ∙ ap (cells column) down)
+      (ap (bit_at south) c ∙ hs r (i + 2) lr third ∙ (λ j. cells (east j) (down j)))
 
   -- the squares of a word of next states
   module _ (word squares : ℕ)
-      (next : (i : ℕ) → i < 62 → bit_at word i ≡ next_by_count rule.sets (bit_at w.here (i + 1)) (count_of 1 (counted_in rule.near w i)))
+      (next : (i : ℕ) → i < 64 → bit_at word i ≡ next_by_count rule.sets (bit_at (here / 2 ^ 1) i) (count_of 1 (counted_in rule.near words i)))
       (order : (r q i : ℕ) → r < 4 → q < 4 → i < 4 → bit_at squares (63 - (16 * q + place_in r i)) ≡ bit_at (word * 2 ^ 1 % 2 ^ 64) (63 - (16 * r + 4 * q + i)))
     where
       pub next-square : (q k : ℕ) → 1 ≤ q → q ≤ 2 → k + 16 * q ≡ 48 → HasSquareBits (next_life rule cells) (step_ahead x (4 * q)) y (squares / 2 ^ k % 2 ^ 16)
@@ -190,5 +168,5 @@ module _ (rule : OuterTotalistic) (cells : ℤ → ℤ → ℕ) (x y : ℤ) (w :
           bit-mod (squares / 2 ^ k) 16 (15 - p) (omega arith) ∙ bit-shr squares k (15 - p) ∙ ap (bit_at squares) at ∙ order r q i lr (omega (arith, uq)) li
           ∙ bit-mod (word * 2 ^ 1) 64 (63 - (16 * r + 4 * q + i)) (omega arith)
           ∙ shl-high word 1 (63 - (16 * r + 4 * q + i)) (omega (arith, uq, lr, li)) ∙ ap (bit_at word) below
-          ∙ next (61 - (16 * r + (4 * q + i - 1))) (omega arith) ∙ by r (4 * q + i - 1) lr (omega (arith, lq, uq, li)) rule.near
+          ∙ next (61 - (16 * r + (4 * q + i - 1))) (omega arith) ∙ next-of_place r (4 * q + i - 1) lr (omega (arith, lq, uq, li))
           ∙ ap (λ z. next_life rule cells z (y +ℤ pos r)) column

@@ -4,7 +4,7 @@ use Rattle.std.proofs.lemmas.Nat.Bits.{bit_at-lt}
 use Rattle.life_base.specs.declared.rule.Near.{Near}
 use Rattle.life_base.specs.declared.rule.Near.TheVariants.{Moore, VonNeumann}
 use Rattle.life_table.specs.Meaning.{count_of}
-use Rattle.life_block.specs.Bits.{RowWords, counted_in}
+use Rattle.life_block.specs.Bits.{NineWords, counted_in}
 use Rattle.life_sweep.proofs.LawLemmas.{counts_itself, eight}
 
 pub four : (a b c d : ℕ) → a < 2 → b < 2 → c < 2 → d < 2 → a + b + c + d ≡ count_of 1 (a ∷ b ∷ c ∷ d ∷ [])
@@ -27,9 +27,9 @@ few-four a b c d n la lb lc ld is =
     omega (arith, is, sum, la, lb, lc, ld)
 
 -- eight neighbours at most
-pub few-counted : (near : Near) (w : RowWords) (i n : ℕ) → n ≡ count_of 1 (counted_in near w i) → n ≤ 8
+pub few-counted : (near : Near) (w : NineWords) (i n : ℕ) → n ≡ count_of 1 (counted_in near w i) → n ≤ 8
 few-counted Moore w i n is =
-    few-eight _ _ _ _ _ _ _ _ n (bit_at-lt w.north (i + 1)) (bit_at-lt w.north (i + 2)) (bit_at-lt w.here (i + 2)) (bit_at-lt w.south (i + 2))
-    (bit_at-lt w.south (i + 1)) (bit_at-lt w.south i)
-    (bit_at-lt w.here i) (bit_at-lt w.north i) is
-few-counted VonNeumann w i n is = few-four _ _ _ _ n (bit_at-lt w.north (i + 1)) (bit_at-lt w.here (i + 2)) (bit_at-lt w.south (i + 1)) (bit_at-lt w.here i) is
+    few-eight _ _ _ _ _ _ _ _ n (bit_at-lt w.before.here i) (bit_at-lt w.before.after i) (bit_at-lt w.here.after i) (bit_at-lt w.after.after i)
+    (bit_at-lt w.after.here i) (bit_at-lt w.after.before i) (bit_at-lt w.here.before i) (bit_at-lt w.before.before i) is
+few-counted VonNeumann w i n is =
+    few-four _ _ _ _ n (bit_at-lt w.before.here i) (bit_at-lt w.here.after i) (bit_at-lt w.after.here i) (bit_at-lt w.here.before i) is

@@ -3,7 +3,9 @@ pub mod CountLemmas
 pub mod GenerationLemmas
 pub mod LawPieceLemmas
 pub mod LawPlaneLemmas
+pub mod LeafWordLemmas
 pub mod LeastLemmas
+pub mod MadeLemmas
 pub mod NeedLemmas
 pub mod PieceLemmas
 pub mod PlaceLemmas

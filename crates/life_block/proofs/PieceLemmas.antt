@@ -41,6 +41,17 @@ IsPiece-joined cells x y a b c d t k level is pa pb pc pd =
       IsPiece-moved cells _ _ _ _ d ex ey pd,
     )
 
+-- and one is four
+pub pieces-of : (cells : ℤ → ℤ → ℕ) (x y : ℤ) (k : ℕ) {t a b c d : Tree} → depth a ≡ k → t ≡ quad a b c d → IsPiece cells x y t
+    → IsPiece cells x y a × IsPiece cells (step_ahead x (2 ^ k)) y b × IsPiece cells x (step_ahead y (2 ^ k)) c
+    × IsPiece cells (step_ahead x (2 ^ k)) (step_ahead y (2 ^ k)) d
+pieces-of cells x y k {a = a} {b = b} {c = c} {d = d} level is h =
+    let p = subst (IsPiece cells x y) is h in
+    let side : 2 ^ depth a ≡ 2 ^ k = ap (λ n. 2 ^ n) level in
+    let ex : step_ahead x (2 ^ depth a) ≡ step_ahead x (2 ^ k) = ap (step_ahead x) side in
+    let ey : step_ahead y (2 ^ depth a) ≡ step_ahead y (2 ^ k) = ap (step_ahead y) side in
+    (p.0, IsPiece-moved cells _ _ y y b ex refl p.1, IsPiece-moved cells x x _ _ c refl ey p.2, IsPiece-moved cells _ _ _ _ d ex ey p.3)
+
 -- ---- squares side by side
 
 back-ahead : (side : ℕ) (y : ℤ) → y ≡ step_back (step_ahead y side) side
@@ -56,6 +67,19 @@ module _ {T : Type 0} {P : ℤ → T → Type 0} {side : ℕ} {place : ℤ} {fou
       subst (AreThreeAt P side (step_ahead place side)) (sym e)
       (record { before = subst (λ u. P u four.second) (back-ahead side place) h.second; here = h.third; after = h.fourth })
 
+-- the three western values of each of three rows, and the three eastern ones
+module _ {T : Type 0} (P : ℤ → ℤ → T → Type 0) {side : ℕ} {x y : ℤ} {rows : Three (Four T)} {n : Three (Three T)} where
+  pub western-rows : n ≡ western rows → AreThreeAt (λ row. AreFourAt (P row) side x) side y rows → AreThreeAt (λ row. AreThreeAt (P row) side x) side y n
+  western-rows e h =
+      subst (AreThreeAt (λ row. AreThreeAt (P row) side x) side y) (sym e)
+      (record { before = first-of_four refl h.before; here = first-of_four refl h.here; after = first-of_four refl h.after })
+
+  pub eastern-rows : n ≡ eastern rows → AreThreeAt (λ row. AreFourAt (P row) side x) side y rows
+      → AreThreeAt (λ row. AreThreeAt (P row) side (step_ahead x side)) side y n
+  eastern-rows e h =
+      subst (AreThreeAt (λ row. AreThreeAt (P row) side (step_ahead x side)) side y) (sym e)
+      (record { before = last-of_four refl h.before; here = last-of_four refl h.here; after = last-of_four refl h.after })
+
 module _ (content : Id → Tree) (cells : ℤ → ℤ → ℕ) {side : ℕ} where
   pub AreFour-moved : {x y w : ℤ} {four : Four Id} → y ≡ w → AreFour content cells side x y four → AreFour content cells side x w four
   AreFour-moved {x = x} {four = four} e = subst (λ u. AreFour content cells side x u four) e
@@ -63,15 +87,11 @@ module _ (content : Id → Tree) (cells : ℤ → ℤ → ℕ) {side : ℕ} wher
   -- the three western squares of each of three rows, and the three eastern ones
   pub western-nine : {x y : ℤ} {rows : Three (Four Id)} {n : Nine} → n ≡ western rows → AreThreeAt (AreFour content cells side x) side y rows
       → AreNine content cells side x y n
-  western-nine {x = x} {y = y} e h =
-      subst (AreNine content cells side x y) (sym e)
-      (record { before = first-of_four refl h.before; here = first-of_four refl h.here; after = first-of_four refl h.after })
+  western-nine = western-rows (λ row column id. IsPiece cells column row (content id))
 
   pub eastern-nine : {x y : ℤ} {rows : Three (Four Id)} {n : Nine} → n ≡ eastern rows → AreThreeAt (AreFour content cells side x) side y rows
       → AreNine content cells side (step_ahead x side) y n
-  eastern-nine {x = x} {y = y} e h =
-      subst (AreNine content cells side (step_ahead x side) y) (sym e)
-      (record { before = last-of_four refl h.before; here = last-of_four refl h.here; after = last-of_four refl h.after })
+  eastern-nine = eastern-rows (λ row column id. IsPiece cells column row (content id))
 
 -- what follows for each of four values follows for the four
 four-kept : {T : Type 0} {K : T → Type 0} {P Q : ℤ → T → Type 0} {side : ℕ} {place : ℤ} {four : Four T}

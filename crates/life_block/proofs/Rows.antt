@@ -1,7 +1,7 @@
 -- Worked examples, computed.
 use Rattle.std.proofs.Common.{◌≡◌, ℕ, ℤ, pos, negsuc, [], ◌∷◌, refl, ◌&&◌, int_le, if◌then◌else◌}
 use Rattle.life_base.specs.Tree.{point, quad}
-use Rattle.life_block.specs.Bits.{neighbours_in, sides_in, count_at}
+use Rattle.life_block.specs.Bits.{NineWords, neighbours_in, sides_in, count_at}
 use Rattle.life_block.specs.Pieces.{IsPiece, step_back, step_ahead}
 
 -- the cells of a diagonal
@@ -28,11 +28,19 @@ two_west = refl
 two_east : step_ahead (negsuc 0) 2 ≡ pos 1
 two_east = refl
 
--- three rows of three cells, whose north-eastern and western ones are alive
-around : neighbours_in (record { north = 4; here = 1; south = 0 }) 0 ≡ 0 ∷ 1 ∷ 0 ∷ 0 ∷ 0 ∷ 0 ∷ 1 ∷ 0 ∷ []
+-- words of one cell, of which the north-eastern and the western one are alive
+abbrev two_alive : NineWords
+two_alive =
+    record {
+      before = record { before = 0; here = 0; after = 1 };
+      here = record { before = 1; here = 0; after = 0 };
+      after = record { before = 0; here = 0; after = 0 };
+    }
+
+around : neighbours_in two_alive 0 ≡ 0 ∷ 1 ∷ 0 ∷ 0 ∷ 0 ∷ 0 ∷ 1 ∷ 0 ∷ []
 around = refl
 
-sides : sides_in (record { north = 4; here = 1; south = 0 }) 0 ≡ 0 ∷ 0 ∷ 0 ∷ 1 ∷ []
+sides : sides_in two_alive 0 ≡ 0 ∷ 0 ∷ 0 ∷ 1 ∷ []
 sides = refl
 
 -- 3 in the first column, 4 in the second

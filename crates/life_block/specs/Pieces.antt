@@ -49,11 +49,11 @@ first_three four = record { before = four.first; here = four.second; after = fou
 abbrev pub last_three : {T : Type 0} → Four T → Three T
 last_three four = record { before = four.second; here = four.third; after = four.fourth }
 
--- the three western and the three eastern squares of each of three rows
-abbrev pub western : Three (Four Id) → Nine
+-- the three western and the three eastern values of each of three rows
+abbrev pub western : {T : Type 0} → Three (Four T) → Three (Three T)
 western rows = record { before = first_three rows.before; here = first_three rows.here; after = first_three rows.after }
 
-abbrev pub eastern : Three (Four Id) → Nine
+abbrev pub eastern : {T : Type 0} → Three (Four T) → Three (Three T)
 eastern rows = record { before = last_three rows.before; here = last_three rows.here; after = last_three rows.after }
 
 -- four quarters in one corner of sixteen squares that are another square everywhere else

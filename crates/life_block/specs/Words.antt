@@ -2,7 +2,7 @@
 pub use Rattle.life_base.specs.Refusal.{fault_of, IsMemory}
 pub use Rattle.life_base.specs.Rules.{has_digit}
 pub use Rattle.life_base.specs.Tree.{depth, point, tree_cell}
-pub use Rattle.life_block.specs.Bits.{AreBands, count_at, counted_in, HasBand, neighbours_in, sides_in}
+pub use Rattle.life_block.specs.Bits.{AreBands, AreFourRows, AreNineRows, AreSixteenRows, AreThreeRows, count_at, counted_in, HasBand, HasRows, leaf_of_cells, neighbours_in, sides_in, square_of_leaves}
 pub use Rattle.life_block.specs.Laws.{IsNextAt, IsNextOfNine, IsPieceBy, RemembersBy}
 pub use Rattle.life_block.specs.Needed.{HasClearEdge, level_after, next_plane, next_square, SomeOfBands, SomeOfNext, SomeOfNine, SomeOfSixteen, square_from}
 pub use Rattle.life_block.specs.Pieces.{step_ahead, AreFour, AreNine, AreSixteen, AreThree, at_corner, step_back, eastern, four_of, first_three, in_middle, InFour, InNine}

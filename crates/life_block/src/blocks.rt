@@ -3,7 +3,7 @@ ghost use Rattle.std.specs.Prelude.{◌≡◌, ℕ, ℤ, ◌+◌, ◌^◌, ◌<�
 ghost use Rattle.life_block.specs.Words.{has_digit, depth, tree_cell, SomePart, SomeOfNine, SomeOfSixteen, next_life, IsNextLife, HasClearEdge, next_plane, next_square, RemembersBlocks, IsPiece, IsBinary, IsOfLevel, InNine, InSixteen, AreNine, AreSixteen, AddsOnly, KeepsStore, IsShortageIn};
 
 use crate::grid::{Corner, Nine, Sixteen, in_middle};
-use crate::leaf::{next_of_leaf, next_of_least};
+use crate::leaf::{next_of_leaf, next_of_least, next_of_leaves};
 use crate::remembered::{recalled, remember};
 use life_base::{Kind, LifeRule, MAX_LEVEL};
 use life_quad::{Id, NeighbourhoodMemory, SharedSquares, Squares, divide};
@@ -84,6 +84,9 @@ fn next_of_middle<S: Squares>(
 {
     if level == 2 {
         return next_of_leaf(squares, rule, sixteen);
+    }
+    if level == 3 {
+        return next_of_leaves(squares, rule, sixteen);
     }
     let nw = next_of(squares, memory, rule, level, &sixteen.front().western())?;
     let ne = next_of(squares, memory, rule, level, &sixteen.front().eastern())?;

@@ -2,11 +2,11 @@
 ghost use Rattle.std.specs.Prelude.{◌≡◌, ℕ, ◌+◌, ◌-◌, ◌*◌, ◌<◌, ◌≤◌, ◌^◌, ◌==◌, if◌then◌else◌};
 ghost use Rattle.life_block.specs.Words.{bit_at, count_of, next_by_count, count_at, neighbours_in, sides_in, counted_in};
 
+use crate::grid::Three;
 use life_base::{LifeRule, Near};
-use life_sweep::Column;
 
-/// A word of cells, and those of the rows one further north and south. Bits i and i + 2 are beside bit i + 1 in its row.
-pub(crate) type RowWords = Column<u64>;
+/// A word of cells amid those of their eight neighbours: bit i of each is the neighbour of bit i of the one in the middle.
+pub(crate) type NineWords = Three<Three<u64>>;
 
 /// A number of 0 to 15 for each place.
 #[derive(Clone, Copy)]
@@ -27,12 +27,12 @@ fn add(a: u64, b: u64, c: u64) -> (u64, u64)
 }
 
 // How many of the eight neighbours of each place are alive.
-fn live_neighbours(words: &RowWords) -> BitCounts
+fn live_neighbours(words: &NineWords) -> BitCounts
     ensures { (i : ℕ) → count_at result i ≡ count_of 1 (neighbours_in words.now i) }
 {
-    let (north, north_twos) = add(words.north, words.north >> 1, words.north >> 2);
-    let (here, here_twos) = add(words.here, words.here >> 2, 0);
-    let (south, south_twos) = add(words.south, words.south >> 1, words.south >> 2);
+    let (north, north_twos) = add(words.before.before, words.before.here, words.before.after);
+    let (here, here_twos) = add(words.here.before, words.here.after, 0);
+    let (south, south_twos) = add(words.after.before, words.after.here, words.after.after);
     let (ones, carried_twos) = add(north, here, south);
     let (all_twos, all_fours) = add(north_twos, here_twos, south_twos);
     let (twos, carried_fours) = add(carried_twos, all_twos, 0);
@@ -46,11 +46,11 @@ fn live_neighbours(words: &RowWords) -> BitCounts
 }
 
 // How many of the four neighbours of each place that share a side with it are alive.
-fn live_sides(words: &RowWords) -> BitCounts
+fn live_sides(words: &NineWords) -> BitCounts
     ensures { (i : ℕ) → count_at result i ≡ count_of 1 (sides_in words.now i) }
 {
-    let (three, three_twos) = add(words.north >> 1, words.here, words.here >> 2);
-    let (ones, carried_twos) = add(three, words.south >> 1, 0);
+    let (three, three_twos) = add(words.before.here, words.here.before, words.here.after);
+    let (ones, carried_twos) = add(three, words.after.here, 0);
     let (twos, fours) = add(three_twos, carried_twos, 0);
     BitCounts {
         ones,
@@ -61,7 +61,7 @@ fn live_sides(words: &RowWords) -> BitCounts
 }
 
 // How many of the neighbours of each place that count are alive.
-fn live_counted(near: Near, words: &RowWords) -> BitCounts
+fn live_counted(near: Near, words: &NineWords) -> BitCounts
     ensures { (i : ℕ) → count_at result i ≡ count_of 1 (counted_in near words.now i) }
 {
     match near {
@@ -107,14 +107,14 @@ impl BitCounts {
     }
 }
 
-/// The next states of the 62 places between the first column and the last, under a B/S rule: bit i is that of place i.
-pub(crate) fn next_word(words: &RowWords, rule: &LifeRule) -> u64
-    ensures { (i : ℕ) → i < 62 → bit_at result i
-        ≡ next_by_count rule.now.sets (bit_at words.now.here (i + 1))
+/// The next states of the cells of a word under a B/S rule.
+pub(crate) fn next_word(words: &NineWords, rule: &LifeRule) -> u64
+    ensures { (i : ℕ) → i < 64 → bit_at result i
+        ≡ next_by_count rule.now.sets (bit_at words.now.here.here i)
         (count_of 1 (counted_in rule.now.near words.now i)) }
 {
     let counts = live_counted(rule.near, words);
-    let alive = words.here >> 1;
+    let alive = words.here.here;
     let born = counts.columns_in(rule.births) & !alive;
     let stay = counts.columns_in(rule.survivals) & alive;
     born | stay

@@ -28,8 +28,8 @@ pub(crate) type Nine = Three<Three<Id>>;
 pub(crate) type Sixteen = Four<Four<Id>>;
 
 impl<T: Copy> Three<T> {
-    // These three, in order.
-    fn of(before: T, here: T, after: T) -> Three<T>
+    /// These three, in order.
+    pub(crate) fn of(before: T, here: T, after: T) -> Three<T>
         ensures { result ≡ record { before = before; here = here; after = after } }
     {
         Three {
@@ -123,8 +123,8 @@ impl Nine {
 }
 
 impl<T: Copy> Four<T> {
-    // These four, in order.
-    fn of(first: T, second: T, third: T, fourth: T) -> Four<T>
+    /// These four, in order.
+    pub(crate) fn of(first: T, second: T, third: T, fourth: T) -> Four<T>
         ensures { result ≡ four_of first second third fourth }
     {
         Four {
@@ -150,16 +150,16 @@ impl<T: Copy> Four<T> {
     }
 }
 
-impl Three<Four<Id>> {
-    /// The three western squares of each row.
-    pub(crate) fn western(&self) -> Nine
+impl<T: Copy> Three<Four<T>> {
+    /// The three western ones of each row.
+    pub(crate) fn western(&self) -> Three<Three<T>>
         ensures { result ≡ western self.now }
     {
         Three::of(self.before.front(), self.here.front(), self.after.front())
     }
 
     /// The three eastern ones.
-    pub(crate) fn eastern(&self) -> Nine
+    pub(crate) fn eastern(&self) -> Three<Three<T>>
         ensures { result ≡ eastern self.now }
     {
         Three::of(self.before.rear(), self.here.rear(), self.after.rear())

@@ -1,10 +1,12 @@
-//! The next states of four squares of level 2 amid twelve others, by words of their cells.
+//! The next states of four squares of level 2 or 3 amid twelve others, by words of their cells.
 ghost use Rattle.std.specs.Prelude.{◌≡◌, ℕ, ℤ, pos, neg_ℤ, ◌<◌, IfOk, IfErr, OnErr};
-ghost use Rattle.life_block.specs.Words.{point, tree_cell, SomePart, two, four, next_life, HasBand, AreBands, square_from, SomeOfBands, SomeOfSixteen, IsPiece, IsBinary, IsWhereBinary, IsOfLevel, InFour, InSixteen, AreFour, AreSixteen, step_back, AddsOnly, KeepsStore, IsShortageIn};
+ghost use Rattle.life_block.specs.Words.{point, tree_cell, SomePart, two, four, next_life, HasBand, AreBands, HasRows, AreFourRows, leaf_of_cells, square_of_leaves, square_from, SomeOfBands, SomeOfSixteen, IsPiece, IsBinary, IsWhereBinary, IsOfLevel, InFour, InSixteen, AreFour, AreSixteen, step_back, AddsOnly, KeepsStore, IsShortageIn};
 
 use crate::grid::{Four, Sixteen};
+use crate::leaf_words::next_leaves;
 use crate::words::{next_squares, rows_of_squares};
 use life_base::{Kind, LifeRule};
+use life_lanes::by_rows;
 use life_quad::{Id, Quarters, Squares, divide};
 
 // The state of a cell that is 0 or 1.
@@ -71,6 +73,101 @@ fn band<S: Squares>(squares: &S, four: &Four<Id>) -> u64
     rows_of_squares(((a * 65_536 + b) * 65_536 + c) * 65_536 + d)
 }
 
+// The square of four squares of level 2 with these cells.
+fn leaf_of_cells<S: Squares>(squares: &mut S, cells: &Four<u16>) -> Result<Id, Kind>
+    ensures at { IfOk result (IsOfLevel (S.knows squares.new) (S.content squares.new) 3) }
+    ensures square { IfOk result (λ r. S.content squares.new r ≡ leaf_of_cells cells.now) }
+    ensures keeps { KeepsStore S.Squares squares.old squares.new }
+    ensures refusals { IfErr result (IsShortageIn S.Squares squares.new) }
+    ensures needed { OnErr result (SomePart (S.needs_node squares.new) (leaf_of_cells cells.now)) }
+    ensures adds { AddsOnly S.stored (λ P. SomePart P (leaf_of_cells cells.now)) squares.old
+        squares.new }
+{
+    let nw = squares.small(cells.first)?;
+    let ne = squares.small(cells.second)?;
+    let sw = squares.small(cells.third)?;
+    let se = squares.small(cells.fourth)?;
+    squares.join(nw, ne, sw, se)
+}
+
+// The square of four squares of level 3, each of four squares of level 2 with these cells.
+fn square_of_leaves<S: Squares>(squares: &mut S, leaves: &Four<Four<u16>>) -> Result<Id, Kind>
+    ensures at { IfOk result (IsOfLevel (S.knows squares.new) (S.content squares.new) 4) }
+    ensures square { IfOk result (λ r. S.content squares.new r ≡ square_of_leaves leaves.now) }
+    ensures keeps { KeepsStore S.Squares squares.old squares.new }
+    ensures refusals { IfErr result (IsShortageIn S.Squares squares.new) }
+    ensures needed { OnErr result
+        (SomePart (S.needs_node squares.new) (square_of_leaves leaves.now)) }
+    ensures adds { AddsOnly S.stored (λ P. SomePart P (square_of_leaves leaves.now)) squares.old
+        squares.new }
+{
+    let nw = leaf_of_cells(squares, &leaves.first)?;
+    let ne = leaf_of_cells(squares, &leaves.second)?;
+    let sw = leaf_of_cells(squares, &leaves.third)?;
+    let se = leaf_of_cells(squares, &leaves.fourth)?;
+    squares.join(nw, ne, sw, se)
+}
+
+// The eight rows of cells of a square of level 3.
+fn rows_of<S: Squares>(squares: &S, id: Id) -> u64
+    requires { IsOfLevel (S.knows squares.now) (S.content squares.now) 3 id }
+    ensures { (cells : ℤ → ℤ → ℕ) (x y : ℤ) → IsBinary cells
+        → IsPiece cells x y (S.content squares.now id) → HasRows cells x y result }
+{
+    if id == squares.empty(3) {
+        return 0;
+    }
+    let Quarters { nw, ne, sw, se } = divide(squares, id);
+    let a = cells_in(squares, nw);
+    let b = cells_in(squares, ne);
+    let c = cells_in(squares, sw);
+    let d = cells_in(squares, se);
+    by_rows(((a * 65_536 + b) * 65_536 + c) * 65_536 + d)
+}
+
+// The same of four squares.
+fn rows_of_four<S: Squares>(squares: &S, four: &Four<Id>) -> Four<u64>
+    requires { InFour (IsOfLevel (S.knows squares.now) (S.content squares.now) 3) four.now }
+    ensures { (cells : ℤ → ℤ → ℕ) (x y : ℤ) → IsBinary cells
+        → AreFour (S.content squares.now) cells 8 x y four.now
+        → AreFourRows cells x y result }
+{
+    Four::of(
+        rows_of(squares, four.first),
+        rows_of(squares, four.second),
+        rows_of(squares, four.third),
+        rows_of(squares, four.fourth),
+    )
+}
+
+/// The next states of the four squares of level 3 amid twelve others, as one square.
+pub(crate) fn next_of_leaves<S: Squares>(
+    squares: &mut S,
+    rule: &LifeRule,
+    sixteen: &Sixteen,
+) -> Result<Id, Kind>
+    requires { InSixteen (IsOfLevel (S.knows squares.old) (S.content squares.old) 3) sixteen.now }
+    ensures at { IfOk result (IsOfLevel (S.knows squares.new) (S.content squares.new) 4) }
+    ensures next { IfOk result (λ r. (cells : ℤ → ℤ → ℕ) (x y : ℤ) → IsBinary cells
+        → AreSixteen (S.content squares.old) cells 8 x y sixteen.now
+        → IsPiece (next_life rule.now cells) x y (S.content squares.new r)) }
+    ensures keeps { KeepsStore S.Squares squares.old squares.new }
+    ensures refusals { IfErr result (IsShortageIn S.Squares squares.new) }
+    ensures needed { OnErr result (SomeOfSixteen (S.needs_node squares.new) rule.now
+        (S.content squares.old) 3 sixteen.now) }
+    ensures adds { AddsOnly S.stored
+        (λ P. SomeOfSixteen P rule.now (S.content squares.old) 3 sixteen.now) squares.old
+        squares.new }
+{
+    let rows = Four::of(
+        rows_of_four(squares, &sixteen.first),
+        rows_of_four(squares, &sixteen.second),
+        rows_of_four(squares, &sixteen.third),
+        rows_of_four(squares, &sixteen.fourth),
+    );
+    square_of_leaves(squares, &next_leaves(&rows, rule))
+}
+
 // The next states of the 64 cells in the middle of sixteen rows of sixteen cells, as one square.
 fn next_of_bands<S: Squares>(
     squares: &mut S,
@@ -88,11 +185,7 @@ fn next_of_bands<S: Squares>(
 {
     let north = next_squares(bands.first, bands.second, bands.third, rule);
     let south = next_squares(bands.second, bands.third, bands.fourth, rule);
-    let nw = squares.small(north.0)?;
-    let ne = squares.small(north.1)?;
-    let sw = squares.small(south.0)?;
-    let se = squares.small(south.1)?;
-    squares.join(nw, ne, sw, se)
+    leaf_of_cells(squares, &Four::of(north.0, north.1, south.0, south.1))
 }
 
 /// The next states of the four squares of level 2 amid twelve others, as one square.

@@ -2,8 +2,9 @@
 //! next states, each amid the quarters around it.
 //!
 //! A `Nine` is a square amid its neighbours, a `Sixteen` four rows of four squares, whose middle four have all their neighbours. Where nine
-//! squares are blank, the next states of the one in their middle are blank too. Where the sixteen have level 2, `leaf` makes four words
-//! of their 256 cells, `words` puts them in rows, and `counts` computes the next states of 64 places at once.
+//! squares are blank, the next states of the one in their middle are blank too. Where the sixteen have level 3, `leaf` reads the eight rows of
+//! each as a word, `leaf_words` makes words of their neighbours, and `counts` computes the next states of 64 cells at once. Where they have
+//! level 2, they are four words of 256 cells in all, which `words` puts in rows.
 #![tactic(auto)]
 
 mod blocks;
@@ -13,6 +14,7 @@ mod grid;
 mod law_generation;
 mod law_squares;
 mod leaf;
+mod leaf_words;
 mod remembered;
 mod words;
 

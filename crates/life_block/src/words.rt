@@ -1,12 +1,12 @@
 //! Words of four rows of sixteen cells, and their next states. The highest bit is the north-western cell, then come the cells east of it, and
 //! then the rows south of it.
-ghost use Rattle.std.specs.Prelude.{◌≡◌, ℕ, ℤ, ◌+◌, ◌-◌, ◌*◌, ◌<◌};
+ghost use Rattle.std.specs.Prelude.{◌≡◌, ℕ, ℤ, ◌+◌, ◌-◌, ◌*◌, ◌/◌, ◌^◌, ◌<◌};
 ghost use Rattle.life_block.specs.Words.{bit_at, four, one_before, one_after, next_life, place_in, HasBand, square_from, step_back, step_ahead};
 
 use crate::counts::next_word;
+use crate::grid::Three;
 use life_base::LifeRule;
 use life_lanes::exchange;
-use life_sweep::Column;
 
 /// The rows of four squares of level 2 side by side, from their cells as `Squares::small_cells` takes them, the western square the highest.
 pub(crate) fn rows_of_squares(squares: u64) -> u64
@@ -45,6 +45,13 @@ fn one_south(here: u64, below: u64) -> u64
     here % 0x1_0000_0000_0000 * 0x1_0000 + below / 0x1_0000_0000_0000
 }
 
+// The places of a row between the first and the last, one place lower, amid those beside them.
+fn places_around(row: u64) -> Three<u64>
+    ensures { result ≡ record { before = row / 2 ^ 2; here = row / 2 ^ 1; after = row } }
+{
+    Three::of(row >> 2, row >> 1, row)
+}
+
 /// The cells of the two squares of level 2 in the middle of four rows of next states, from the rows and the four above and below.
 pub(crate) fn next_squares(above: u64, here: u64, below: u64, rule: &LifeRule) -> (u16, u16)
     ensures west { (cells : ℤ → ℤ → ℕ) (x y : ℤ)
@@ -58,11 +65,11 @@ pub(crate) fn next_squares(above: u64, here: u64, below: u64, rule: &LifeRule) -
         below
         → four result.1 ≡ square_from (next_life rule.now cells) 2 (step_ahead x 4) y }
 {
-    let words = Column {
-        north: one_north(above, here),
-        here,
-        south: one_south(here, below),
-    };
+    let words = Three::of(
+        places_around(one_north(above, here)),
+        places_around(here),
+        places_around(one_south(here, below)),
+    );
     // The next states are one place lower than their cells.
     let next = squares_of_rows(next_word(&words, rule) << 1);
     (

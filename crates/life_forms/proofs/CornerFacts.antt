@@ -1,5 +1,5 @@
 -- The corner of an image's moved form, and the leaf that stands there.
-use Rattle.std.proofs.Common.{◌≡◌, ◌≢◌, ◌⊎◌, inl, inr, ℕ, ◌^◌, ◌<◌, ◌≤◌, Bool, true, false, List, refl, sym, ap, ◌∙◌, subst, true≢false, ◌-◌, ℤ, pos, neg_ℤ, ◌+ℤ◌, ◌≤ℤ◌, ◌<ℤ◌, arith, pow_mono, lit≤}
+use Rattle.std.proofs.Common.{◌≡◌, ◌≢◌, ◌⊎◌, inl, inr, ℕ, ◌+◌, ◌^◌, ◌<◌, ◌≤◌, Bool, true, false, List, refl, sym, ap, ◌∙◌, subst, true≢false, ◌-◌, ℤ, pos, neg_ℤ, ◌+ℤ◌, ◌≤ℤ◌, ◌<ℤ◌, arith, pow_mono, lit≤}
 use Rattle.std.proofs.lemmas.Int.{ints}
 use Rattle.life_base.specs.Tree.{Tree, depth, half_side, is_blank_tree, IsFull}
 use Rattle.life_base.specs.declared.bounds.Bounds.{Bounds}
@@ -30,7 +30,7 @@ use Rattle.life_forms.specs.Images.{IsCornerLeaf, IsImageText, IsLowerBound, IsM
 use Rattle.life_forms.specs.Needed.{HasLargerForm}
 use Rattle.life_forms.specs.Turns.{Turn, counted_coordinate, image, opposite_coordinate, turn_of}
 use Rattle.life_forms.proofs.AreaFacts.{most_parts, no-larger}
-use Rattle.life_forms.proofs.LeafFacts.{IsAtCorner, full-root, leaf-alone, level-of, lower, root-begins, up-to-first}
+use Rattle.life_forms.proofs.LeafFacts.{IsAtCorner, full-root, leaf-alone, level-of, lower, root-begins, root-states, up-to-first}
 use Rattle.life_forms.proofs.ImageFacts.{begin, turned-square}
 use Rattle.life_forms.proofs.MovedFacts.{square-same}
 use Rattle.life_forms.proofs.PlaneFacts.{high-end}
@@ -40,15 +40,15 @@ use Rattle.life_forms.proofs.TurnFacts.{backwards-is, backwards-twice, image-out
 
 -- ---- the box of an image
 
-abbrev low_side : Bool → ℤ → ℤ → ℤ
+abbrev pub low_side : Bool → ℤ → ℤ → ℤ
 low_side false low high = low
 low_side true low high = opposite_coordinate high
 
-abbrev high_side : Bool → ℤ → ℤ → ℤ
+abbrev pub high_side : Bool → ℤ → ℤ → ℤ
 high_side false low high = high
 high_side true low high = opposite_coordinate low
 
-abbrev counted_box : Bool → Bool → Bounds → Bounds
+abbrev pub counted_box : Bool → Bool → Bounds → Bounds
 counted_box c r box = record {
   left = low_side c box.left box.right;
   top = low_side r box.top box.bottom;
@@ -92,28 +92,29 @@ abbrev image_box : Bool → Bool → Bool → Bounds → Bounds
 image_box false c r box = counted_box c r box
 image_box true c r box = transposed_box (counted_box c r box)
 
-image-box : (e c r : Bool) (cell : ℤ → ℤ → ℕ) (box : Bounds) → IsBoundingBox cell box → IsBoundingBox (image_cells (turn_of e c r) cell) (image_box e c r box)
+pub image-box : (e c r : Bool) (cell : ℤ → ℤ → ℕ) (box : Bounds) → IsBoundingBox cell box → IsBoundingBox (image_cells (turn_of e c r) cell)
+    (image_box e c r box)
 image-box false c r cell box least = counted-is c r cell box least
 image-box true c r cell box least =
     box-transposed (image_cells (turn_of true c r) cell) (counted_box c r box) (counted-is c r cell box least)
 
-side-counted : (c : Bool) (low high : ℤ) (n : ℕ) → high <ℤ (low +ℤ pos n) → high_side c low high <ℤ (low_side c low high +ℤ pos n)
+pub side-counted : (c : Bool) (low high : ℤ) (n : ℕ) → high <ℤ (low +ℤ pos n) → high_side c low high <ℤ (low_side c low high +ℤ pos n)
 side-counted false low high n h = h
 side-counted true low high n h = let a = backwards-is low in let b = backwards-is high in omega (arith, ints, a, b, h)
 
-far-counted : (c : Bool) (low high : ℤ) → (low +ℤ pos 4) ≤ℤ high → (low_side c low high +ℤ pos 4) ≤ℤ high_side c low high
-far-counted false low high h = h
-far-counted true low high h = let a = backwards-is low in let b = backwards-is high in omega (arith, ints, a, b, h)
+pub side-long : (c : Bool) (low high : ℤ) (n : ℕ) → (low +ℤ pos n) ≤ℤ high → (low_side c low high +ℤ pos n) ≤ℤ high_side c low high
+side-long false low high n h = h
+side-long true low high n h = let a = backwards-is low in let b = backwards-is high in omega (arith, ints, a, b, h)
 
 far-both : (c r : Bool) (box : Bounds) → ((box.left +ℤ pos 4) ≤ℤ box.right) ⊎ ((box.top +ℤ pos 4) ≤ℤ box.bottom)
     → (((counted_box c r box).left +ℤ pos 4) ≤ℤ (counted_box c r box).right) ⊎ (((counted_box c r box).top +ℤ pos 4) ≤ℤ (counted_box c r box).bottom)
-far-both c r box (inl h) = inl (far-counted c box.left box.right h)
-far-both c r box (inr h) = inr (far-counted r box.top box.bottom h)
+far-both c r box (inl h) = inl (side-long c box.left box.right 4 h)
+far-both c r box (inr h) = inr (side-long r box.top box.bottom 4 h)
 
 counted-middling : (c r : Bool) (box : Bounds) → IsMiddling box → IsMiddling (counted_box c r box)
 counted-middling c r box m = record {
-  wide = side-counted c box.left box.right (2 ^ 10) m.wide;
-  tall = side-counted r box.top box.bottom (2 ^ 10) m.tall;
+  wide = side-counted c box.left box.right (2 ^ 12) m.wide;
+  tall = side-counted r box.top box.bottom (2 ^ 12) m.tall;
   far = far-both c r box m.far;
 }
 
@@ -129,11 +130,11 @@ image-middling true c r box m =
 
 -- ---- its moved form
 
-side-at : (low high a : ℤ) → high <ℤ (low +ℤ pos (2 ^ 10)) → IsInPlace MAX_LEVEL (low +ℤ a) (high +ℤ a) → low +ℤ a ≡ pos 0
+side-at : (low high a : ℤ) → high <ℤ (low +ℤ pos (2 ^ 12)) → IsInPlace MAX_LEVEL (low +ℤ a) (high +ℤ a) → low +ℤ a ≡ pos 0
 side-at low high a short (at_zero e f) = e
 side-at low high a short (at_edge first end) =
     let h = high-end in
-    let side : 2 ^ 10 ≤ 2 ^ 61 = pow_mono {i = 10} {j = 61} (lit≤ tt) in
+    let side : 2 ^ 12 ≤ 2 ^ 61 = pow_mono {i = 12} {j = 61} (lit≤ tt) in
     absurd (omega (arith, ints, h, side, first, end, short))
 
 module _ (w v : Universe) (moved : IsMoved MAX_LEVEL w v) (box : Bounds) (least : IsBoundingBox w.cell box) (middling : IsMiddling box) where
@@ -158,7 +159,7 @@ module _ (w v : Universe) (moved : IsMoved MAX_LEVEL w v) (box : Bounds) (least 
       let ey : (y +ℤ neg_ℤ box.top) +ℤ box.top ≡ y = omega (arith, ints) in
       some (sym (λ i. w.cell (ex i) (ey i)) ∙ sym (form-cells _ _) ∙ e)
 
-  form-inside : (x y : ℤ) → v.cell x y ≢ 0 → (pos 0 ≤ℤ x) × (x <ℤ pos (2 ^ 10)) × (pos 0 ≤ℤ y) × (y <ℤ pos (2 ^ 10))
+  form-inside : (x y : ℤ) → v.cell x y ≢ 0 → (pos 0 ≤ℤ x) × (x <ℤ pos (2 ^ 12)) × (pos 0 ≤ℤ y) × (y <ℤ pos (2 ^ 12))
   form-inside x y some =
       let i = least.inside _ _ (λ e. some (form-cells x y ∙ e)) in
       let a = i.0 in
@@ -216,6 +217,7 @@ leaf-turned true c r cell box =
     ∙ turned-square (turn_of true c r) cell 3 (low_side r box.top box.bottom) (low_side c box.left box.right)
 
 module _ (centre : SquaresAreCentred) (u : Universe) (life : is_life u.rule ≡ true) (low : least_level u.rule ≡ 3) (states : (x y : ℤ) → u.cell x y < 256)
+    (binary : (x y : ℤ) → u.cell x y ≤ 1)
     (outside : IsBlankOutside MAX_LEVEL u.cell) (box : Bounds) (least : IsBoundingBox u.cell box) (middling : IsMiddling box) where
   module _ (e c r : Bool) where
     abbrev turn : Turn
@@ -233,12 +235,20 @@ module _ (centre : SquaresAreCentred) (u : Universe) (life : is_life u.rule ≡ 
         ap (λ (rule : Rule). trimmed_square (centred_square v.cell MAX_LEVEL) (least_level rule)) (sym moved.shift.rule)
         ∙ ap (trimmed_square (centred_square v.cell MAX_LEVEL)) low
 
-    -- no form of the image has more squares than a square of level 11
-    pub image-small : (most : ℕ) → most_parts 11 ≤ most → ¬ HasLargerForm most (image turn u)
+    form-binary : (v : Universe) → IsMoved MAX_LEVEL (image turn u) v → (x y : ℤ) → v.cell x y ≤ 1
+    form-binary v moved x y =
+        let there = image-middling e c r box middling in
+        subst (λ (n : ℕ). n ≤ 1) (sym (form-cells (image turn u) v moved (image_box e c r box) (image-box e c r u.cell box least) there x y)) (binary _ _)
+
+    -- no form of the image has more squares than a square of level 13 of two states
+    pub image-small : (most : ℕ) → 65552 + most_parts 11 ≤ most → ¬ HasLargerForm most (image turn u)
     image-small most enough =
         no-larger 11 most (image turn u) (image-outside MAX_LEVEL (lit≤ tt) turn u.cell outside)
-        (λ v moved. let at = corner-of v moved in let is = sym (whole-is v moved) in
-        (subst IsFull is (full-root v.cell at), subst (λ (t : Tree). depth t ≤ 11) is (lower v.cell at))) enough
+        (λ v moved. let at = corner-of v moved in let is = sym (whole-is v moved) in (
+          subst IsFull is (full-root v.cell at),
+          subst (λ (t : Tree). depth t ≤ 13) is (lower v.cell at),
+          subst (HasStatesUpTo 1) is (root-states v.cell at centre 1 (form-binary v moved)),
+        )) enough
 
     -- the text of the leaf at its corner is no greater than its own
     pub up-to-image-text : (leaf : Tree) → leaf ≡ square u.cell 3 (leaf_start c box.left box.right) (leaf_start r box.top box.bottom)
@@ -262,7 +272,7 @@ module _ (centre : SquaresAreCentred) (u : Universe) (life : is_life u.rule ≡ 
         (root-begins v.cell (corner-of v moved) centre some)))
 
   -- so is the lesser of the texts of the leaf, turned by both turns
-  pub bound-of-leaf : (c r : Bool) (most : ℕ) → most_parts 11 ≤ most → (leaf : Tree) → IsCornerLeaf u box c r leaf → (text : List ℕ)
+  pub bound-of-leaf : (c r : Bool) (most : ℕ) → 65552 + most_parts 11 ≤ most → (leaf : Tree) → IsCornerLeaf u box c r leaf → (text : List ℕ)
       → IsUpTo text (square_text u.rule u.generation (turned_tree (turn_of false c r) leaf))
       → IsUpTo text (square_text u.rule u.generation (turned_tree (turn_of true c r) leaf)) → IsLowerBound MAX_LEVEL most u c r text
   bound-of-leaf c r most enough leaf is text first second = record {

@@ -8,6 +8,7 @@ use Rattle.life_base.specs.declared.cell.TheConstants.{MAX_LEVEL}
 use Rattle.life_base.specs.declared.rule.Rule.{Rule}
 use Rattle.life_base.proofs.Basics.{zero_unless}
 use Rattle.life_base.proofs.Squares.{depth-blank, full-blank, is_blank-blank}
+use Rattle.life_mc.specs.Squares.{HasStatesUpTo}
 use Rattle.life_mc.specs.Writing.{header_lines_text, node_text}
 use Rattle.life_mc.specs.declared.line.Line.TheVariants.{Leaf}
 use Rattle.life_quad.specs.Moves.{trimmed_square}
@@ -24,6 +25,7 @@ use Rattle.life_canon.specs.Universe.{IsBlankOutside, centred_square, corner, is
 use Rattle.life_canon.proofs.OrderFacts.{up-to-behind, up-to-longer}
 use Rattle.life_slide.proofs.MovedLemmas.{centre-cells}
 use Rattle.life_forms.proofs.MovedFacts.{cells-centred, depth-centred, full-centred, square-same}
+use Rattle.life_forms.proofs.PatternFacts.{square-up-to}
 use Rattle.life_forms.proofs.PlaneFacts.{high-end, low-end}
 
 -- ---- the walk over a square begins with its first leaf
@@ -203,10 +205,10 @@ module _ (rule : Rule) (life : is_life rule ≡ true) (low : least_level rule �
 
 -- ---- the root of a pattern in the corner (0, 0)
 
--- the cells lie in a square of 2^10 columns and rows at (0, 0), and one of them behind its first four columns or rows
+-- the cells lie in a square of 2^12 columns and rows at (0, 0), and one of them behind its first four columns or rows
 pub record IsAtCorner (cell : ℤ → ℤ → ℕ) : Type 0 where
   pub states : (x y : ℤ) → cell x y < 256
-  pub inside : (x y : ℤ) → cell x y ≢ 0 → (pos 0 ≤ℤ x) × (x <ℤ pos (2 ^ 10)) × (pos 0 ≤ℤ y) × (y <ℤ pos (2 ^ 10))
+  pub inside : (x y : ℤ) → cell x y ≢ 0 → (pos 0 ≤ℤ x) × (x <ℤ pos (2 ^ 12)) × (pos 0 ≤ℤ y) × (y <ℤ pos (2 ^ 12))
   pub column : ℤ
   pub row : ℤ
   pub some : cell column row ≢ 0
@@ -225,8 +227,8 @@ module _ (cell : ℤ → ℤ → ℕ) (at : IsAtCorner cell) where
   deep-plane : depth plane ≡ 62
   deep-plane = depth-centred cell at.states
 
-  plane-side : 2 ^ 10 ≤ 2 ^ 61
-  plane-side = pow_mono {i = 10} {j = 61} (lit≤ tt)
+  plane-side : 2 ^ 12 ≤ 2 ^ 61
+  plane-side = pow_mono {i = 12} {j = 61} (lit≤ tt)
 
   on-plane : IsBlankOutside MAX_LEVEL cell
   on-plane x y out = zero_unless _ (λ some.
@@ -267,16 +269,16 @@ module _ (cell : ℤ → ℤ → ℕ) (at : IsAtCorner cell) where
       by (inl l) = l
       by (inr l) = absurd (not-low l at.far)
 
-  pub lower : depth root ≤ 11
+  pub lower : depth root ≤ 13
   lower =
-      let c = neg_ℤ (pos (2 ^ 10)) in
-      let small = square_from cell 11 c c in
-      let deep : depth small ≡ 11 = depth-square cell 11 c c in
+      let c = neg_ℤ (pos (2 ^ 12)) in
+      let small = square_from cell 13 c c in
+      let deep : depth small ≡ 13 = depth-square cell 13 c c in
       let d = deep-plane in
       subst (λ (n : ℕ). depth root ≤ n) deep
-      (trimmed_is_lowest small plane 3 (full-square cell at.states 11 c c) whole-plane (lit≤ tt) (omega (arith, deep)) (omega (arith, d))
+      (trimmed_is_lowest small plane 3 (full-square cell at.states 13 c c) whole-plane (lit≤ tt) (omega (arith, deep)) (omega (arith, d))
       (λ x y.
-      centre-cells cell at.states 10
+      centre-cells cell at.states 12
       (λ u v apart. zero_unless _ (λ some.
       let i = at.inside u v some in
       let w = i.0 in
@@ -286,12 +288,21 @@ module _ (cell : ℤ → ℤ → ℕ) (at : IsAtCorner cell) where
       apart (record { west = omega (arith, ints, w); east = e; north = omega (arith, ints, n); south = s }))) x y
       ∙ sym (cells-centred cell at.states on-plane x y)))
 
+  -- it is the square of its cells about (0, 0)
+  root-is : SquaresAreCentred → centred_square cell (depth root) ≡ root
+  root-is centre =
+      let high = higher in
+      (λ i. centred_square (λ x y. sym (cells x y) i) (depth root)) ∙ (centre root full-root (omega (arith, high))).0
+
+  -- its states are those of its cells
+  pub root-states : SquaresAreCentred → (most : ℕ) → ((x y : ℤ) → cell x y ≤ most) → HasStatesUpTo most root
+  unfolding centred_square
+  root-states centre most states = subst (HasStatesUpTo most) (root-is centre) (square-up-to most cell states (depth root) _ _)
+
   -- it begins with the leaf at (0, 0)
   pub root-begins : SquaresAreCentred → is_blank_tree (square cell 3 (pos 0) (pos 0)) ≡ false → Begins (square cell 3 (pos 0) (pos 0)) root
   root-begins centre live =
       let high = higher in
       let level : suc (depth root - 1) ≡ depth root = omega (arith, high) in
-      let is : centred_square cell (depth root) ≡ root =
-      (λ i. centred_square (λ x y. sym (cells x y) i) (depth root)) ∙ (centre root full-root (omega (arith, high))).0 in
-      subst (Begins (square cell 3 (pos 0) (pos 0))) (ap (centred_square cell) level ∙ is)
+      subst (Begins (square cell 3 (pos 0) (pos 0))) (ap (centred_square cell) level ∙ root-is centre)
       (corner-begins cell (λ x y some. let i = at.inside x y some in (i.0, i.2)) live (depth root - 1) (omega (arith, high)))

@@ -7,6 +7,7 @@ mod Rows
 pub mod PlaneFacts
 pub mod ImageFacts
 pub mod PatternFacts
+pub mod MirrorFacts
 pub mod MovedFacts
 pub mod TextFacts
 pub mod TransposeFacts

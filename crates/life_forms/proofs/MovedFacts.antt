@@ -6,20 +6,15 @@ use Rattle.life_base.specs.Tree.{Tree, depth, blank, tree_cell, is_blank_tree, I
 use Rattle.life_base.specs.declared.bounds.Bounds.{Bounds}
 use Rattle.life_base.specs.declared.cell.TheConstants.{MAX_LEVEL}
 use Rattle.life_base.specs.declared.rule.Rule.{Rule}
-use Rattle.life_mc.specs.Macrocell.{largest_state}
 use Rattle.life_base.proofs.Squares.{depth-blank, full-blank, is_blank-blank, same_quads}
 use Rattle.life_base.proofs.Basics.{halves}
 use Rattle.life_quad.specs.Cells as square
 use Rattle.life_quad.specs.Moves.{trimmed_square}
 use Rattle.life_quad.specs.Refused.{SomePart}
-use Rattle.life_quad.specs.Store.{Nodes}
-use Rattle.life_quad.specs.declared.id.Id.{Id}
 use Rattle.life_quad.proofs.LawLemmas.{cells_lie_inside, trimmed_by_cells, trimming_stops}
 use Rattle.life_block.specs.Needed.{square_from}
 use Rattle.life_block.proofs.NeedLemmas.{depth-square}
 use Rattle.life_block.proofs.PlaneLemmas.{full-square}
-use Rattle.life_canon.specs.Laws.{SquaresAreCentred}
-use Rattle.life_canon.specs.Store.{IsKnown, IsTrimmed, content}
 use Rattle.life_canon.specs.Universe.{Universe, IsSame, IsBlankOutside, centred_square, corner, least_level, square_universe, whole}
 use Rattle.life_canon.specs.Universe as canon
 use Rattle.life_slide.specs.Pieces.{cells_from, plane_from, root_from}
@@ -27,7 +22,7 @@ use Rattle.life_slide.proofs.MovedLemmas.{cell-below, centre-cells, trim-reach}
 use Rattle.life_forms.specs.Cells.{IsWay}
 use Rattle.life_forms.specs.Forms.{IsInPlace, IsMoved, at_edge, at_zero}
 use Rattle.life_forms.specs.Needed.{IsMovedRoot, SomeOfMovedForm, SomeOfMovedRoot}
-use Rattle.life_forms.proofs.PatternFacts.{plane-moved, plane-trimmed, shift-up-to}
+use Rattle.life_forms.proofs.PatternFacts.{plane-moved, shift-up-to}
 use Rattle.life_forms.proofs.PlaneFacts.{blank-cell, box-of-square, form-outside, high-end, moved-same, outside-blank, way-moved, way-of-box}
 use Rattle.life_forms.proofs.ShiftFacts.{forms-of-shifts, same-refl, shifted, still}
 use Rattle.life_canon.proofs.Sameness.{same-is_one}
@@ -41,7 +36,7 @@ square-same f zero x y = refl
 square-same f (suc k) x y =
     same_quads (square-same f k x y) (square-same f k _ y) (square-same f k x _) (square-same f k _ _)
 
-centred-is : (f : ℤ → ℤ → ℕ) → square_from f 62 (neg_ℤ (pos (2 ^ 61))) (neg_ℤ (pos (2 ^ 61))) ≡ centred_square f MAX_LEVEL
+pub centred-is : (f : ℤ → ℤ → ℕ) → square_from f 62 (neg_ℤ (pos (2 ^ 61))) (neg_ℤ (pos (2 ^ 61))) ≡ centred_square f MAX_LEVEL
 unfolding centred_square corner
 centred-is f = square-same f 62 _ _
 
@@ -197,12 +192,14 @@ module _ (t : Tree) (box : Bounds) (least : square.IsBoundingBoxOfTree t box)
     plane-still : ((box.left +ℤ pos (2 ^ 61)) ≤ℤ box.right) ⊎ ((box.top +ℤ pos (2 ^ 61)) ≤ℤ box.bottom) → trimmed_square plane m ≡ plane
     plane-still (inl l) =
         let place = (way box (box-of-square t box least)).0 in
+        let far = far-end _ _ place (omega (arith, ints, l)) in
         trim-reach plane (full-centred placed.cell placed-states) m positive 61 (depth-centred placed.cell placed-states) _ _ (there _ _ least.at_right.1)
-        (inl (far-end _ _ place (omega (arith, ints, l))))
+        (λ i. let e = i.east in omega (arith, ints, far, e))
     plane-still (inr l) =
         let place = (way box (box-of-square t box least)).1 in
+        let far = far-end _ _ place (omega (arith, ints, l)) in
         trim-reach plane (full-centred placed.cell placed-states) m positive 61 (depth-centred placed.cell placed-states) _ _ (there _ _ least.at_bottom.1)
-        (inr (far-end _ _ place (omega (arith, ints, l))))
+        (λ i. let e = i.south in omega (arith, ints, far, e))
 
     pub plane-root : (root : Tree) → root ≡ plane_from t (neg_ℤ a) (neg_ℤ b) → IsMovedRoot v m root
     plane-root root is = record { form = placed; moved = placed-moved; square = is ∙ centred-is _ ∙ sym (plane-still long) }
@@ -212,8 +209,8 @@ module _ (t : Tree) (box : Bounds) (least : square.IsBoundingBoxOfTree t box)
 
 -- ---- the root is that of a pattern
 
-module _ (t : Tree) (full : IsFull t) (low : depth t ≤ MAX_LEVEL) (rule : Rule) (generation : ℕ) (store : Nodes) (root : Id)
-    (is : IsMovedRoot (square_universe rule generation t) (least_level rule) (content store root)) where
+module _ (t : Tree) (full : IsFull t) (low : depth t ≤ MAX_LEVEL) (rule : Rule) (generation : ℕ) (root : Tree)
+    (is : IsMovedRoot (square_universe rule generation t) (least_level rule) root) where
   abbrev w : Universe
   w = is.form
 
@@ -223,7 +220,7 @@ module _ (t : Tree) (full : IsFull t) (low : depth t ≤ MAX_LEVEL) (rule : Rule
   most : (n : ℕ) → n < 256 → n ≤ 255
   most n h = omega (arith, h)
 
-  states : (x y : ℤ) → w.cell x y < 256
+  pub states : (x y : ℤ) → w.cell x y < 256
   states x y = small _ (shift-up-to 255 (square_universe rule generation t) w is.moved.shift (λ u v. most _ (cell-below t full u v)) x y)
 
   plane-same : IsSame w (square_universe rule generation (centred_square w.cell MAX_LEVEL))
@@ -233,17 +230,10 @@ module _ (t : Tree) (full : IsFull t) (low : depth t ≤ MAX_LEVEL) (rule : Rule
     cells = λ x y. sym (cells-centred w.cell states (form-outside t rule generation w low is.moved) x y);
   }
 
-  pub root-moved : IsMoved MAX_LEVEL (square_universe rule generation t) (square_universe rule generation (content store root))
+  pub root-moved : IsMoved MAX_LEVEL (square_universe rule generation t) (square_universe rule generation root)
   root-moved =
-      plane-moved store rule generation root (centred_square w.cell MAX_LEVEL) (square_universe rule generation t) is.square (full-centred w.cell states)
+      plane-moved rule generation root (centred_square w.cell MAX_LEVEL) (square_universe rule generation t) is.square (full-centred w.cell states)
       (moved-same MAX_LEVEL _ w _ is.moved plane-same)
-
-  pub root-trimmed : SquaresAreCentred → IsKnown store root → ((x y : ℤ) → tree_cell t x y ≤ largest_state rule)
-      → IsTrimmed store (record { rule = rule; generation = generation; root = root })
-  root-trimmed centre known upto =
-      plane-trimmed centre store rule generation root (centred_square w.cell MAX_LEVEL) known is.square (full-centred w.cell states)
-      (depth-centred w.cell states)
-      (shift-up-to (largest_state rule) (square_universe rule generation t) _ (moved-same MAX_LEVEL _ w _ is.moved plane-same).shift upto)
 
 -- ---- one root
 

@@ -67,7 +67,7 @@ shift-up-to most u v s h x y =
 
 -- ---- trimmed
 
-least-low : (rule : Rule) → least_level rule ≤ MAX_LEVEL
+pub least-low : (rule : Rule) → least_level rule ≤ MAX_LEVEL
 least-low (Life life) = omega arith
 least-low (Named name) = omega arith
 
@@ -91,10 +91,9 @@ plane-trimmed centre store rule generation root t known is full level states =
     }
 
 -- it has the cells of the plane
-pub plane-moved : (store : Nodes) (rule : Rule) (generation : ℕ) (root : Id) (t : Tree) (u : Universe)
-    → content store root ≡ trimmed_square t (least_level rule) → IsFull t
-    → IsMoved MAX_LEVEL u (square_universe rule generation t) → IsMoved MAX_LEVEL u (square_universe rule generation (content store root))
-plane-moved store rule generation root t u is full moved =
+pub plane-moved : (rule : Rule) (generation : ℕ) (root t : Tree) (u : Universe) → root ≡ trimmed_square t (least_level rule) → IsFull t
+    → IsMoved MAX_LEVEL u (square_universe rule generation t) → IsMoved MAX_LEVEL u (square_universe rule generation root)
+plane-moved rule generation root t u is full moved =
     moved-same MAX_LEVEL u _ _ moved (record {
       rule = refl;
       generation = refl;

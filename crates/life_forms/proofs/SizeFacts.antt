@@ -1,9 +1,9 @@
 -- How many squares are needed, by those that a store holds.
 --
 -- A `Needs` says of a property that a square which is needed has it; so `Needs (λ u. u ≡ t)` says that t is needed.
-use Rattle.std.proofs.Common.{◌≡◌, ◌≢◌, inl, inr, ℕ, zero, suc, ◌<◌, ◌≤◌, false, true≢false, List, [], ◌∷◌, length, AllPairs, sym, ap, subst, ◌∙◌, arith, All, Contains}
-use Rattle.std.proofs.lemmas.List.{length-map}
-use Rattle.std.proofs.lemmas.List.Elements.{All-contains, All-contains_itself}
+use Rattle.std.proofs.Common.{◌≡◌, ◌≢◌, inl, inr, ℕ, zero, suc, ◌<◌, ◌≤◌, Bool, false, true≢false, List, [], ◌∷◌, length, map, get_or, AllPairs, refl, sym, ap, subst, ◌∙◌, arith, All, Contains}
+use Rattle.std.proofs.lemmas.List.{get_or-map, length-map}
+use Rattle.std.proofs.lemmas.List.Elements.{All-contains, All-contains_itself, All-map}
 use Rattle.std.proofs.lemmas.List.Kept.{AllPairs-cons}
 use Rattle.life_base.proofs.Squares.{is_blank-blank, quad_nw, quad_ne, quad_sw, quad_se, point≢quad}
 use Rattle.life_base.specs.Tree.{Tree, point, quad, depth, is_blank_tree}
@@ -12,6 +12,8 @@ use Rattle.life_base.specs.declared.rule.Rule.{Rule}
 use Rattle.life_quad.specs.Keeping.{AddsOnly}
 use Rattle.life_quad.specs.Refused.{SomePart}
 use Rattle.life_quad.specs.Store.{Nodes, IsEarlier, IsShared, Knows, content, stored_squares, id_of}
+use Rattle.life_quad.specs.Turning.{turned_tree}
+use Rattle.life_quad.proofs.TurningLemmas.{apart-turned, blank-image, part-of-image, undone}
 use Rattle.life_quad.specs.StoreLaws.{Names, the_state, the_blank, the_node, names}
 use Rattle.life_quad.specs.declared.id.Id.{Id}
 use Rattle.life_canon.specs.Needs.{IsNew}
@@ -23,8 +25,8 @@ use Rattle.life_canon.proofs.Sameness.{same-sym}
 use Rattle.life_canon.proofs.Known.{part-blank}
 use Rattle.life_forms.specs.Forms.{IsShift, IsTurnedShift}
 use Rattle.life_forms.specs.Laws.{ShiftsHaveOneSize, TurnsHaveOneSize}
-use Rattle.life_forms.specs.Turns.{Turn, turn_after, image}
-use Rattle.life_forms.specs.Needed.{HasLargerForm, IsMovedRoot, LacksForMoved, NeedsMore, SomeOfMovedForm}
+use Rattle.life_forms.specs.Turns.{Turn, turn_after, turn_of, image}
+use Rattle.life_forms.specs.Needed.{HasLargerForm, IsMovedRoot, NeedsMore, SomeOfMovedForm}
 use Rattle.life_forms.proofs.MovedFacts.{root-of-form}
 use Rattle.life_forms.proofs.ShiftFacts.{shift-sym, shift-trans, still}
 use Rattle.life_forms.proofs.TurnFacts.{images-keep-shifts, turns-are-closed}
@@ -67,6 +69,29 @@ more-than-held Needs store once needed lack full =
 pub needs-more : (Needs Others : (Tree → Type 0) → Type 0) (most : ℕ) → ((P : Tree → Type 0) → Needs P → Others P) → NeedsMore Needs most
     → NeedsMore Others most
 needs-more Needs Others most f more = (more.0, more.1, λ k d lt. let it = more.2 k d lt in (it.0, f _ it.1), more.3)
+
+pairs-map : (f : Tree → Tree) → ((s t : Tree) → f s ≡ f t → s ≡ t) → (xs : List Tree) → AllPairs ◌≢◌ xs → AllPairs ◌≢◌ (map f xs)
+pairs-map f apart xs pairs i j d less within e =
+    let size : length (map f xs) ≡ length xs = length-map xs f in
+    let high : j < length xs = omega (arith, within, size) in
+    let low : i < length xs = omega (arith, less, high) in
+    pairs i j d less high (apart _ _ (sym (get_or-map f xs i d d low) ∙ e ∙ get_or-map f xs j d d high))
+
+-- as many images are needed as squares, where the image of each one that is needed is
+pub needs-more-turned : (turn : Turn) (Needs Others : (Tree → Type 0) → Type 0) (most : ℕ)
+    → ((t : Tree) → Needs (λ u. u ≡ t) → Others (λ u. u ≡ turned_tree turn t)) → NeedsMore Needs most → NeedsMore Others most
+needs-more-turned turn Needs Others most each more =
+    let f = turned_tree turn in
+    let Is = λ (t : Tree). (is_blank_tree t ≡ false) × Others (λ u. u ≡ t) in
+    let size : length (map f more.0) ≡ length more.0 = length-map more.0 f in (
+      map f more.0,
+      pairs-map f (apart-turned turn) more.0 more.1,
+      All-map Is f more.0 (λ k d lt.
+          let t = get_or more.0 k d in
+          let it = more.2 k d lt in
+          (blank-image turn t ∙ it.0, each t it.1)),
+      omega (arith, size, more.3),
+    )
 
 -- ---- no more than the limit
 
@@ -150,23 +175,79 @@ from-empty Needs old new empty adds t there = elim (adds.each t there) [
 
 -- ---- moved forms
 
+-- a part with a property has what follows from it
+pub some-weaker : (P Q : Tree → Type 0) → ((t : Tree) → P t → Q t) → (t : Tree) → SomePart P t → SomePart Q t
+some-weaker P Q f (point s) h = absurd h
+some-weaker P Q f (quad a b c d) (inl h) = inl (f _ h)
+some-weaker P Q f (quad a b c d) (inr (inl h)) = inr (inl (some-weaker P Q f a h))
+some-weaker P Q f (quad a b c d) (inr (inr (inl h))) = inr (inr (inl (some-weaker P Q f b h)))
+some-weaker P Q f (quad a b c d) (inr (inr (inr (inl h)))) = inr (inr (inr (inl (some-weaker P Q f c h))))
+some-weaker P Q f (quad a b c d) (inr (inr (inr (inr h)))) = inr (inr (inr (inr (some-weaker P Q f d h))))
+
+-- a turn that keeps columns and rows takes back its own images
+pub turned-twice : (columns rows : Bool) (t : Tree) → turned_tree (turn_of false columns rows) (turned_tree (turn_of false columns rows) t) ≡ t
+turned-twice columns rows t = undone (turn_of false columns rows) t
+
 pub find-form : (P : Tree → Type 0) (u : Universe) → SomeOfMovedForm P u → Found P (λ Q. SomeOfMovedForm Q u)
 find-form P u (v, is, s) = found-as (λ Q k. (v, is, k)) (find-part P _ s)
 
+-- ---- the form of an image, of which a store has the squares turned back
+
+-- what is needed is a square of which the image is a part of the form of an image
+abbrev pub SomeTurned : Turn → Universe → (Tree → Type 0) → Type 0
+SomeTurned turn v P = SomeOfMovedForm (λ t. P (turned_tree turn t)) v
+
+find-turned : (turn : Turn) (v : Universe) (P : Tree → Type 0) → SomeTurned turn v P → Found P (SomeTurned turn v)
+find-turned turn v P some =
+    let found = find-form (λ t. P (turned_tree turn t)) v some in
+    record {
+      square = turned_tree turn found.square;
+      holds = found.holds;
+      some = (
+        found.some.0,
+        found.some.1,
+        some-weaker (λ t. t ≡ found.square) (λ t. turned_tree turn t ≡ turned_tree turn found.square) (λ t. ap (turned_tree turn)) _ found.some.2,
+      );
+    }
+
 -- a form has more squares than the store that is full of its parts
-pub larger-form : (u : Universe) (old new : Nodes) → stored_squares old ≡ [] → HoldsOnce new → AddsOnly stored_squares (λ P. SomeOfMovedForm P u) old new
-    → LacksForMoved u new
-    → length (stored_squares new) ≡ new.limit → HasLargerForm new.limit u
-larger-form u old new empty once adds lacks full =
-    more-than-held (λ P. SomeOfMovedForm P u) new once (from-empty (λ P. SomeOfMovedForm P u) old new empty adds) (find-form (IsNew new) u lacks) full
+pub larger-form : (columns rows : Bool) (v : Universe) (old new : Nodes) → stored_squares old ≡ [] → HoldsOnce new
+    → AddsOnly stored_squares (SomeTurned (turn_of false columns rows) v) old new → SomeTurned (turn_of false columns rows) v (IsNew new)
+    → length (stored_squares new) ≡ new.limit → HasLargerForm new.limit v
+larger-form columns rows v old new empty once adds lacks full =
+    needs-more-turned (turn_of false columns rows) (SomeTurned (turn_of false columns rows) v) (λ P. SomeOfMovedForm P v) new.limit
+    (λ t some. (
+      some.0,
+      some.1,
+      some-weaker (λ s. turned_tree (turn_of false columns rows) s ≡ t) (λ s. s ≡ turned_tree (turn_of false columns rows) t)
+          (λ s e. sym (turned-twice columns rows s) ∙ ap (turned_tree (turn_of false columns rows)) e) _ some.2,
+    ))
+    (more-than-held (SomeTurned (turn_of false columns rows) v) new once (from-empty (SomeTurned (turn_of false columns rows) v) old new empty adds)
+    (find-turned (turn_of false columns rows) v (IsNew new) lacks) full)
 
 -- and no more than the store that has its root
-pub no-larger-form : (t : Tree) → depth t ≤ MAX_LEVEL → (rule : Rule) (generation : ℕ) (store : Nodes) (root : Id) → IsKnown store root → HoldsKnown store
-    → IsMovedRoot (square_universe rule generation t) (least_level rule) (content store root)
+pub no-larger-form : (columns rows : Bool) (t : Tree) → depth t ≤ MAX_LEVEL → (rule : Rule) (generation : ℕ) (store : Nodes) (root : Id)
+    → IsKnown store root → HoldsKnown store
+    → IsMovedRoot (square_universe rule generation t) (least_level rule) (turned_tree (turn_of false columns rows) (content store root))
     → ¬ HasLargerForm store.limit (square_universe rule generation t)
-no-larger-form t low rule generation store root known all is =
-    enough (λ P. SomeOfMovedForm P (square_universe rule generation t)) store known.1
-    (λ s live some. held-part store all s live _ root known.0 (root-of-form t low rule generation (content store root) is some.0 some.1) some.2)
+no-larger-form columns rows t low rule generation store root known all is larger =
+    let v = square_universe rule generation t in
+    let r = content store root in
+    enough (SomeTurned (turn_of false columns rows) v) store known.1
+    (λ s live some.
+    held-part store all s live _ root known.0 refl
+    (some-weaker (λ w. turned_tree (turn_of false columns rows) (turned_tree (turn_of false columns rows) w) ≡ s) (λ w. w ≡ s)
+    (λ w e. sym (turned-twice columns rows w) ∙ e) r
+    (part-of-image (turn_of false columns rows) (λ w. turned_tree (turn_of false columns rows) w ≡ s) r
+    (subst (SomePart (λ w. turned_tree (turn_of false columns rows) w ≡ s))
+    (sym (root-of-form t low rule generation (turned_tree (turn_of false columns rows) r) is some.0 some.1)) some.2))))
+    (needs-more-turned (turn_of false columns rows) (λ P. SomeOfMovedForm P v) (SomeTurned (turn_of false columns rows) v) store.limit
+    (λ s some. (
+      some.0,
+      some.1,
+      some-weaker (λ w. w ≡ s) (λ w. turned_tree (turn_of false columns rows) w ≡ turned_tree (turn_of false columns rows) s)
+          (λ w. ap (turned_tree (turn_of false columns rows))) _ some.2,
+    )) larger)
 
 -- shifts have one size
 pub shifted-size : (most : ℕ) (u v : Universe) → IsShift u v → HasLargerForm most v → HasLargerForm most u

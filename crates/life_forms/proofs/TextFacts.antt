@@ -1,5 +1,5 @@
 -- The least of the texts of eight images is that of the turned form.
-use Rattle.std.proofs.Common.{◌≡◌, ◌⊎◌, inl, inr, ℕ, ◌≤◌, Bool, true, false, not, List, refl, sym, ap, ◌∙◌, subst}
+use Rattle.std.proofs.Common.{◌≡◌, ◌⊎◌, inl, inr, ℕ, ◌≤◌, Bool, true, false, true≢false, not, List, [], ◌∷◌, refl, sym, ap, ◌∙◌, subst}
 use Rattle.life_canon.specs.Lesser.{IsLesserText, IsUpTo}
 use Rattle.life_canon.specs.Listing.{canon_text}
 use Rattle.life_canon.specs.Universe.{Universe, IsSame, IsBlankOutside}
@@ -119,3 +119,20 @@ pub all-small : (most : ℕ) (u : Universe) (columns rows : Bool) → AreSmall m
     → AreSmall most u (not columns) (not rows) → AreSmall most u columns (not rows) → (turn : Turn) → ¬ HasLargerForm most (image turn u)
 all-small most u columns rows first second third fourth turn =
     of-four (λ (v w : Bool). AreSmall most u v w) columns rows first second third fourth turn.columns turn.rows turn.exchange
+
+-- ---- the first text
+
+-- no canonical text is so great
+above-texts : (top : ℕ) (v : Universe) → IsUpTo (255 ∷ []) (canon_text top v) → ⊥
+unfolding canon_text
+above-texts top v up = true≢false up.order
+
+-- the lesser of a text above all and those of two images is the lesser of these
+pub least-of-lesser : (top : ℕ) (u : Universe) (columns rows : Bool) (best text : List ℕ) → best ≡ 255 ∷ [] → IsLesserOfTwo top u columns rows best text
+    → (other : List ℕ) × IsImageText top u (turn_of false columns rows) other → IsLeastOfTwo top u columns rows text
+least-of-lesser top u columns rows best text above lesser (other, of_image) = elim lesser.one [
+  | inl same ↦ absurd (above-texts top of_image.form
+      (subst (λ (t : List ℕ). IsUpTo t (canon_text top of_image.form)) (same ∙ above)
+      (subst (λ (t : List ℕ). IsUpTo text t) of_image.is (lesser.second false other of_image))))
+  | inr it ↦ record { exchange = it.0; of_image = it.1; least = lesser.second }
+]

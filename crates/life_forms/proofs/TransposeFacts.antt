@@ -1,8 +1,6 @@
 -- Images with columns and rows exchanged: that of a moved form is a moved form, has as many squares, and its squares are those of the form, turned.
-use Rattle.std.proofs.Common.{◌≡◌, ◌≢◌, ℕ, ◌<◌, ◌≤◌, Bool, true, false, List, map, length, get_or, AllPairs, refl, sym, ap, ap₂, ◌∙◌, subst, ℤ, arith, lit≤}
-use Rattle.std.proofs.lemmas.List.{get_or-map, length-map}
-use Rattle.std.proofs.lemmas.List.Elements.{All-map}
-use Rattle.life_base.specs.Tree.{Tree, depth, tree_cell, is_blank_tree, IsFull}
+use Rattle.std.proofs.Common.{◌≡◌, ℕ, ◌<◌, ◌≤◌, Bool, true, false, true≢false, refl, sym, ap, ap₂, ◌∙◌, subst, ℤ, arith, lit≤}
+use Rattle.life_base.specs.Tree.{Tree, depth, tree_cell, IsFull}
 use Rattle.life_base.specs.declared.bounds.Bounds.{Bounds}
 use Rattle.life_base.specs.declared.cell.TheConstants.{MAX_LEVEL}
 use Rattle.life_base.specs.declared.rule.Rule.{Rule}
@@ -12,7 +10,7 @@ use Rattle.life_quad.specs.Refused.{SomePart}
 use Rattle.life_quad.specs.Store.{Nodes}
 use Rattle.life_quad.specs.Turning.{turned_tree}
 use Rattle.life_quad.proofs.LawLemmas.{equal_by_plane, known_squares_are_full, trimmed_by_cells, trimmed_is_fixed, trimmed_is_lowest, trimming_keeps_cells, trimming_stops}
-use Rattle.life_quad.proofs.TurningLemmas.{apart-turned, blank-image, depth-turned, full-turned, part-of-image, undone}
+use Rattle.life_quad.proofs.TurningLemmas.{depth-turned, full-turned, part-of-image, undone}
 use Rattle.life_canon.specs.Laws.{SquaresAreCentred, CentredSquaresTellCells}
 use Rattle.life_canon.specs.Listing.{canon_text, canonical_file, square_text}
 use Rattle.life_canon.specs.Store.{content, universe_in, IsTrimmed}
@@ -27,7 +25,7 @@ use Rattle.life_forms.specs.Turns.{Turn, inverse_turn, turned_column, counted_co
 use Rattle.life_forms.proofs.ImageFacts.{turned-cells, turned-centred}
 use Rattle.life_forms.proofs.MovedFacts.{depth-centred, full-centred, trimmed-whole}
 use Rattle.life_forms.proofs.PatternFacts.{shift-up-to}
-use Rattle.life_forms.proofs.SizeFacts.{find-form}
+use Rattle.life_forms.proofs.SizeFacts.{find-form, needs-more-turned}
 use Rattle.life_forms.proofs.TurnFacts.{images-keep-shifts, placed-back}
 
 -- ---- moved forms
@@ -53,7 +51,7 @@ transpose-moved top u v moved = record {
 -- ---- squares of images
 
 module _ (centre : SquaresAreCentred) (tell : CentredSquaresTellCells) where
-  cells-of : (turn : Turn) (t : Tree) → IsFull t → 1 ≤ depth t → (x y : ℤ)
+  pub cells-of : (turn : Turn) (t : Tree) → IsFull t → 1 ≤ depth t → (x y : ℤ)
       → tree_cell (turned_tree turn t) x y ≡ tree_cell t (turned_column turn x y) (turned_row turn x y)
   cells-of turn t full high = turned-cells centre tell turn t (turned_tree turn t) full (full-turned turn t full) high (depth-turned turn t full) refl
 
@@ -83,7 +81,7 @@ module _ (centre : SquaresAreCentred) (tell : CentredSquaresTellCells) where
       let most : depth s ≤ depth i = stops.2 in
       equal_by_plane s i least also (omega (arith, low, first, most, same, deep)) keep
 
-  trimmed-of-turned : (turn : Turn) (t : Tree) (m : ℕ) → IsFull t → 1 ≤ m → m ≤ depth t
+  pub trimmed-of-turned : (turn : Turn) (t : Tree) (m : ℕ) → IsFull t → 1 ≤ m → m ≤ depth t
       → trimmed_square (turned_tree turn t) m ≡ turned_tree turn (trimmed_square t m)
   trimmed-of-turned turn t m full positive high =
       let r = trimmed_square t m in
@@ -98,7 +96,7 @@ module _ (centre : SquaresAreCentred) (tell : CentredSquaresTellCells) where
       ∙ sym (cells-of turn r fix.0 (omega (arith, positive, from)) x y))
       ∙ trimmed-turned turn r m fix.0 positive from fix.1
 
-  least-levels : (rule : Rule) → (1 ≤ least_level rule) × (least_level rule ≤ 62)
+  pub least-levels : (rule : Rule) → (1 ≤ least_level rule) × (least_level rule ≤ 62)
   least-levels (Life sets) = (lit≤ tt, lit≤ tt)
   least-levels (Named name) = (lit≤ tt, lit≤ tt)
 
@@ -128,13 +126,6 @@ module _ (centre : SquaresAreCentred) (tell : CentredSquaresTellCells) where
         part-of-image transpose P (whole MAX_LEVEL g) (subst (SomePart P) (whole-turned transpose g low) some.2),
       )
 
-  pairs-map : (f : Tree → Tree) → ((s t : Tree) → f s ≡ f t → s ≡ t) → (xs : List Tree) → AllPairs ◌≢◌ xs → AllPairs ◌≢◌ (map f xs)
-  pairs-map f apart xs pairs i j d less within e =
-      let size : length (map f xs) ≡ length xs = length-map xs f in
-      let high : j < length xs = omega (arith, within, size) in
-      let low : i < length xs = omega (arith, less, high) in
-      pairs i j d less high (apart _ _ (sym (get_or-map f xs i d d low) ∙ e ∙ get_or-map f xs j d d high))
-
   transposed-needed : (v : Universe) → ((x y : ℤ) → v.cell x y ≤ 255) → (t : Tree) → SomeOfMovedForm (λ u. u ≡ t) (image transpose v)
       → SomeOfMovedForm (λ u. u ≡ turned_tree transpose t) v
   transposed-needed v states t some =
@@ -142,18 +133,8 @@ module _ (centre : SquaresAreCentred) (tell : CentredSquaresTellCells) where
       subst (λ (s : Tree). SomeOfMovedForm (λ u. u ≡ s) v) (sym (undone transpose found.square) ∙ ap (turned_tree transpose) found.holds) found.some
 
   pub larger-transposed : (most : ℕ) (v : Universe) → ((x y : ℤ) → v.cell x y ≤ 255) → HasLargerForm most (image transpose v) → HasLargerForm most v
-  larger-transposed most v states more =
-      let f = turned_tree transpose in
-      let Is = λ (t : Tree). (is_blank_tree t ≡ false) × SomeOfMovedForm (λ u. u ≡ t) v in
-      let size : length (map f more.0) ≡ length more.0 = length-map more.0 f in (
-        map f more.0,
-        pairs-map f (apart-turned transpose) more.0 more.1,
-        All-map Is f more.0 (λ k d lt.
-            let t = get_or more.0 k d in
-            let it = more.2 k d lt in
-            (blank-image transpose t ∙ it.0, transposed-needed v states t it.1)),
-        omega (arith, size, more.3),
-      )
+  larger-transposed most v states =
+      needs-more-turned transpose (λ P. SomeOfMovedForm P (image transpose v)) (λ P. SomeOfMovedForm P v) most (transposed-needed v states)
 
   -- where an image has no larger form, the one with columns and rows exchanged too has none
   pub small-both : (most : ℕ) (u : Universe) (columns rows : Bool) → ((x y : ℤ) → u.cell x y < 256)
@@ -165,20 +146,37 @@ module _ (centre : SquaresAreCentred) (tell : CentredSquaresTellCells) where
 
   -- ---- texts
 
-  -- the text of the root of a form, turned, is that of the image with columns and rows exchanged
-  pub transposed-text : (u : Universe) (columns rows : Bool) (store : Nodes) (p : Pattern) → IsTrimmed store p
-      → IsMoved MAX_LEVEL (image (turn_of false columns rows) u) (universe_in store p)
-      → IsImageText MAX_LEVEL u (turn_of true columns rows) (square_text p.rule p.generation (turned_tree transpose (content store p.root)))
+  -- the text of the root of a pattern, turned, is that of the image, where that is a moved form
+  text-of-turned : (turn : Turn) (store : Nodes) (p : Pattern) → IsTrimmed store p
+      → square_text p.rule p.generation (turned_tree turn (content store p.root)) ≡ canon_text MAX_LEVEL (image turn (universe_in store p))
   unfolding canon_text canonical_file whole
-  transposed-text u columns rows store p is moved =
+  text-of-turned turn store p is =
       let root = content store p.root in
       let known = known_squares_are_full store p.root is.known.0 in
       let w = universe_in store p in
       let least = least-levels p.rule in
       let itself : whole MAX_LEVEL w ≡ root = sym (trimmed-whole root known.0 known.1 (least_level p.rule) least.0 is.level) ∙ is.trimmed in
-      record {
-        form = image transpose w;
-        moved = transpose-moved MAX_LEVEL (image (turn_of false columns rows) u) w moved;
-        is = ap (square_text p.rule p.generation)
-            (sym (whole-turned transpose w (cell-below root known.0) ∙ ap (turned_tree transpose) itself));
-      }
+      ap (square_text p.rule p.generation) (sym (whole-turned turn w (cell-below root known.0) ∙ ap (turned_tree turn) itself))
+
+  -- so each of two images has its text from one square
+  pub corner-text : (u : Universe) (columns rows : Bool) (store : Nodes) (p : Pattern) → IsTrimmed store p
+      → IsMoved MAX_LEVEL (image (turn_of false columns rows) u) (image (turn_of false columns rows) (universe_in store p)) → (exchange : Bool)
+      → IsImageText MAX_LEVEL u (turn_of exchange columns rows) (square_text p.rule p.generation (turned_tree (turn_of exchange columns rows)
+      (content store p.root)))
+  corner-text u columns rows store p is moved false = record {
+    form = image (turn_of false columns rows) (universe_in store p);
+    moved = moved;
+    is = text-of-turned (turn_of false columns rows) store p is;
+  }
+  corner-text u columns rows store p is moved true = record {
+    form = image (turn_of true columns rows) (universe_in store p);
+    moved = transpose-moved MAX_LEVEL (image (turn_of false columns rows) u) (image (turn_of false columns rows) (universe_in store p)) moved;
+    is = text-of-turned (turn_of true columns rows) store p is;
+  }
+
+  -- that of the pattern itself is the text of its root
+  pub upright-text : (columns rows : Bool) → columns ≡ false → rows ≡ false → (store : Nodes) (p : Pattern) → IsTrimmed store p
+      → canon_text MAX_LEVEL (universe_in store p) ≡ square_text p.rule p.generation (turned_tree (turn_of false columns rows) (content store p.root))
+  upright-text false false v w store p is = sym (text-of-turned (turn_of false false false) store p is)
+  upright-text true rows v w store p is = absurd (true≢false v)
+  upright-text false true v w store p is = absurd (true≢false w)

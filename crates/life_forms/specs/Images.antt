@@ -42,10 +42,10 @@ pub record IsLowerBound (top most : ℕ) (u : Universe) (columns rows : Bool) (t
   pub small : AreSmall most u columns rows
   pub least : (also : Bool) (other : List ℕ) → IsImageText top u (turn_of also columns rows) other → IsUpTo text other
 
--- a box with sides of 2^10 cells at most, of which one has more than four
+-- a box with sides of 2^12 cells at most, of which one has more than four
 pub record IsMiddling (box : Bounds) : Type 0 where
-  pub wide : box.right <ℤ (box.left +ℤ pos (2 ^ 10))
-  pub tall : box.bottom <ℤ (box.top +ℤ pos (2 ^ 10))
+  pub wide : box.right <ℤ (box.left +ℤ pos (2 ^ 12))
+  pub tall : box.bottom <ℤ (box.top +ℤ pos (2 ^ 12))
   pub far : ((box.left +ℤ pos 4) ≤ℤ box.right) ⊎ ((box.top +ℤ pos 4) ≤ℤ box.bottom)
 
 -- where eight columns or rows begin at one end of a side of a box

@@ -5,11 +5,9 @@ use Rattle.life_base.specs.Tree.{Tree, is_blank_tree}
 use Rattle.life_base.specs.declared.cell.TheConstants.{MAX_LEVEL}
 use Rattle.life_base.specs.declared.fault.Fault.{Fault}
 use Rattle.life_base.specs.declared.kind.Kind.TheVariants.{Full}
-use Rattle.life_quad.specs.Keeping.{AddsOnly}
 use Rattle.life_quad.specs.Moves.{trimmed_square}
 use Rattle.life_quad.specs.Refused.{SomePart}
-use Rattle.life_quad.specs.Store.{Nodes, stored_squares}
-use Rattle.life_canon.specs.Needs.{IsNew}
+use Rattle.life_quad.specs.Store.{Nodes}
 use Rattle.life_canon.specs.Store.{universe_in}
 use Rattle.life_canon.specs.Universe.{Universe, centred_square, whole}
 use Rattle.life_canon.specs.declared.pattern.Pattern.{Pattern}
@@ -29,14 +27,6 @@ SomeOfMovedRoot P u least = (v : Universe) × IsMoved MAX_LEVEL u v × SomePart 
 -- the root of the moved form of a pattern, or a part of it, has a property
 abbrev pub SomeOfMovedForm : (Tree → Type 0) → Universe → Type 0
 SomeOfMovedForm P u = (v : Universe) × IsMoved MAX_LEVEL u v × SomePart P (whole MAX_LEVEL v)
-
--- a store lacks such a square
-abbrev pub LacksForMoved : Universe → Nodes → Type 0
-LacksForMoved u store = SomeOfMovedForm (IsNew store) u
-
--- a call stores no square but such ones
-abbrev pub AddsMoved : Universe → Nodes → Nodes → Type 0
-AddsMoved u old new = AddsOnly stored_squares (λ P. SomeOfMovedForm P u) old new
 
 -- More different squares are needed than this, and none of them is blank. `Needs` says of a property that a square which is needed has it.
 abbrev pub NeedsMore : ((Tree → Type 0) → Type 0) → ℕ → Type 0

@@ -3,8 +3,8 @@
 ghost use Rattle.std.specs.Prelude.{◌≡◌, ◌↔◌, ◌⊎◌, IfOk, IfErr, OnOk, IsTrue};
 ghost use Rattle.life_forms.specs.Words.{OrMemory, fault_of, IsRule, Full, IsTrimmed, universe_in, IsShift, IsTurnedShift, HasLargeForm, HasLargeImage};
 
-use crate::images::{WITHOUT_LIMIT, turned_text};
-use crate::patterns::{brought, moved_of};
+use crate::images::turned_text;
+use crate::patterns::{WITHOUT_LIMIT, brought, moved_of};
 use life_base::Fault;
 use life_canon::laws::texts_tell_universes;
 use life_canon::{Pattern, are_same};

@@ -1,18 +1,19 @@
 //! Texts that the texts of images are no less than, found without the images.
 
-ghost use Rattle.std.specs.Prelude.{◌≡◌, ◌^◌, true, false, min, pos, ◌+ℤ◌, ◌≤ℤ◌, ◌<ℤ◌, IfSome, MatchOption};
-ghost use Rattle.life_forms.specs.Words.{MAX_LEVEL, IsTrimmed, IsOrdered, IsSquareBox, IsUpTo, content, universe_in, is_blank_tree, is_life, IsCornerLeaf, IsLowerBound, IsMiddling, leaf_start, square_text, turned_tree, turn_of};
+ghost use Rattle.std.specs.Prelude.{◌≡◌, ◌^◌, [], ◌∷◌, true, false, min, pos, ◌+ℤ◌, ◌≤ℤ◌, ◌<ℤ◌, IfSome, IfOk, IfErr, MatchOption};
+ghost use Rattle.life_forms.specs.Words.{MAX_LEVEL, IsMemory, IsTrimmed, IsOrdered, IsSquareBox, IsUpTo, content, universe_in, is_blank_tree, is_life, IsCornerLeaf, IsLowerBound, IsMiddling, leaf_start, square_text, turned_tree, turn_of};
 
 use crate::patterns::most_squares;
-use life_base::{Bounds, Rule};
+use life_base::{Bounds, Kind, Rule};
 use life_canon::laws::squares_are_centred;
 use life_canon::{Pattern, lesser_turned_text};
 use life_quad::{Shared, Turn, is_blank};
 use life_slide::square_at;
 use std::alloc::Global;
 
-/// A form whose root is of level 11 at most has no more squares than this.
-const SQUARES_OF_LEVEL_11: u64 = 1_398_101;
+/// A form of two states whose root is of level 13 at most has no more different squares than this: 16 of level 1, 65,536 of level 2, and 1,398,101
+/// above them.
+const SQUARES_OF_LEVEL_13: u64 = 1_463_653;
 
 /// No text begins with this byte or a greater one.
 const ABOVE_TEXTS: u8 = 255;
@@ -20,12 +21,12 @@ const ABOVE_TEXTS: u8 = 255;
 /// The level of a leaf.
 const LEAF: u8 = 3;
 
-/// Whether a side of a box has at most 2^10 cells.
+/// Whether a side of a box has at most 2^12 cells.
 fn is_within(low: i64, high: i64) -> bool
     requires { IsOrdered low high }
-    ensures { result ≡ true → high <ℤ (low +ℤ pos (2 ^ 10)) }
+    ensures { result ≡ true → high <ℤ (low +ℤ pos (2 ^ 12)) }
 {
-    high - low < 1024
+    high - low < 4096
 }
 
 /// Whether a side of a box has more than four cells.
@@ -36,7 +37,7 @@ fn is_beyond(low: i64, high: i64) -> bool
     high - low >= 4
 }
 
-/// Whether the sides of a box have at most 2^10 cells, and one of them more than four: then the form has a root above level 3 and at most of level 11.
+/// Whether the sides of a box have at most 2^12 cells, and one of them more than four: then the form has a root above level 3 and at most of level 13.
 fn is_middling(found: &Bounds) -> bool
     requires columns { IsOrdered found.now.left found.now.right }
     requires rows { IsOrdered found.now.top found.now.bottom }
@@ -106,6 +107,14 @@ fn corner_leaf(
     })
 }
 
+/// A text that is greater than each canonical text.
+pub(crate) fn above_texts(alloc: Global) -> Result<Vec<u8>, Kind>
+    ensures text { IfOk result (λ text. text.items ≡ 255 ∷ []) }
+    ensures memory { IfErr result IsMemory }
+{
+    Ok(Vec::from_slice(alloc, &[ABOVE_TEXTS])?)
+}
+
 /// The lesser of the texts of a leaf, turned by two turns, or a lesser text.
 fn lesser_leaf_text(
     alloc: Global,
@@ -122,7 +131,7 @@ fn lesser_leaf_text(
         (square_text leaf.now.rule leaf.now.generation
         (turned_tree (turn_of true columns rows) (content leaves.now leaf.now.root)))) }
 {
-    let Ok(above) = Vec::from_slice(alloc, &[ABOVE_TEXTS]) else {
+    let Ok(above) = above_texts(alloc) else {
         return None;
     };
     let turn = Turn {
@@ -185,7 +194,7 @@ fn lower_bound_in(
         (universe_in store.now pattern.now) columns rows text.items) }
 {
     squares_are_centred();
-    if most_squares(store) < SQUARES_OF_LEVEL_11 {
+    if most_squares(store) < SQUARES_OF_LEVEL_13 {
         return None;
     }
     if !is_life(&pattern.rule) || !is_middling(found) {

@@ -1,6 +1,7 @@
 pub mod EntryLemmas
 pub mod LeafLemmas
 pub mod MarginLemmas
+pub mod QuarterLemmas
 pub mod MovedLemmas
 pub mod NeedLemmas
 pub mod PartLemmas

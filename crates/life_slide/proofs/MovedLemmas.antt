@@ -1,11 +1,11 @@
 -- The cells of a square from another origin, and the square that has them.
-use Rattle.std.proofs.Common.{◌≡◌, ◌≢◌, ◌⊎◌, inl, inr, ℕ, zero, suc, ◌-◌, ◌^◌, ◌<◌, ◌≤◌, nat_lt, if◌then◌else◌, Bool, true, false, ℤ, pos, neg_ℤ, ◌+ℤ◌, ◌≤ℤ◌, ◌<ℤ◌, refl, sym, ◌∙◌, ap, subst, arith, to_z, of_z, w64}
+use Rattle.std.proofs.Common.{◌≡◌, ◌≢◌, ◌⊎◌, inl, inr, ℕ, zero, suc, ◌-◌, ◌^◌, ◌<◌, ◌≤◌, nat_lt, if◌then◌else◌, Bool, true, false, not, ℤ, pos, neg_ℤ, ◌+ℤ◌, ◌≤ℤ◌, ◌<ℤ◌, refl, sym, ◌∙◌, ap, subst, arith, to_z, of_z, w64}
 use Rattle.std.proofs.lemmas.Int.{ints}
 use Rattle.std.proofs.lemmas.Bool.{cases_lt}
 use Rattle.std.proofs.Math.Pow.{pow_mono}
 use Rattle.life_base.specs.Tree.{Tree, point, quad, depth, blank, half_side, state_at, tree_cell, IsFull}
 use Rattle.life_base.specs.declared.bounds.Bounds.{Bounds}
-use Rattle.life_base.proofs.Squares.{Inside, depth-blank, full-blank, same_quads}
+use Rattle.life_base.proofs.Squares.{Inside, same_quads}
 use Rattle.life_base.proofs.Basics.{halves, zero_unless}
 use Rattle.life_quad.specs.Cells.{IsBoundingBoxOfTree}
 use Rattle.life_base.specs.declared.cell.TheConstants.{MAX_LEVEL}
@@ -14,11 +14,12 @@ use Rattle.life_quad.specs.Refused.{SomePart}
 use Rattle.life_quad.proofs.LawLemmas.{cells_lie_inside, equal_by_plane, trimmed_by_cells, trimmed_is_fixed, trimming_keeps_cells, trimming_stops}
 use Rattle.life_block.specs.Needed.{square_from}
 use Rattle.life_block.specs.Pieces.{IsPiece, step_ahead}
-use Rattle.life_block.proofs.NeedLemmas.{AreParts, depth-square, joined-is, own-part, piece-is, quarter-part, square-piece}
-use Rattle.life_block.proofs.PieceLemmas.{IsPiece-moved, blank-of_zero}
+use Rattle.life_block.proofs.NeedLemmas.{depth-square, own-part, piece-is, square-piece}
+use Rattle.life_block.proofs.PieceLemmas.{IsPiece-moved}
 use Rattle.life_block.proofs.RootLemmas.{cells-of_root}
 use Rattle.life_block.proofs.PlaneLemmas.{full-square}
-use Rattle.life_slide.specs.Pieces.{cells_from, IsNearMiddle, plane_from, root_from}
+use Rattle.life_slide.specs.Pieces.{cells_from, IsNearMiddle, plane_from, root_from, side_origin, side_start}
+use Rattle.life_slide.proofs.QuarterLemmas.{AreInQuarter, corner-is, corner-part, corner_square, far-from-origin, far_end, middle_start, quarter-inside, quarter_start, side-begins, side-in-quarter}
 
 -- ---- from another origin
 
@@ -82,9 +83,9 @@ centre-cells f below k outside =
     cells-of_root f r c (full-square f below (suc k) c c) (omega (arith, level)) (ap (λ n. neg_ℤ (pos n)) (sym half)) (square-piece f (suc k) c c)
     (λ x y apart. outside x y (λ i. apart (subst (λ n. Inside n x y) (sym half) i)))
 
--- a square with a cell so far east or south isn't trimmed
+-- a square with a cell outside of the one about the middle with half its side isn't trimmed
 pub trim-reach : (s : Tree) → IsFull s → (m : ℕ) → 1 ≤ m → (n : ℕ) → depth s ≡ suc n → (x y : ℤ) → tree_cell s x y ≢ 0
-    → (pos (2 ^ (n - 1)) ≤ℤ x) ⊎ (pos (2 ^ (n - 1)) ≤ℤ y) → trimmed_square s m ≡ s
+    → (Inside (2 ^ (n - 1)) x y → ⊥) → trimmed_square s m ≡ s
 trim-reach s full m positive n level x y some far =
     equal_by_plane r s (trimmed_is_fixed s m full positive).0 full (omega (arith, lower, higher, level)) keeps
   where
@@ -100,15 +101,19 @@ trim-reach s full m positive n level x y some far =
     here : (neg_ℤ (pos (half_side r)) ≤ℤ x) × (x <ℤ pos (half_side r)) × (neg_ℤ (pos (half_side r)) ≤ℤ y) × (y <ℤ pos (half_side r))
     here = cells_lie_inside r x y (λ e. some (sym (keeps x y) ∙ e))
 
-    beyond : (pos (2 ^ (n - 1)) ≤ℤ x) ⊎ (pos (2 ^ (n - 1)) ≤ℤ y) → 2 ^ (n - 1) < half_side r
-    beyond (inl l) = let e = here.1 in omega (arith, ints, l, e)
-    beyond (inr l) = let e = here.3 in omega (arith, ints, l, e)
-
     not-low : depth r ≤ n → ⊥
     not-low l =
         let less : half_side r ≤ 2 ^ (n - 1) = pow_mono {i = depth r - 1} {j = n - 1} (omega (arith, l)) in
-        let more = beyond far in
-        omega (arith, less, more)
+        let w = here.0 in
+        let e = here.1 in
+        let t = here.2 in
+        let b = here.3 in
+        far (record {
+          west = omega (arith, ints, less, w);
+          east = omega (arith, ints, less, e);
+          north = omega (arith, ints, less, t);
+          south = omega (arith, ints, less, b);
+        })
 
     higher : n < depth r
     higher = above (cases_lt n (depth r))
@@ -117,9 +122,9 @@ trim-reach s full m positive n level x y some far =
         above (inl l) = l
         above (inr l) = absurd (not-low l)
 
--- ---- the least box at (0, 0)
+-- ---- the least box with a corner at the middle
 
--- a square of level j is the quarter of one of the least level, or the box that begins there reaches into its farther half
+-- a square of level j is the quarter of one of the least level, or the box in its corner reaches into its farther half
 abbrev pub IsTight : Bounds → (j least : ℕ) → Type 0
 IsTight box j least =
     (suc j ≡ least) ⊎ ((box.left +ℤ pos (2 ^ (j - 1))) ≤ℤ box.right) ⊎ ((box.top +ℤ pos (2 ^ (j - 1))) ≤ℤ box.bottom)
@@ -135,9 +140,6 @@ level-fits j k n low high = by (cases_lt k j)
     by (inr l) = l
 
 module _ (t : Tree) (box : Bounds) (least : IsBoundingBoxOfTree t box) (high : 1 ≤ depth t) where
-  abbrev g : ℤ → ℤ → ℕ
-  g = cells_from t box.left box.top
-
   abbrev k : ℕ
   k = depth t
 
@@ -154,6 +156,26 @@ module _ (t : Tree) (box : Bounds) (least : IsBoundingBoxOfTree t box) (high : 1
       let n = top.2 in
       let s = top.3 in
       record { low = omega (arith, ints, n); high = omega (arith, ints, s) }
+
+  -- so does the square of the box
+  side-near : (last : Bool) (l h : ℤ) (j : ℕ) → j ≤ k → neg_ℤ (pos (half_side t)) ≤ℤ l → l ≤ℤ h → h <ℤ pos (half_side t)
+      → IsNearMiddle k (side_start last l h j)
+  side-near false l h j le w order e = record { low = omega (arith, ints, w); high = omega (arith, ints, order, e) }
+  side-near true l h j le w order e =
+      let side : 2 ^ j ≤ 2 ^ k = pow_mono {i = j} {j = k} le in
+      let some : 1 ≤ 2 ^ j = pow_mono {i = 0} {j = j} (omega arith) in
+      let twice = halves k high in
+      record { low = omega (arith, ints, w, order, side, twice); high = omega (arith, ints, e, some) }
+
+  pub column-starts : (last : Bool) (j : ℕ) → j ≤ k → IsNearMiddle k (side_start last box.left box.right j)
+  column-starts last j le =
+      let inside = least.inside _ _ least.at_left.1 in
+      side-near last box.left box.right j le (cells_lie_inside t _ _ least.at_left.1).0 inside.1 (cells_lie_inside t _ _ least.at_right.1).1
+
+  pub row-starts : (last : Bool) (j : ℕ) → j ≤ k → IsNearMiddle k (side_start last box.top box.bottom j)
+  row-starts last j le =
+      let inside = least.inside _ _ least.at_top.1 in
+      side-near last box.top box.bottom j le (cells_lie_inside t _ _ least.at_top.1).2 inside.3 (cells_lie_inside t _ _ least.at_bottom.1).3
 
   half-low : depth t ≤ 62 → half_side t ≤ 2 ^ 61
   half-low low = pow_mono {i = depth t - 1} {j = 61} (omega (arith, low))
@@ -217,64 +239,62 @@ module _ (t : Tree) (box : Bounds) (least : IsBoundingBoxOfTree t box) (high : 1
   pub bottom-read : depth t ≤ 62 → to_z w64 (of_z w64 box.bottom) ≡ box.bottom
   bottom-read low = let p = on-plane low in let a = p.north in let b = p.rows in let c = p.south in omega (arith, ints, a, b, c)
 
-  -- a square of this level has a side as long as the box
-  module _ (j : ℕ) (wide : box.right <ℤ (box.left +ℤ pos (2 ^ j))) (tall : box.bottom <ℤ (box.top +ℤ pos (2 ^ j))) where
-    abbrev c : ℤ
-    c = neg_ℤ (pos (2 ^ j))
+  -- a cell at the end of each side that is farther from its origin
+  far-column : (last : Bool) → (y : ℤ) × (tree_cell t (far_end last box.left box.right) y ≢ 0)
+  far-column false = least.at_right
+  far-column true = least.at_left
+
+  far-row : (last : Bool) → (x : ℤ) × (tree_cell t x (far_end last box.top box.bottom) ≢ 0)
+  far-row false = least.at_bottom
+  far-row true = least.at_top
+
+  -- a square of this level has a side as long as the box, which is moved into a corner of it
+  module _ (a b : Bool) (j : ℕ) (wide : box.right <ℤ (box.left +ℤ pos (2 ^ j))) (tall : box.bottom <ℤ (box.top +ℤ pos (2 ^ j))) where
+    abbrev ox : ℤ
+    ox = side_origin a box.left box.right
+
+    abbrev oy : ℤ
+    oy = side_origin b box.top box.bottom
+
+    abbrev g : ℤ → ℤ → ℕ
+    g = cells_from t ox oy
 
     -- where a cell goes
-    goes : (x y : ℤ) → g x y ≢ 0 → (pos 0 ≤ℤ x) × (x <ℤ pos (2 ^ j)) × (pos 0 ≤ℤ y) × (y <ℤ pos (2 ^ j))
+    goes : AreInQuarter g (not a) (not b) j
     goes x y some =
         let in-box = least.inside _ _ some in
-        let a = in-box.0 in
-        let b = in-box.1 in
-        let d = in-box.2 in
-        let e = in-box.3 in
-        (omega (arith, ints, a), omega (arith, ints, b, wide), omega (arith, ints, d), omega (arith, ints, e, tall))
-
-    west-zero : (x y : ℤ) → x <ℤ pos 0 → g x y ≡ 0
-    west-zero x y l = zero_unless _ (λ some. let a = (goes x y some).0 in omega (arith, ints, a, l))
-
-    north-zero : (x y : ℤ) → y <ℤ pos 0 → g x y ≡ 0
-    north-zero x y l = zero_unless _ (λ some. let a = (goes x y some).2 in omega (arith, ints, a, l))
+        let column = side-in-quarter a box.left box.right j wide x in-box.0 in-box.1 in
+        let row = side-in-quarter b box.top box.bottom j tall y in-box.2 in-box.3 in
+        (column.0, column.1, row.0, row.1)
 
     outside-zero : (x y : ℤ) → (Inside (2 ^ j) x y → ⊥) → g x y ≡ 0
     outside-zero x y apart = zero_unless _ (λ some.
         let at = goes x y some in
-        let w = at.0 in
-        let e = at.1 in
-        let n = at.2 in
-        let s = at.3 in
-        apart (record { west = omega (arith, ints, w); east = e; north = omega (arith, ints, n); south = s }))
+        let column = quarter-inside (not a) j x at.0 at.1 in
+        let row = quarter-inside (not b) j y at.2 at.3 in
+        apart (record { west = column.0; east = column.1; north = row.0; south = row.1 }))
 
-    middle : step_ahead c (2 ^ j) ≡ pos 0
-    middle = omega (arith, ints)
+    -- where the square of the box begins
+    abbrev sx : ℤ
+    sx = side_start a box.left box.right j
 
-    -- the square that begins at the box is the south-eastern quarter of that of the moved cells
-    quarter-is : (inner : Tree) → IsFull inner → depth inner ≡ j → IsPiece (tree_cell t) box.left box.top inner
-        → quad (blank j) (blank j) (blank j) inner ≡ square_from g (suc j) c c
+    abbrev sy : ℤ
+    sy = side_start b box.top box.bottom j
+
+    -- that square is a quarter of the one of the moved cells
+    quarter-is : (inner : Tree) → IsFull inner → depth inner ≡ j → IsPiece (tree_cell t) sx sy inner
+        → corner_square (not a) (not b) inner (blank j) ≡ square_from g (suc j) (middle_start j) (middle_start j)
     quarter-is inner full level piece =
-        let m = middle in
-        let blank-at : (u v : ℤ) → ((x y : ℤ) → u ≤ℤ x → x <ℤ step_ahead u (2 ^ j) → v ≤ℤ y → y <ℤ step_ahead v (2 ^ j) → g x y ≡ 0)
-        → blank j ≡ square_from g j u v = (λ u v zeros.
-        piece-is g j u v (blank j) (full-blank j) (depth-blank j) (blank-of_zero g j u v (record { zero_at = zeros }))) in
-        let ex : box.left ≡ step_ahead c (2 ^ j) +ℤ box.left = omega (arith, ints) in
-        let ey : box.top ≡ step_ahead c (2 ^ j) +ℤ box.top = omega (arith, ints) in
-        let quarters : AreParts g j c c (blank j) (blank j) (blank j) inner = record {
-          nw = blank-at c c (λ x y w e n s. west-zero x y (omega (arith, ints, e, m)));
-          ne = blank-at _ c (λ x y w e n s. north-zero x y (omega (arith, ints, s, m)));
-          sw = blank-at c _ (λ x y w e n s. west-zero x y (omega (arith, ints, e, m)));
-          se = piece-is g j _ _ inner full level (piece-from (tree_cell t) box.left box.top inner _ _ (IsPiece-moved (tree_cell t) _ _ _ _ inner ex ey piece));
-        } in
-        joined-is quarters
+        corner-is g j inner full level (not a) (not b) goes
+        (piece-from (tree_cell t) ox oy inner _ _
+        (IsPiece-moved (tree_cell t) _ _ _ _ inner (side-begins a box.left box.right j) (side-begins b box.top box.bottom j) piece))
 
-    -- the square that begins at the box, from the other origin
-    inner-square : square_from (tree_cell t) j box.left box.top ≡ square_from g j (step_ahead c (2 ^ j)) (step_ahead c (2 ^ j))
+    -- it is the square from the other origin
+    inner-square : square_from (tree_cell t) j sx sy ≡ square_from g j (quarter_start (not a) j) (quarter_start (not b) j)
     inner-square =
-        let m = middle in
-        let ex : box.left ≡ step_ahead c (2 ^ j) +ℤ box.left = omega (arith, ints, m) in
-        let ey : box.top ≡ step_ahead c (2 ^ j) +ℤ box.top = omega (arith, ints, m) in
-        (λ i. square_from (tree_cell t) j (ex i) (ey i)) ∙ square-from (tree_cell t) box.left box.top j _ _
+        let ex = side-begins a box.left box.right j in
+        let ey = side-begins b box.top box.bottom j in
+        (λ i. square_from (tree_cell t) j (ex i) (ey i)) ∙ square-from (tree_cell t) ox oy j _ _
 
     -- ---- on the plane, from this level on
 
@@ -283,19 +303,19 @@ module _ (t : Tree) (box : Bounds) (least : IsBoundingBoxOfTree t box) (high : 1
       below x y = cell-below t full _ _
 
       abbrev root : Tree
-      root = square_from g (suc j) c c
+      root = square_from g (suc j) (middle_start j) (middle_start j)
 
       full-root : IsFull root
-      full-root = full-square g below (suc j) c c
+      full-root = full-square g below (suc j) _ _
 
       deep-root : depth root ≡ suc j
-      deep-root = depth-square g (suc j) c c
+      deep-root = depth-square g (suc j) _ _
 
       abbrev plane : Tree
-      plane = plane_from t box.left box.top
+      plane = plane_from t ox oy
 
       -- the plane of the moved cells, trimmed, is their square one level higher, trimmed
-      root-trimmed : trimmed_square root m ≡ root_from t box.left box.top m
+      root-trimmed : trimmed_square root m ≡ root_from t ox oy m
       root-trimmed =
           let side : 2 ^ j ≤ 2 ^ 61 = pow_mono {i = j} {j = 61} (omega (arith, low)) in
           let higher : (x y : ℤ) → Inside (2 ^ j) x y → Inside (2 ^ 61) x y = (λ x y i.
@@ -316,36 +336,39 @@ module _ (t : Tree) (box : Bounds) (least : IsBoundingBoxOfTree t box) (high : 1
           ∙ sym (centre-cells g below 61 (λ u v apart. outside-zero u v (λ i. apart (higher u v i))) x y))
 
       -- a cell of the box, from the other origin
-      moved-cell : (x y : ℤ) → tree_cell t x y ≢ 0 → tree_cell root (x +ℤ neg_ℤ box.left) (y +ℤ neg_ℤ box.top) ≢ 0
+      moved-cell : (x y : ℤ) → tree_cell t x y ≢ 0 → tree_cell root (x +ℤ neg_ℤ ox) (y +ℤ neg_ℤ oy) ≢ 0
       moved-cell x y some e =
-          let ex : (x +ℤ neg_ℤ box.left) +ℤ box.left ≡ x = omega (arith, ints) in
-          let ey : (y +ℤ neg_ℤ box.top) +ℤ box.top ≡ y = omega (arith, ints) in
+          let ex : (x +ℤ neg_ℤ ox) +ℤ ox ≡ x = omega (arith, ints) in
+          let ey : (y +ℤ neg_ℤ oy) +ℤ oy ≡ y = omega (arith, ints) in
           some (sym (λ i. tree_cell t (ex i) (ey i)) ∙ sym (centre-cells g below j outside-zero _ _) ∙ e)
 
       root-still : IsTight box j m → trimmed_square root m ≡ root
       root-still (inl e) = (trimming_stops root m full-root positive).1 (omega (arith, deep-root, e))
       root-still (inr (inl l)) =
-          trim-reach root full-root m positive j deep-root _ _ (moved-cell _ _ least.at_right.1) (inl (omega (arith, ints, l)))
+          let cell = far-column a in
+          trim-reach root full-root m positive j deep-root _ _ (moved-cell _ _ cell.1)
+          (λ i. far-from-origin a box.left box.right (2 ^ (j - 1)) l i.west i.east)
       root-still (inr (inr l)) =
-          trim-reach root full-root m positive j deep-root _ _ (moved-cell _ _ least.at_bottom.1) (inr (omega (arith, ints, l)))
+          let cell = far-row b in
+          trim-reach root full-root m positive j deep-root _ _ (moved-cell _ _ cell.1)
+          (λ i. far-from-origin b box.top box.bottom (2 ^ (j - 1)) l i.north i.south)
 
-      root-is : IsTight box j m → root ≡ root_from t box.left box.top m
+      root-is : IsTight box j m → root ≡ root_from t ox oy m
       root-is tight = sym (root-still tight) ∙ root-trimmed
 
-      pub joined-root : IsTight box j m → (inner : Tree) → IsFull inner → depth inner ≡ j → IsPiece (tree_cell t) box.left box.top inner
-          → quad (blank j) (blank j) (blank j) inner ≡ root_from t box.left box.top m
+      pub joined-root : IsTight box j m → (inner : Tree) → IsFull inner → depth inner ≡ j → IsPiece (tree_cell t) sx sy inner
+          → corner_square (not a) (not b) inner (blank j) ≡ root_from t ox oy m
       joined-root tight inner whole level piece = quarter-is inner whole level piece ∙ root-is tight
 
-      -- the root itself, and a part of the square that begins at the box
-      pub own-root : IsTight box j m → (P : Tree → Type 0) (inner : Tree) → IsFull inner → depth inner ≡ j → IsPiece (tree_cell t) box.left box.top inner
-          → P (quad (blank j) (blank j) (blank j) inner) → SomePart P (root_from t box.left box.top m)
+      -- the root itself, and a part of the square of the box
+      pub own-root : IsTight box j m → (P : Tree → Type 0) (inner : Tree) → IsFull inner → depth inner ≡ j → IsPiece (tree_cell t) sx sy inner
+          → P (corner_square (not a) (not b) inner (blank j)) → SomePart P (root_from t ox oy m)
       own-root tight P inner whole level piece p =
-          subst (SomePart P) (root-is tight) (own-part P g j c c _ (quarter-is inner whole level piece) p)
+          subst (SomePart P) (root-is tight) (own-part P g j _ _ _ (quarter-is inner whole level piece) p)
 
-      pub inner-part : IsTight box j m → (P : Tree → Type 0) → SomePart P (square_from (tree_cell t) j box.left box.top)
-          → SomePart P (root_from t box.left box.top m)
+      pub inner-part : IsTight box j m → (P : Tree → Type 0) → SomePart P (square_from (tree_cell t) j sx sy) → SomePart P (root_from t ox oy m)
       inner-part tight P s =
-          subst (SomePart P) (root-is tight) (quarter-part P g j c c (inr (inr (inr (subst (SomePart P) inner-square s)))))
+          subst (SomePart P) (root-is tight) (corner-part P g j (not a) (not b) (subst (SomePart P) inner-square s))
 
 -- the square of the plane that begins at another place
 pub plane-is : (t r : Tree) (a b x0 y0 : ℤ) → IsFull r → depth r ≡ 62 → x0 ≡ neg_ℤ (pos (2 ^ 61)) +ℤ neg_ℤ a → y0 ≡ neg_ℤ (pos (2 ^ 61)) +ℤ neg_ℤ b

@@ -1,6 +1,5 @@
 -- Squares side by side, as pieces of a plane of cells.
-use Rattle.std.specs.Prelude.{◌≡◌, ℕ, ◌+◌, ◌-◌, ◌*◌, ◌%◌, ◌^◌, ◌<◌, ℤ, pos, neg_ℤ, ◌+ℤ◌, ◌≤ℤ◌, ◌<ℤ◌, Bool, true, false, if◌then◌else◌}
-use Rattle.std.specs.Int.{bit_at}
+use Rattle.std.specs.Prelude.{◌≡◌, ℕ, ◌+◌, ◌-◌, ◌%◌, ◌^◌, ℤ, pos, neg_ℤ, ◌+ℤ◌, ◌≤ℤ◌, ◌<ℤ◌, Bool, true, false, if◌then◌else◌}
 use Rattle.life_base.specs.Tree.{Tree, tree_cell}
 use Rattle.life_base.specs.declared.cell.TheConstants.{MAX_LEVEL}
 use Rattle.life_quad.specs.Moves.{trimmed_square}
@@ -91,10 +90,6 @@ module _ (content : Id → Tree) (cells : ℤ → ℤ → ℕ) (side : ℕ) (x :
     pub sw : IsPiece cells x (step_ahead y side) (content block.sw)
     pub se : IsPiece cells (step_ahead x side) (step_ahead y side) (content block.se)
 
--- the word has the states of eight rows of eight cells from the column x and the row y on, the north-western one in the highest bit
-abbrev pub HasRows : (ℤ → ℤ → ℕ) → ℤ → ℤ → ℕ → Type 0
-HasRows cells x y word = (r i : ℕ) → r < 8 → i < 8 → bit_at word (63 - (8 * r + i)) ≡ cells (x +ℤ pos i) (y +ℤ pos r)
-
 -- four squares of level k are pieces of the plane, and the square of that level which begins so many columns and rows behind them, as far as their side
 -- length leaves of these numbers, begins at this place
 pub record HasBlockAt (content : Id → Tree) (cells : ℤ → ℤ → ℕ) (columns rows k : ℕ) (x y : ℤ) (block : Quarters) : Type 0 where
@@ -124,6 +119,16 @@ cells_from t columns rows x y = tree_cell t (x +ℤ columns) (y +ℤ rows)
 abbrev pub plane_from : Tree → ℤ → ℤ → Tree
 plane_from t columns rows =
     let corner = neg_ℤ (pos (2 ^ (MAX_LEVEL - 1))) in square_from (cells_from t columns rows) MAX_LEVEL corner corner
+
+-- where columns or rows are counted from so that a side of a box begins at 0, or ends at -1
+abbrev pub side_origin : Bool → ℤ → ℤ → ℤ
+side_origin false low high = low
+side_origin true low high = high +ℤ pos 1
+
+-- where a side of a square of level k begins that begins with a side of a box, or ends with it
+abbrev pub side_start : Bool → ℤ → ℤ → ℕ → ℤ
+side_start false low high k = low
+side_start true low high k = (high +ℤ pos 1) +ℤ neg_ℤ (pos (2 ^ k))
 
 -- the same plane, trimmed, but not below this level
 abbrev pub root_from : Tree → ℤ → ℤ → ℕ → Tree

@@ -29,7 +29,7 @@ fn placed(place: i64, level: u8) -> (bool, u64)
 }
 
 // A square in one corner of four, two by two, and another square everywhere else.
-fn in_corner(east: bool, south: bool, id: Id, other: Id) -> Quarters
+pub(crate) fn in_corner(east: bool, south: bool, id: Id, other: Id) -> Quarters
     ensures { result ≡ in_corner east south id other }
 {
     Quarters {

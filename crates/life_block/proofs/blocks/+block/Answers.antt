@@ -176,3 +176,14 @@ next_of_middle-returns-then-level-eq2-clause-adds g m c =
     let content = g.S.Squares.content c.args.squares.now in
     adds-as _ c.next_of_leaf.ensures.adds
     (λ P. subst (λ (k : ℕ). SomeOfSixteen P c.args.rule.now content k c.args.sixteen.now) (sym c.if-level-eq2.true))
+
+pub next_of_middle-returns-then-level-eq3-clause-remembers : goal.next_of_middle-returns-then-level-eq3-clause-remembers
+next_of_middle-returns-then-level-eq3-clause-remembers g m c =
+    let leaves = c.next_of_leaves.ensures in
+    IfOk-weaker c.next_of_leaves.result _ _ (λ r at. Remembers-kept leaves.keeps c.requires.remembers) leaves.at
+
+pub next_of_middle-returns-then-level-eq3-clause-adds : goal.next_of_middle-returns-then-level-eq3-clause-adds
+next_of_middle-returns-then-level-eq3-clause-adds g m c =
+    let content = g.S.Squares.content c.args.squares.now in
+    adds-as _ c.next_of_leaves.ensures.adds
+    (λ P. subst (λ (k : ℕ). SomeOfSixteen P c.args.rule.now content k c.args.sixteen.now) (sym c.if-level-eq3.true))

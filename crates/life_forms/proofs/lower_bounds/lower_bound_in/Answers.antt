@@ -1,5 +1,9 @@
-use Rattle.std.proofs.Common.{◌≡◌, ◌≤◌, ℕ, Bool, true, false, min, Option, Some, None, IfSome, refl, sym, ◌∙◌, subst₂, arith}
+use Rattle.std.proofs.Common.{◌≡◌, ◌≤◌, ℕ, Bool, true, false, min, Option, Some, None, IfSome, refl, sym, ◌+◌, ◌∙◌, subst, subst₂, arith, true≢false}
 use Rattle.life_base.specs.declared.rule.Rule.{Rule}
+use Rattle.life_base.specs.declared.rule.Rule.TheVariants.{Life, Named}
+use Rattle.life_mc.specs.Macrocell.{largest_state}
+use Rattle.life_mc.specs.Squares.{HasStatesUpTo}
+use Rattle.life_canon.specs.Universe.{is_life}
 use Rattle.life_quad.specs.Turning.{turned_tree}
 use Rattle.life_quad.proofs.LawLemmas.{known_squares_are_full}
 use Rattle.life_canon.specs.Lesser.{IsUpTo}
@@ -9,6 +13,7 @@ use Rattle.life_slide.proofs.MovedLemmas.{cell-below}
 use Rattle.life_forms.specs.Turns.{turn_of}
 use Rattle.life_forms.proofs.AreaFacts.{most_parts}
 use Rattle.life_forms.proofs.CornerFacts.{bound-of-leaf, life-low}
+use Rattle.life_forms.proofs.PatternFacts.{cell-up-to}
 use Rattle.life_forms.proofs.PlaneFacts.{box-of-square, columns-ordered, outside-blank, rows-ordered}
 use Rattle.life_forms.proofs.lower_bounds.lower_bound_in.Goals as goal
 
@@ -26,6 +31,10 @@ both-some : {A : Type 0} (o : Option A) (P Q R : A → Type 0) → ((a : A) → 
 both-some (Some a) P Q R f p q = f a p q
 both-some None P Q R f p q = tt
 
+life-states : (rule : Rule) → is_life rule ≡ true → largest_state rule ≡ 1
+life-states (Life sets) life = refl
+life-states (Named name) life = absurd (true≢false (sym life))
+
 pub returns : goal.returns
 returns c =
     let u = universe_in c.args.store.now c.args.pattern.now in
@@ -35,13 +44,15 @@ returns c =
     let middling = c.is_middling.ensures c.if-not-is_middling.false in
     let most = min 2097152 c.args.store.now.limit in
     let parts : most_parts 11 ≡ 1398101 = refl in
-    let enough : most_parts 11 ≤ most = omega (arith, parts, c.most_squares.ensures, c.if-most_squares-lt-SQUARES_OF_LEVEL_11.false) in
+    let enough : 65552 + most_parts 11 ≤ most = omega (arith, parts, c.most_squares.ensures, c.if-most_squares-lt-SQUARES_OF_LEVEL_13.false) in
     let of_leaf = c.in_ok-leaf.ensures in
     let leaf = content c.corner_leaf.new.leaves c.in_ok-leaf.leaf.root in
     let text-of = λ (exchange : Bool) (r : Rule) (g : ℕ). square_text r g (turned_tree (turn_of exchange c.args.columns c.args.rows) leaf) in
     both-some c.lesser_leaf_text.result _ _ _
     (λ text first second.
-    bound-of-leaf c.squares_are_centred.ensures u life (life-low u.rule life) (cell-below t known.0) (outside-blank t known.1) c.args.found.now
+    bound-of-leaf c.squares_are_centred.ensures u life (life-low u.rule life) (cell-below t known.0)
+    (λ x y. cell-up-to 1 t (subst (λ (m : ℕ). HasStatesUpTo m t) (life-states u.rule life) c.requires.trimmed.states) x y)
+    (outside-blank t known.1) c.args.found.now
     (box-of-square t c.args.found.now c.requires.bounds) middling c.args.columns c.args.rows most enough leaf of_leaf.leaf text.items
     (subst₂ (λ (r : Rule) (g : ℕ). IsUpTo text.items (text-of false r g)) of_leaf.rule of_leaf.generation first)
     (subst₂ (λ (r : Rule) (g : ℕ). IsUpTo text.items (text-of true r g)) of_leaf.rule of_leaf.generation second))

@@ -1,10 +1,9 @@
-use Rattle.std.proofs.Common.{◌≡◌, ◌⊎◌, inl, inr, ℕ, suc, ◌<◌, ◌≤◌, ◌-◌, ◌^◌, pos, ◌+ℤ◌, ◌<ℤ◌, refl, sym, ◌∙◌, subst, arith, to_z, of_z, w64}
-use Rattle.std.proofs.lemmas.Int.{ints}
+use Rattle.std.proofs.Common.{◌≡◌, not, Bool, ℤ, ap, ◌⊎◌, inl, inr, ℕ, suc, ◌<◌, ◌≤◌, ◌-◌, ◌^◌, pos, ◌+ℤ◌, ◌<ℤ◌, sym, ◌∙◌, subst, arith, to_z, of_z, w64, SFits}
+use Rattle.std.proofs.lemmas.Int.{ints, to_z-of_z}
 use Rattle.std.proofs.lemmas.Result.{IfOk-weaker}
 use Rattle.life_base.specs.Tree.{Tree, depth, blank, quad, tree_cell}
 use Rattle.life_base.specs.declared.bounds.Bounds.{Bounds}
 use Rattle.life_base.proofs.Results.{on_err_any, on_err_both}
-use Rattle.life_base.proofs.Squares.{same_quads}
 use Rattle.life_quad.specs.Cells.{IsBoundingBoxOfTree}
 use Rattle.life_quad.specs.Refused.{SomePart}
 use Rattle.life_quad.proofs.KeepingLemmas.{keeps-then, adds-as}
@@ -13,11 +12,12 @@ use Rattle.life_block.specs.Needed.{square_from}
 use Rattle.life_block.specs.Pieces.{IsPiece}
 use Rattle.life_block.proofs.NeedLemmas.{still-needs}
 use Rattle.life_block.proofs.PieceLemmas.{IsPiece-moved}
-use Rattle.life_slide.specs.Pieces.{IsNearMiddle, root_from}
-use Rattle.life_slide.proofs.MovedLemmas.{bottom-read, column-near, columns-inside, inner-part, IsTight, joined-root, left-read, level-fits, on-plane, own-root, right-read, row-near, rows-inside, top-read}
+use Rattle.life_slide.specs.Pieces.{IsNearMiddle, root_from, side_origin, side_start}
+use Rattle.life_slide.proofs.MovedLemmas.{bottom-read, column-starts, columns-inside, inner-part, IsTight, joined-root, left-read, level-fits, on-plane, own-root, right-read, row-starts, rows-inside, top-read}
+use Rattle.life_slide.proofs.QuarterLemmas.{corner-joined, corner_square}
 use Rattle.life_slide.proofs.moved.moved_to_middle.Given.{Over}
 use Rattle.life_slide.proofs.moved.moved_to_middle.Goals as goal
-use Rattle.life_slide.proofs.moved.moved_to_middle.Goals.{After-join, After-square_at}
+use Rattle.life_slide.proofs.moved.moved_to_middle.Goals.{After-join, After-square_at, After-start_at-y}
 
 high-of : (m k : ℕ) → 1 ≤ m → m ≤ k → 1 ≤ k
 high-of m k p h = omega (arith, p, h)
@@ -55,6 +55,17 @@ module _ (t : Tree) (box : Bounds) (bounds : IsBoundingBoxOfTree t box) (high : 
   tight least j columns rows n positive e f (inl a) (inr reach) = inr (inl (omega (arith, ints, e, a, reach)))
   tight least j columns rows n positive e f (inr a) (inr reach) = inr (inr (omega (arith, ints, f, a, reach)))
 
+  -- where the square of the box begins
+  column-is : (last : Bool) (j : ℕ) (x : ℤ) → SFits w64 x
+      → x ≡ side_start last (to_z w64 (of_z w64 box.left)) (to_z w64 (of_z w64 box.right)) j → to_z w64 (of_z w64 x) ≡ side_start last box.left box.right j
+  column-is last j x fits is =
+      to_z-of_z w64 x fits ∙ is ∙ (λ i. side_start last (left-read t box bounds high low i) (right-read t box bounds high low i) j)
+
+  row-is : (last : Bool) (j : ℕ) (y : ℤ) → SFits w64 y
+      → y ≡ side_start last (to_z w64 (of_z w64 box.top)) (to_z w64 (of_z w64 box.bottom)) j → to_z w64 (of_z w64 y) ≡ side_start last box.top box.bottom j
+  row-is last j y fits is =
+      to_z-of_z w64 y fits ∙ is ∙ (λ i. side_start last (top-read t box bounds high low i) (bottom-read t box bounds high low i) j)
+
   columns-near : box.right <ℤ (box.left +ℤ pos (2 ^ 61)) → to_z w64 (of_z w64 box.right) <ℤ (to_z w64 (of_z w64 box.left) +ℤ pos (2 ^ 61))
   columns-near h =
       let l = left-read t box bounds high low in
@@ -67,8 +78,8 @@ module _ (t : Tree) (box : Bounds) (bounds : IsBoundingBoxOfTree t box) (high : 
       let r = bottom-read t box bounds high low in
       omega (arith, ints, l, r, h)
 
-pub distance-columns-requires-clause-order : goal.distance-columns-requires-clause-order
-distance-columns-requires-clause-order g c =
+pub distance-width-requires-clause-order : goal.distance-width-requires-clause-order
+distance-width-requires-clause-order g c =
     let t = g.S.Squares.content c.args.from.now c.args.id in
     let box = c.args.found.now in
     let high = high-of _ _ c.requires.positive c.requires.high in
@@ -78,14 +89,14 @@ distance-columns-requires-clause-order g c =
     let o = (on-plane t box c.requires.bounds high low).columns in
     omega (arith, ints, l, r, o)
 
-pub distance-columns-requires-clause-near : goal.distance-columns-requires-clause-near
-distance-columns-requires-clause-near g c =
+pub distance-width-requires-clause-near : goal.distance-width-requires-clause-near
+distance-width-requires-clause-near g c =
     let t = g.S.Squares.content c.args.from.now c.args.id in
     let low = g.met.S.Squares.low _ _ c.requires.known in
     columns-near t c.args.found.now c.requires.bounds (high-of _ _ c.requires.positive c.requires.high) low c.requires.columns
 
-pub distance-rows-requires-clause-order : goal.distance-rows-requires-clause-order
-distance-rows-requires-clause-order g c =
+pub distance-height-requires-clause-order : goal.distance-height-requires-clause-order
+distance-height-requires-clause-order g c =
     let t = g.S.Squares.content c.args.from.now c.args.id in
     let box = c.args.found.now in
     let high = high-of _ _ c.requires.positive c.requires.high in
@@ -95,40 +106,117 @@ distance-rows-requires-clause-order g c =
     let o = (on-plane t box c.requires.bounds high low).rows in
     omega (arith, ints, l, r, o)
 
-pub distance-rows-requires-clause-near : goal.distance-rows-requires-clause-near
-distance-rows-requires-clause-near g c =
+pub distance-height-requires-clause-near : goal.distance-height-requires-clause-near
+distance-height-requires-clause-near g c =
     let t = g.S.Squares.content c.args.from.now c.args.id in
     let low = g.met.S.Squares.low _ _ c.requires.known in
     rows-near t c.args.found.now c.requires.bounds (high-of _ _ c.requires.positive c.requires.high) low c.requires.rows
 
 pub level_of_side-level-requires-clause-near : goal.level_of_side-level-requires-clause-near
 level_of_side-level-requires-clause-near g c =
-    greatest-below _ _ _ _ c.greater.ensures.one c.distance-columns.ensures.near c.distance-rows.ensures.near
+    greatest-below _ _ _ _ c.greater.ensures.one c.distance-width.ensures.near c.distance-height.ensures.near
 
-pub square_at-requires-clause-low : goal.square_at-requires-clause-low
-square_at-requires-clause-low g c =
+pub start_at-x-requires-clause-level : goal.start_at-x-requires-clause-level
+start_at-x-requires-clause-level g c = c.level_of_side-level.ensures.high
+
+pub start_at-x-requires-clause-low : goal.start_at-x-requires-clause-low
+start_at-x-requires-clause-low g c =
+    let t = g.S.Squares.content c.args.from.now c.args.id in
+    let box = c.args.found.now in
+    let high = high-of _ _ c.requires.positive c.requires.high in
+    let low = g.met.S.Squares.low _ _ c.requires.known in
+    let l = left-read t box c.requires.bounds high low in
+    let w = (on-plane t box c.requires.bounds high low).west in
+    omega (arith, ints, l, w)
+
+pub start_at-x-requires-clause-order : goal.start_at-x-requires-clause-order
+start_at-x-requires-clause-order g c =
+    let t = g.S.Squares.content c.args.from.now c.args.id in
+    let box = c.args.found.now in
+    let high = high-of _ _ c.requires.positive c.requires.high in
+    let low = g.met.S.Squares.low _ _ c.requires.known in
+    let l = left-read t box c.requires.bounds high low in
+    let r = right-read t box c.requires.bounds high low in
+    let o = (on-plane t box c.requires.bounds high low).columns in
+    omega (arith, ints, l, r, o)
+
+pub start_at-x-requires-clause-high : goal.start_at-x-requires-clause-high
+start_at-x-requires-clause-high g c =
+    let t = g.S.Squares.content c.args.from.now c.args.id in
+    let box = c.args.found.now in
+    let high = high-of _ _ c.requires.positive c.requires.high in
+    let low = g.met.S.Squares.low _ _ c.requires.known in
+    let r = right-read t box c.requires.bounds high low in
+    let e = (on-plane t box c.requires.bounds high low).east in
+    omega (arith, ints, r, e)
+
+pub start_at-y-requires-clause-level : goal.start_at-y-requires-clause-level
+start_at-y-requires-clause-level g c = c.level_of_side-level.ensures.high
+
+pub start_at-y-requires-clause-low : goal.start_at-y-requires-clause-low
+start_at-y-requires-clause-low g c =
+    let t = g.S.Squares.content c.args.from.now c.args.id in
+    let box = c.args.found.now in
+    let high = high-of _ _ c.requires.positive c.requires.high in
+    let low = g.met.S.Squares.low _ _ c.requires.known in
+    let l = top-read t box c.requires.bounds high low in
+    let w = (on-plane t box c.requires.bounds high low).north in
+    omega (arith, ints, l, w)
+
+pub start_at-y-requires-clause-order : goal.start_at-y-requires-clause-order
+start_at-y-requires-clause-order g c =
+    let t = g.S.Squares.content c.args.from.now c.args.id in
+    let box = c.args.found.now in
+    let high = high-of _ _ c.requires.positive c.requires.high in
+    let low = g.met.S.Squares.low _ _ c.requires.known in
+    let l = top-read t box c.requires.bounds high low in
+    let r = bottom-read t box c.requires.bounds high low in
+    let o = (on-plane t box c.requires.bounds high low).rows in
+    omega (arith, ints, l, r, o)
+
+pub start_at-y-requires-clause-high : goal.start_at-y-requires-clause-high
+start_at-y-requires-clause-high g c =
+    let t = g.S.Squares.content c.args.from.now c.args.id in
+    let box = c.args.found.now in
+    let high = high-of _ _ c.requires.positive c.requires.high in
+    let low = g.met.S.Squares.low _ _ c.requires.known in
+    let r = bottom-read t box c.requires.bounds high low in
+    let e = (on-plane t box c.requires.bounds high low).south in
+    omega (arith, ints, r, e)
+
+level : (g : Over) (c : After-start_at-y g) → c.level_of_side-level.result ≤ depth (g.S.Squares.content c.args.from.now c.args.id)
+level g c =
     let t = g.S.Squares.content c.args.from.now c.args.id in
     let box = c.args.found.now in
     let bounds = c.requires.bounds in
     let high = high-of _ _ c.requires.positive c.requires.high in
     let low = g.met.S.Squares.low _ _ c.requires.known in
-    level-low t box bounds high low c.args.least c.level_of_side-level.result c.distance-columns.result c.distance-rows.result c.greater.result
-    (is-far t box bounds high low _ c.distance-columns.ensures.distance) (is-deep t box bounds high low _ c.distance-rows.ensures.distance)
+    level-low t box bounds high low c.args.least c.level_of_side-level.result c.distance-width.result c.distance-height.result c.greater.result
+    (is-far t box bounds high low _ c.distance-width.ensures.distance) (is-deep t box bounds high low _ c.distance-height.ensures.distance)
     c.greater.ensures.one c.requires.high c.level_of_side-level.ensures.least
+
+pub square_at-requires-clause-low : goal.square_at-requires-clause-low
+square_at-requires-clause-low g c = level g (goal.at.square_at-requires-clause-low g c).After-start_at-y
 
 pub square_at-requires-clause-column : goal.square_at-requires-clause-column
 square_at-requires-clause-column g c =
     let t = g.S.Squares.content c.args.from.now c.args.id in
+    let box = c.args.found.now in
     let high = high-of _ _ c.requires.positive c.requires.high in
-    subst (IsNearMiddle (depth t)) (sym (left-read t c.args.found.now c.requires.bounds high (g.met.S.Squares.low _ _ c.requires.known)))
-    (column-near t c.args.found.now c.requires.bounds high)
+    let low = g.met.S.Squares.low _ _ c.requires.known in
+    subst (IsNearMiddle (depth t)) (sym (column-is t box c.requires.bounds high low c.args.columns _ _
+    (record { sfits = c.start_at-x.type_inv }) c.start_at-x.ensures))
+    (column-starts t box c.requires.bounds high c.args.columns _ (level g (goal.at.square_at-requires-clause-column g c).After-start_at-y))
 
 pub square_at-requires-clause-row : goal.square_at-requires-clause-row
 square_at-requires-clause-row g c =
     let t = g.S.Squares.content c.args.from.now c.args.id in
+    let box = c.args.found.now in
     let high = high-of _ _ c.requires.positive c.requires.high in
-    subst (IsNearMiddle (depth t)) (sym (top-read t c.args.found.now c.requires.bounds high (g.met.S.Squares.low _ _ c.requires.known)))
-    (row-near t c.args.found.now c.requires.bounds high)
+    let low = g.met.S.Squares.low _ _ c.requires.known in
+    subst (IsNearMiddle (depth t)) (sym (row-is t box c.requires.bounds high low c.args.rows _ _
+    (record { sfits = c.start_at-y.type_inv }) c.start_at-y.ensures))
+    (row-starts t box c.requires.bounds high c.args.rows _ (level g (goal.at.square_at-requires-clause-row g c).After-start_at-y))
 
 -- what is known of the box and the level of its square
 record Fit (t : Tree) (box : Bounds) (j least : ℕ) : Type 0 where
@@ -145,8 +233,8 @@ fit g c =
     let bounds = c.requires.bounds in
     let high = high-of _ _ c.requires.positive c.requires.high in
     let low = g.met.S.Squares.low _ _ c.requires.known in
-    let e = is-far t box bounds high low _ c.distance-columns.ensures.distance in
-    let f = is-deep t box bounds high low _ c.distance-rows.ensures.distance in
+    let e = is-far t box bounds high low _ c.distance-width.ensures.distance in
+    let f = is-deep t box bounds high low _ c.distance-height.ensures.distance in
     let j = c.level_of_side-level.ensures in
     let a = c.greater.ensures.first in
     let b = c.greater.ensures.second in
@@ -161,21 +249,21 @@ fit g c =
       is_tight = tight t box bounds high low _ _ _ _ _ c.requires.positive e f c.greater.ensures.one j.least;
     }
 
--- a part of the square that begins at the box is one of the root
+-- a part of the square of the box is one of the root
 part : (g : Over) (c : After-square_at g) (P : Tree → Type 0) → let t = g.S.Squares.content c.args.from.now c.args.id in
     let box = c.args.found.now in
-    SomePart P (square_from (tree_cell t) c.level_of_side-level.result (to_z w64 (of_z w64 box.left)) (to_z w64 (of_z w64 box.top)))
-    → SomePart P (root_from t box.left box.top c.args.least)
+    SomePart P (square_from (tree_cell t) c.level_of_side-level.result (to_z w64 (of_z w64 c.start_at-x.result)) (to_z w64 (of_z w64 c.start_at-y.result)))
+    → SomePart P (root_from t (side_origin c.args.columns box.left box.right) (side_origin c.args.rows box.top box.bottom) c.args.least)
 part g c P some =
     let t = g.S.Squares.content c.args.from.now c.args.id in
     let box = c.args.found.now in
     let high = high-of _ _ c.requires.positive c.requires.high in
     let low = g.met.S.Squares.low _ _ c.requires.known in
-    let ex = left-read t box c.requires.bounds high low in
-    let ey = top-read t box c.requires.bounds high low in
+    let ex = column-is t box c.requires.bounds high low c.args.columns _ _ (record { sfits = c.start_at-x.type_inv }) c.start_at-x.ensures in
+    let ey = row-is t box c.requires.bounds high low c.args.rows _ _ (record { sfits = c.start_at-y.type_inv }) c.start_at-y.ensures in
     let f = fit g c in
-    inner-part t box c.requires.bounds high c.level_of_side-level.result f.wide f.tall (g.met.S.Squares.full _ _ c.requires.known) f.low c.args.least
-    c.requires.positive f.le f.is_tight P
+    inner-part t box c.requires.bounds high c.args.columns c.args.rows c.level_of_side-level.result f.wide f.tall (g.met.S.Squares.full _ _ c.requires.known)
+    f.low c.args.least c.requires.positive f.le f.is_tight P
     (subst (SomePart P) (λ i. square_from (tree_cell t) c.level_of_side-level.result (ex i) (ey i)) some)
 
 pub returns-in_err-quarter-clause-needed : goal.returns-in_err-quarter-clause-needed
@@ -188,35 +276,46 @@ pub returns-in_err-quarter-clause-adds : goal.returns-in_err-quarter-clause-adds
 returns-in_err-quarter-clause-adds g c =
     adds-as _ c.in_err-quarter.ensures.adds (part g (goal.at.returns-in_err-quarter-clause-adds g c).After-square_at)
 
--- the square at the box, where it begins
+-- the square of the box, where it begins
 at-box : (g : Over) (c : After-join g) → let t = g.S.Squares.content c.args.from.now c.args.id in
-    IsPiece (tree_cell t) c.args.found.now.left c.args.found.now.top (g.T.Squares.content c.square_at.new.to c.in_ok-quarter.quarter)
+    let box = c.args.found.now in
+    let j = c.level_of_side-level.result in
+    IsPiece (tree_cell t) (side_start c.args.columns box.left box.right j) (side_start c.args.rows box.top box.bottom j)
+    (g.T.Squares.content c.square_at.new.to c.in_ok-quarter.quarter)
 at-box g c =
     let t = g.S.Squares.content c.args.from.now c.args.id in
     let box = c.args.found.now in
     let high = high-of _ _ c.requires.positive c.requires.high in
     let low = g.met.S.Squares.low _ _ c.requires.known in
-    IsPiece-moved (tree_cell t) _ _ _ _ _ (left-read t box c.requires.bounds high low) (top-read t box c.requires.bounds high low)
-    c.in_ok-quarter.ensures.square
+    IsPiece-moved (tree_cell t) _ _ _ _ _ (column-is t box c.requires.bounds high low c.args.columns _ _
+    (record { sfits = c.start_at-x.type_inv }) c.start_at-x.ensures)
+    (row-is t box c.requires.bounds high low c.args.rows _ _ (record { sfits = c.start_at-y.type_inv }) c.start_at-y.ensures) c.in_ok-quarter.ensures.square
 
 -- the square that is joined
 joined : (g : Over) (c : After-join g) → let now = g.T.Squares.content c.square_at.new.to in
-    let j = c.level_of_side-level.result in
-    let b = now c.empty-blank.result in
-    quad b b b (now c.in_ok-quarter.quarter) ≡ quad (blank j) (blank j) (blank j) (now c.in_ok-quarter.quarter)
-joined g c = let b = c.empty-blank.ensures.square in same_quads b b b refl
+    let four = c.in_corner-four.result in
+    quad (now four.nw) (now four.ne) (now four.sw) (now four.se)
+    ≡ corner_square (not c.args.columns) (not c.args.rows) (now c.in_ok-quarter.quarter) (blank c.level_of_side-level.result)
+joined g c =
+    let now = g.T.Squares.content c.square_at.new.to in
+    let quarter = c.in_ok-quarter.quarter in
+    (λ i. let four = c.in_corner-four.ensures i in quad (now four.nw) (now four.ne) (now four.sw) (now four.se))
+    ∙ corner-joined now (not c.args.columns) (not c.args.rows) quarter c.empty.result
+    ∙ ap (corner_square (not c.args.columns) (not c.args.rows) (now quarter)) c.empty.ensures.square
 
 root-part : (g : Over) (c : After-join g) → let t = g.S.Squares.content c.args.from.now c.args.id in
-    Fit t c.args.found.now c.level_of_side-level.result c.args.least → (P : Tree → Type 0) →
+    let box = c.args.found.now in
+    Fit t box c.level_of_side-level.result c.args.least → (P : Tree → Type 0) →
     let now = g.T.Squares.content c.square_at.new.to in
-    let b = now c.empty-blank.result in
-    P (quad b b b (now c.in_ok-quarter.quarter)) → SomePart P (root_from t c.args.found.now.left c.args.found.now.top c.args.least)
+    let four = c.in_corner-four.result in
+    P (quad (now four.nw) (now four.ne) (now four.sw) (now four.se))
+    → SomePart P (root_from t (side_origin c.args.columns box.left box.right) (side_origin c.args.rows box.top box.bottom) c.args.least)
 root-part g c f P p =
     let t = g.S.Squares.content c.args.from.now c.args.id in
     let at = c.in_ok-quarter.ensures.at in
-    own-root t c.args.found.now c.requires.bounds (high-of _ _ c.requires.positive c.requires.high) c.level_of_side-level.result f.wide f.tall
-    (g.met.S.Squares.full _ _ c.requires.known) f.low c.args.least c.requires.positive f.le f.is_tight P _ (g.met.T.Squares.full _ _ at.known) at.level
-    (at-box g c) (subst P (joined g c) p)
+    own-root t c.args.found.now c.requires.bounds (high-of _ _ c.requires.positive c.requires.high) c.args.columns c.args.rows c.level_of_side-level.result
+    f.wide f.tall (g.met.S.Squares.full _ _ c.requires.known) f.low c.args.least c.requires.positive f.le f.is_tight P _ (g.met.T.Squares.full _ _ at.known)
+    at.level (at-box g c) (subst P (joined g c) p)
 
 pub returns-clause-square : goal.returns-clause-square
 returns-clause-square g c =
@@ -224,9 +323,9 @@ returns-clause-square g c =
     let t = g.S.Squares.content c.args.from.now c.args.id in
     let f = fit g (goal.at.returns-clause-square g c).After-square_at in
     let at = c.in_ok-quarter.ensures.at in
-    let root = joined-root t c.args.found.now c.requires.bounds (high-of _ _ c.requires.positive c.requires.high) c.level_of_side-level.result f.wide f.tall
-    (g.met.S.Squares.full _ _ c.requires.known) f.low c.args.least c.requires.positive f.le f.is_tight _ (g.met.T.Squares.full _ _ at.known) at.level
-    (at-box g d) in
+    let root = joined-root t c.args.found.now c.requires.bounds (high-of _ _ c.requires.positive c.requires.high) c.args.columns c.args.rows
+    c.level_of_side-level.result f.wide f.tall (g.met.S.Squares.full _ _ c.requires.known) f.low c.args.least c.requires.positive f.le f.is_tight _
+    (g.met.T.Squares.full _ _ at.known) at.level (at-box g d) in
     IfOk-weaker c.join.result _ _ (λ r e. e ∙ joined g d ∙ root) c.join.ensures.square
 
 pub returns-clause-keeps : goal.returns-clause-keeps
