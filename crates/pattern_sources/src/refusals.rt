@@ -56,7 +56,7 @@ fn word_of(of_table: bool) -> &'static [u8]
     if of_table { b"table line " } else { b"line " }
 }
 
-/// Writes the line of a fault: `line N: NAME`, `table line N: NAME` where the line is one of a table, or `NAME` where it names no line.
+/// Writes the line of a fault: `line N: KIND`, `table line N: KIND` where the line is one of a table, or `KIND` where it names no line.
 fn write_refusal<E: Sink>(err: &mut E, refusal: &Refusal) -> Result<(), Kind>
     requires { E.failures err.old ≡ 0 }
     ensures text { WritesText (E.contents err.old) (E.contents err.new) (fault_line refusal.now)

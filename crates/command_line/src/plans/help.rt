@@ -51,13 +51,13 @@ Exit status:
   4  there isn't enough memory, or more than 2^31 squares are needed
   5  the command line isn't understood
 
-With the statuses 2 to 4 one line on standard error says why. It is `line N: NAME` for
-line N of the file (counted from 1), `table line N: NAME` for line N of a rule table, or
-`NAME` alone. If a file is refused, nothing is written to standard output. With
+With the statuses 2 to 4 one line on standard error says why. It is `line N: KIND` for
+line N of the file (counted from 1), `table line N: KIND` for line N of a rule table, or
+`KIND` alone. If a file is refused, nothing is written to standard output. With
 --explain a sentence follows that line: it says what is wrong and what to do. On a
 terminal you get the sentence without --explain too. `keys` and `duplicates` write one
-line for a file that has no key: its name and the sentence. With status 5 a text on
-standard error says what is wrong; if both files are -, it is the line `TwoInputs`.
+line for a file that has no key: its name, the kind and a sentence. With status 5 a text
+on standard error says what is wrong; if - is named twice, it is the line `TwoInputs`.
 
   NoHeader         the file begins with no header, neither [M2] nor `x = ..`
   BadRule          the rule is empty, too long or has a byte that no rule has
@@ -117,8 +117,8 @@ pub const CANON: Help = Help {
 
 It is a macrocell file: the line `[M2] (canonical 1)`, the rule in its canonical
 form, the generation if it isn't 0, and one line for each different square that isn't
-blank, after the lines of its quarters. Of the squares about the middle of the plane,
-the last one is the smallest that holds the pattern. Every cell keeps its state.
+blank, after the lines of its quarters. The last line is the smallest square about the
+middle of the plane that holds the whole pattern. Every cell keeps its state.
 
 Golly opens the text as a blank pattern if its only square is a leaf of 8 x 8 cells, as
 for a small pattern about (0, 0). Give Golly what `golly_canon convert FILE --to rle`
