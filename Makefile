@@ -9,7 +9,7 @@
 #   make test_packages  the packages of a release, each installed and used in a place of its own
 #   make test_collection   a collection on a cluster of this machine, by the library of make library
 #   make quick     builds the same program without proving it, runs it on FILE=.. and keeps nothing
-#   make plants    tries the wrong bodies that the gate leaves out, before a release
+#   make plants    tries the mutants that the gate leaves out, before a release
 #   make fuzz      compares the program with the independent reader on CASES=.. random files by SEED=..
 #   make fuzz_library  the same of the library for C, its streams too, which takes half the time
 #   make times     runs `rt ci`, and says how much processor time it took for each crate, its tests and its edits

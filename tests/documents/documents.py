@@ -3,8 +3,9 @@
 where a newcomer begins link to Golly and to what describes the formats; the table of sizes in docs/PROOFS.md is what scripts/sizes prints, and no clause
 is wider than 100 columns; each deliberate bug of its table is an edit that changes what the table says, and nothing else; no line of documents,
 definitions and proofs is too wide; the man page has a date; each place that repeats the version has that of the file VERSION; and each place that names
-the kinds of fault has them all, with their numbers (scripts/kinds says which places). And each check in the folders of tests/ is run, by tests/all or by
-another one.
+the kinds of fault has them all, with their numbers (scripts/kinds says which places). Each check in the folders of tests/ is run, by tests/all or by
+another one. And the files that CONTRIBUTING says to extend for a new command have the names that it gives, as those have that ARCHITECTURE follows a
+command through.
 
 usage: tests/documents/documents.py
 """
@@ -36,6 +37,13 @@ WIDE = re.compile(r"\||    |(?:pub )?use ")
 PAGE = "docs/golly_canon.1"
 # A file or folder that a document names by its pattern, as `proofs/MODULE/FUNCTION/`, names no file.
 PATTERN = re.compile(r"[A-Z]{3,}/|/[A-Z]{3,}\b(?!\.(?:md|antt))")
+# The heading of a step that is made in one crate, and a row of its table: a file of the crate, and what to add to it.
+STEP = re.compile(r"\*\*\d+\. `(\w+)`: ")
+PLACE = re.compile(r"\| `([\w/]+\.\w+)` \| (.*) \|")
+# A row of a table of functions: their names, the file that has them, what they do here, and the clauses that say so.
+FUNCTIONS = re.compile(r"(?m)^\| (`[^|]+`) \| `(\w+/src/[\w/]+\.rt)` \| [^|]+ \| ([^|]+) \|$")
+# How many names there are at least in each of these pages, so that a table of another form is noticed.
+NAMES = 30
 
 
 def text_of(path):
@@ -121,6 +129,34 @@ def of_checks():
             yield f"{path}: it is run", path in runs
 
 
+def of_places():
+    """Whether each file has what a row of a table says of it: in CONTRIBUTING the names to extend, in the crate of the step, and in ARCHITECTURE the functions
+    of a command and the clauses of their contracts."""
+    crate, found = "", []
+    for line in text_of("CONTRIBUTING.md").splitlines():
+        if line.startswith(("#", "**")):
+            step = STEP.match(line)
+            crate = step[1] if step else ""
+        row = PLACE.fullmatch(line)
+        if crate and row:
+            found += in_file(f"CONTRIBUTING.md: {crate}", f"crates/{crate}/{row[1]}", row[2])
+    yield f"CONTRIBUTING.md: {NAMES} names or more to extend, and not {len(found)}", len(found) >= NAMES
+    yield from found
+    found = [it for functions, path, clauses in FUNCTIONS.findall(text_of("docs/ARCHITECTURE.md"))
+             for it in in_file("docs/ARCHITECTURE.md", f"crates/{path}", functions + clauses)]
+    yield f"docs/ARCHITECTURE.md: {NAMES} names of functions and clauses or more, and not {len(found)}", len(found) >= NAMES
+    yield from found
+
+
+def in_file(document, path, said):
+    """Whether a file has each name in backticks, but for one that contains NAME, which the reader replaces."""
+    text = text_of(path) if os.path.isfile(os.path.join(TOP, path)) else ""
+    said = re.sub(r"\(its part [^)]*\)", "", said)  # a field of the record that a clause is about
+    for name in sorted(set(re.findall(r"`(?:\w+::)?([A-Za-z_]\w*)`", said))):
+        if "NAME" not in name:
+            yield f"{document}: {path} has {name}", bool(re.search(rf"\b{name}\b", text))
+
+
 def plants(crate, right, planted, edit):
     """Whether an edit of the crate puts `planted` in the place of `right`, once, and changes nothing else."""
     found = glob.glob(os.path.join(TOP, "crates", crate, "*must-fail", f"{edit}.edit"))
@@ -154,11 +190,12 @@ def findings():
     yield "scripts/sizes: clauses of at most 100 columns", " 0 clauses are wider " in f" {printed[-1]} "
     table = set(text_of(SIZES).splitlines())
     for line in printed:
-        yield f"{SIZES}: {line}", line in table
+        yield f"{SIZES}: it has this line of scripts/sizes: {line}", line in table
     yield from of_page()
     yield from of_version()
     yield from of_kinds()
     yield from of_checks()
+    yield from of_places()
     yield from widths()
 
 
