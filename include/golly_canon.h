@@ -115,13 +115,14 @@ enum {
  * For any other number a call returns GOLLY_CANON_NO_FORM. */
 enum {
     GOLLY_CANON_PLACED = 0, /* the pattern as it lies */
-    GOLLY_CANON_MOVED = 1,  /* with its bounding box at (0, 0); columns that would then leave the plane end with the plane instead, and so do rows */
+    GOLLY_CANON_MOVED = 1,  /* with its bounding box at (0, 0); if its columns would then leave the plane, they end at the edge instead, and so do its rows */
     GOLLY_CANON_TURNED = 2  /* the one whose canonical text is least, byte by byte, of the eight turned and reflected patterns, each moved */
 };
 
-/* `limit`, of each call: how many different squares the store of the call may hold, including those on the way to the answer. Squares in which each
- * cell is 0 don't count. Two things are proved of the limit: a call returns Full only if it needs more different squares than the limit, and it gives a
- * text, a key or a comparison only if no more than the limit are needed to read the files. So a call on files in which each cell is 0 never returns Full.
+/* `limit`, of each call: how many different squares the store of the call may hold, including those that it makes on the way to the answer. Squares in
+ * which each cell is 0 don't count. Two things are proved of the limit: a call returns Full only if it needs more different squares than the limit (in the
+ * forms moved and turned more than 2^21, if that is less), and it gives a text, a key or a comparison only if no more than the limit are needed to read
+ * the files. So a call on files in which each cell is 0 never returns Full.
  *
  * A limit of `14 * length + 264` suffices to read a file. For two files take the sum of both; for a stream `length` is the number of all bytes that are
  * fed. That is proved too: with this limit, canon, to_rle, show, same, and the calls with the form placed, never return Full. No such number is known for
