@@ -4,7 +4,7 @@ use Rattle.std.specs.Int.{bit_at, bit_not}
 use Rattle.std.specs.Int.Bits.{bit_and, bit_or}
 use Rattle.std.proofs.lemmas.Int.{ints}
 use Rattle.std.proofs.lemmas.Bool.{cases_lt}
-use Rattle.std.proofs.lemmas.Nat.Bits.{bit_at-lt, bit_at-zero, bit_at_and, bit_at_or, bit_at_not, bit_at_cat_low, bit_at_cat_high}
+use Rattle.std.proofs.lemmas.Nat.Bits.{bit_at-lt, bit_at_and, bit_at_or, bit_at_not, bit_at_cat_low, bit_at_cat_high}
 use Rattle.life_base.specs.Sets.{OuterTotalistic}
 use Rattle.life_base.proofs.RoundTrip.{all_below, all_below_at}
 use Rattle.life_sweep.specs.Generation.{one_before, one_after, next_by_count, next_life}
@@ -14,10 +14,9 @@ use Rattle.life_lanes.proofs.WordLemmas.{bit-mod, bit-shr, shl-high}
 use Rattle.life_block.specs.Bits.{NineWords, counted_in, HasSquareBits, HasRows, AreNineRows}
 use Rattle.life_block.specs.Pieces.{step_ahead, step_back}
 use Rattle.life_block.proofs.BandLemmas.{behind, next-of_bits}
-use Rattle.life_base.specs.Tree.{blank}
+use Rattle.life_quad.specs.Store.{eight}
 use Rattle.life_block.specs.Pieces.{IsPiece}
-use Rattle.life_block.proofs.PieceLemmas.{zero-of_blank}
-use Rattle.life_block.proofs.SquareLemmas.{place-small}
+use Rattle.life_block.proofs.SquareLemmas.{place-small, square-of_piece}
 
 pub HasRows-moved : (cells : ℤ → ℤ → ℕ) (x y z : ℤ) (word : ℕ) → y ≡ z → HasRows cells x y word → HasRows cells x z word
 HasRows-moved cells x y z word e h r i lr li = h r i lr li ∙ ap (λ u. cells (x +ℤ pos i) (u +ℤ pos r)) e
@@ -85,12 +84,21 @@ module _ (a b c d : ℕ) (lb : b < 65536) (lc : c < 65536) (ld : d < 65536) wher
         order r i lr li ∙ in-square (r / 4) (i / 4) (r % 4) (i % 4) (omega (arith, lr)) (omega (arith, li)) (omega arith) (omega arith)
         ∙ (λ j. cells (column j) (row j))
 
--- a blank square
-pub rows-of_blank : (cells : ℤ → ℤ → ℕ) (x y : ℤ) → IsPiece cells x y (blank 3) → HasRows cells x y 0
-rows-of_blank cells x y h r i lr li =
-    bit_at-zero (63 - (8 * r + i))
-    ∙ sym ((zero-of_blank cells 3 x y h).zero_at (x +ℤ pos i) (y +ℤ pos r) (omega (arith, ints)) (omega (arith, ints, li)) (omega (arith, ints))
-    (omega (arith, ints, lr)))
+-- a square of level 3 by its cells
+pub rows-of_leaf : (cells : ℤ → ℤ → ℕ) (x y : ℤ) (n rows : ℕ) → n < 2 ^ 64 → IsPiece cells x y (eight n)
+    → ((r i : ℕ) → r < 8 → i < 8 → bit_at rows (63 - (8 * r + i)) ≡ bit_at n (63 - place_in_leaf r i)) → HasRows cells x y rows
+rows-of_leaf cells x y n rows l h order =
+    let a = n / 281474976710656 in
+    let b = n / 4294967296 % 65536 in
+    let c = n / 65536 % 65536 in
+    let d = n % 65536 in
+    let is : n ≡ ((a * 65536 + b) * 65536 + c) * 65536 + d = omega arith in
+    rows-of_squares a b c d (omega arith) (omega arith) (omega arith) cells x y
+    (square-of_piece cells x y a (omega (arith, l)) h.0)
+    (square-of_piece cells (step_ahead x 4) y b (omega arith) h.1)
+    (square-of_piece cells x (step_ahead y 4) c (omega arith) h.2)
+    (square-of_piece cells (step_ahead x 4) (step_ahead y 4) d (omega arith) h.3)
+    rows (λ r i lr li. order r i lr li ∙ ap (λ m. bit_at m (63 - place_in_leaf r i)) is)
 
 -- ---- rows of two words
 

@@ -1,8 +1,11 @@
 -- A square that is made of four squares, which are made one behind the other, each of its parts alone.
-use Rattle.std.proofs.Common.{◌≡◌, ℕ, List, inl, inr, ◌∙◌}
-use Rattle.life_base.specs.Tree.{Tree, quad}
+use Rattle.std.proofs.Common.{◌≡◌, ℕ, List, Result, Ok, Err, IfOk, inl, inr, ap, ◌∙◌}
+use Rattle.life_base.specs.Tree.{Tree, quad, depth}
 use Rattle.life_quad.specs.Keeping.{KeepsSquares, AddsOnly}
 use Rattle.life_quad.specs.Refused.{SomePart}
+use Rattle.life_base.specs.declared.kind.Kind.{Kind}
+use Rattle.life_quad.specs.Store.{eight}
+use Rattle.life_block.specs.Pieces.{IsOfLevel}
 use Rattle.life_quad.specs.declared.id.Id.{Id}
 use Rattle.life_quad.proofs.KeepingLemmas.{keeps-then, adds-as, adds-then}
 
@@ -33,3 +36,9 @@ module _ {S : Type 0} {stored : S → List Tree} (a b c d : Tree) {s t : S} (nw 
       module _ {w : S} (se : AddsOnly stored (λ P. SomePart P d) v w) where
         pub adds_four : AddsOnly stored (λ P. SomePart P (quad a b c d)) s w
         adds_four = adds-then _ adds_three se (λ P p. p) (λ P p. inr (inr (inr (inr p))))
+
+-- a square of level 3 by its cells
+pub made-at : (knows : Id → Type 0) (content : Id → Tree) (n : ℕ) (r : Result Id Kind) → IfOk r knows → IfOk r (λ id. content id ≡ eight n)
+    → IfOk r (IsOfLevel knows content 3)
+made-at knows content n (Ok id) known is = record { known = known; level = ap depth is }
+made-at knows content n (Err e) known is = tt

@@ -1,5 +1,5 @@
 //! The next states of four squares of level 2 or 3 amid twelve others, by words of their cells.
-ghost use Rattle.std.specs.Prelude.{◌≡◌, ℕ, ℤ, pos, neg_ℤ, ◌<◌, IfOk, IfErr, OnErr};
+ghost use Rattle.std.specs.Prelude.{◌≡◌, ◌+◌, ◌*◌, ℕ, ℤ, pos, neg_ℤ, ◌<◌, IfOk, IfErr, OnErr};
 ghost use Rattle.life_block.specs.Words.{point, tree_cell, SomePart, two, four, next_life, HasBand, AreBands, HasRows, AreFourRows, leaf_of_cells, square_of_leaves, square_from, SomeOfBands, SomeOfSixteen, IsPiece, IsBinary, IsWhereBinary, IsOfLevel, InFour, InSixteen, AreFour, AreSixteen, step_back, AddsOnly, KeepsStore, IsShortageIn};
 
 use crate::grid::{Four, Sixteen};
@@ -73,6 +73,17 @@ fn band<S: Squares>(squares: &S, four: &Four<Id>) -> u64
     rows_of_squares(((a * 65_536 + b) * 65_536 + c) * 65_536 + d)
 }
 
+// The cells of four squares of level 2 as `Squares::leaf` takes them.
+fn leaf_number(cells: &Four<u16>) -> u64
+    ensures number { result ≡ ((cells.now.first * 65536 + cells.now.second) * 65536
+        + cells.now.third) * 65536 + cells.now.fourth }
+    ensures fits { InFour (λ n. n < 65536) cells.now }
+{
+    let north = u64::from(cells.first) * 0x1_0000 + u64::from(cells.second);
+    let south = u64::from(cells.third) * 0x1_0000 + u64::from(cells.fourth);
+    north * 0x1_0000_0000 + south
+}
+
 // The square of four squares of level 2 with these cells.
 fn leaf_of_cells<S: Squares>(squares: &mut S, cells: &Four<u16>) -> Result<Id, Kind>
     ensures at { IfOk result (IsOfLevel (S.knows squares.new) (S.content squares.new) 3) }
@@ -83,11 +94,7 @@ fn leaf_of_cells<S: Squares>(squares: &mut S, cells: &Four<u16>) -> Result<Id, K
     ensures adds { AddsOnly S.stored (λ P. SomePart P (leaf_of_cells cells.now)) squares.old
         squares.new }
 {
-    let nw = squares.small(cells.first)?;
-    let ne = squares.small(cells.second)?;
-    let sw = squares.small(cells.third)?;
-    let se = squares.small(cells.fourth)?;
-    squares.join(nw, ne, sw, se)
+    squares.leaf(leaf_number(cells))
 }
 
 // The square of four squares of level 3, each of four squares of level 2 with these cells.
@@ -108,21 +115,31 @@ fn square_of_leaves<S: Squares>(squares: &mut S, leaves: &Four<Four<u16>>) -> Re
     squares.join(nw, ne, sw, se)
 }
 
-// The eight rows of cells of a square of level 3.
-fn rows_of<S: Squares>(squares: &S, id: Id) -> u64
+// The eight rows of cells of a square of level 3 without a short cut of the store. It is never inlined, so that the way by one stays short.
+#[inline(never)]
+fn rows_of_quarters<S: Squares>(squares: &S, id: Id) -> u64
     requires { IsOfLevel (S.knows squares.now) (S.content squares.now) 3 id }
     ensures { (cells : ℤ → ℤ → ℕ) (x y : ℤ) → IsBinary cells
         → IsPiece cells x y (S.content squares.now id) → HasRows cells x y result }
 {
-    if id == squares.empty(3) {
-        return 0;
-    }
     let Quarters { nw, ne, sw, se } = divide(squares, id);
     let a = cells_in(squares, nw);
     let b = cells_in(squares, ne);
     let c = cells_in(squares, sw);
     let d = cells_in(squares, se);
     by_rows(((a * 65_536 + b) * 65_536 + c) * 65_536 + d)
+}
+
+// The eight rows of cells of a square of level 3.
+fn rows_of<S: Squares>(squares: &S, id: Id) -> u64
+    requires { IsOfLevel (S.knows squares.now) (S.content squares.now) 3 id }
+    ensures { (cells : ℤ → ℤ → ℕ) (x y : ℤ) → IsBinary cells
+        → IsPiece cells x y (S.content squares.now id) → HasRows cells x y result }
+{
+    match squares.leaf_cells(id) {
+        Some(cells) => by_rows(cells),
+        None => rows_of_quarters(squares, id),
+    }
 }
 
 // The same of four squares.

@@ -45,7 +45,7 @@ fn one_south(here: u64, below: u64) -> u64
     here % 0x1_0000_0000_0000 * 0x1_0000 + below / 0x1_0000_0000_0000
 }
 
-// The places of a row between the first and the last, one place lower, amid those beside them.
+// The cells of rows with the cells west and east of each, one place lower than they were.
 fn places_around(row: u64) -> Three<u64>
     ensures { result ≡ record { before = row / 2 ^ 2; here = row / 2 ^ 1; after = row } }
 {

@@ -7,7 +7,7 @@ use Rattle.std.proofs.Math.Nat.{pow-le-pow_right}
 use Rattle.life_base.specs.declared.cell.TheConstants.{MAX_LEVEL}
 use Rattle.life_base.specs.Tree.{Tree, point, quad, depth, is_blank_tree, IsFull}
 use Rattle.life_quad.specs.Cells.{population}
-use Rattle.life_quad.specs.Store.{two, four}
+use Rattle.life_quad.specs.Store.{two, four, eight}
 use Rattle.life_base.proofs.RoundTrip.{all_below, all_below_at}
 use Rattle.life_base.proofs.Basics.{right_of_and, left_of_and}
 
@@ -82,3 +82,18 @@ four-ones n l =
     let ob : ones (n % 4096) ≡ ones b + ones (n % 256) = ap ones nb ∙ ones_cat 8 b (n % 256) (omega arith) in
     let oc : ones (n % 256) ≡ ones c + ones d = ap ones nc ∙ ones_cat 4 c d (omega arith) in
     omega (arith, oa, ob, oc, digit-ones a (omega (arith, l)), digit-ones b (omega arith), digit-ones c (omega arith), digit-ones d (omega arith))
+
+-- the same of level 3
+pub eight-ones : (n : ℕ) → n < 2 ^ 64 → population (eight n) ≡ ones n
+eight-ones n l =
+    let a = n / 281474976710656 in
+    let b = n / 4294967296 % 65536 in
+    let c = n / 65536 % 65536 in
+    let d = n % 65536 in
+    let na : n ≡ a * 2 ^ 48 + n % 281474976710656 = omega arith in
+    let nb : n % 281474976710656 ≡ b * 2 ^ 32 + n % 4294967296 = omega arith in
+    let nc : n % 4294967296 ≡ c * 2 ^ 16 + d = omega arith in
+    let oa : ones n ≡ ones a + ones (n % 281474976710656) = ap ones na ∙ ones_cat 48 a (n % 281474976710656) (omega arith) in
+    let ob : ones (n % 281474976710656) ≡ ones b + ones (n % 4294967296) = ap ones nb ∙ ones_cat 32 b (n % 4294967296) (omega arith) in
+    let oc : ones (n % 4294967296) ≡ ones c + ones d = ap ones nc ∙ ones_cat 16 c d (omega arith) in
+    omega (arith, oa, ob, oc, four-ones a (omega (arith, l)), four-ones b (omega arith), four-ones c (omega arith), four-ones d (omega arith))

@@ -1,9 +1,10 @@
 -- The four rows of a band of level 2, taken from its squares.
-use Rattle.std.proofs.Common.{◌≡◌, ◌==◌, ℕ, ◌+◌, ◌-◌, ◌*◌, ◌/◌, ◌≤◌, ◌<◌, Bool, true, false, ◌&&◌, ℤ, pos, ◌+ℤ◌, List, [], ◌∷◌, ◌++◌, length, length-append, get_or, take, refl, sym, ◌∙◌, ap, arith, true≢false, if◌then◌else◌, append_assoc, append-nil}
+use Rattle.std.proofs.Common.{◌≡◌, ◌==◌, ℕ, ◌+◌, ◌-◌, ◌*◌, ◌/◌, ◌≤◌, ◌<◌, Bool, true, false, ◌&&◌, ℤ, pos, ◌+ℤ◌, List, [], ◌∷◌, ◌++◌, length, length-append, get_or, take, set, refl, sym, ◌∙◌, ap, arith, true≢false, if◌then◌else◌, append_assoc, append-nil}
 use Rattle.std.specs.List.{flat_map}
 use Rattle.std.proofs.lemmas.Int.{ints}
 use Rattle.std.proofs.lemmas.Grind.{flat_map-append}
-use Rattle.std.proofs.lemmas.List.{map-append, length-map, flat_map_more}
+use Rattle.std.proofs.lemmas.Bool.Decides.{nat_tests}
+use Rattle.std.proofs.lemmas.List.{map-append, length-map, flat_map_more, take-set, take_more_set}
 use Rattle.life_base.specs.declared.cell.Cell.{Cell}
 use Rattle.life_base.specs.Tree.{Tree, point, quad, depth, state_at, is_blank_tree, IsFull}
 use Rattle.life_quad.specs.Cells.{population}
@@ -149,6 +150,28 @@ states_are x y x0 x1 x2 x3 y0 a b c d old first second third new e0 e1 e2 e3 ey 
   where
     joined : (o u v w z : List Cell) → (((o ++ (u ++ [])) ++ (v ++ [])) ++ (w ++ [])) ++ (z ++ []) ≡ o ++ (u ++ (v ++ (w ++ (z ++ []))))
     joined o u v w z = simp (append_assoc, append-nil)
+
+-- a cell of state 0 is not counted
+pub gathered-none : (cells : List Cell) (count : ℕ) (cell : Cell) (x y : ℤ) (s : ℕ) → s ≡ 0
+    → take count (set cells count cell) ≡ take count cells ++ live_cells x y (s ∷ [])
+gathered-none cells count cell x y s zero_state =
+    let e : (s == 0) ≡ true = grind (arith, nat_tests) in
+    take-set cells count cell ∙ sym (append-nil (take count cells))
+    ∙ sym (ap (λ b. take count cells ++ ((if b then [] else record { x = x; y = y; state = s } ∷ []) ++ [])) e)
+
+-- and another one is
+pub gathered-one : (cells : List Cell) (count : ℕ) (x y x0 y0 : ℤ) (s : ℕ) → x0 ≡ x → y0 ≡ y → (s ≡ 0 → ⊥) → count < length cells
+    → take (count + 1) (set cells count (record { x = x0; y = y0; state = s })) ≡ take count cells ++ live_cells x y (s ∷ [])
+gathered-one cells count x y x0 y0 s ex ey live inside =
+    let e : (s == 0) ≡ false = grind (arith, nat_tests) in
+    take_more_set cells count (record { x = x0; y = y0; state = s }) inside
+    ∙ (λ i. take count cells ++ record { x = ex i; y = ey i; state = s } ∷ [])
+    ∙ sym (ap (λ b. take count cells ++ ((if b then [] else record { x = x; y = y; state = s } ∷ []) ++ [])) e)
+
+-- what was gathered, and the cells of one more square
+pub gathered-more : (before list space gathered after live : List Cell) → list ++ space ≡ before → after ≡ space ++ live → gathered ≡ list ++ after
+    → gathered ≡ before ++ live
+gathered-more before list space gathered after live e f g = g ∙ ap (λ l. list ++ l) f ∙ sym (append_assoc list space live) ∙ ap (λ l. l ++ live) e
 
 -- the cells of one more square, behind those of the squares before it
 pub part_more : (content : Id → Tree) (band : List Placed) (i : ℕ) (p : Placed) (lt : i < length band) (south low : Bool) (y x0 y0 : ℤ) (states : List ℕ)

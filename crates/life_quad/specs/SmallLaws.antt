@@ -62,11 +62,11 @@ below_16 q (digit_0 e) = omega arith
 below_16 q (digit_of l u) = omega arith
 
 -- the squares of a bit and of a digit
-square_of-bit : (S : List Tree) (a : ℕ) → a < 2 → square_of S (id_of a) ≡ point a
+pub square_of-bit : (S : List Tree) (a : ℕ) → a < 2 → square_of S (id_of a) ≡ point a
 unfolding square_of
 square_of-bit S a l = let m : a < 256 = omega arith in grind arith
 
-square_of-digit : (S : List Tree) (q : ℕ) → IsDigit q → square_of S (id_of q) ≡ two (q - 512)
+pub square_of-digit : (S : List Tree) (q : ℕ) → IsDigit q → square_of S (id_of q) ≡ two (q - 512)
 unfolding square_of small_square
 square_of-digit S q (digit_0 e) = ap (λ n. square_of S (id_of n)) e ∙ sym (ap (λ n. two (n - 512)) e)
 square_of-digit S q (digit_of l u) =

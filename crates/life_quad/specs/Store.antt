@@ -25,6 +25,10 @@ two b = quad (point (b / 8)) (point (b / 4 % 2)) (point (b / 2 % 2)) (point (b %
 abbrev pub four : ℕ → Tree
 four b = quad (two (b / 4096)) (two (b / 256 % 16)) (two (b / 16 % 16)) (two (b % 16))
 
+-- the square of level 3 of four digits below 65,536
+abbrev pub eight : ℕ → Tree
+eight b = quad (four (b / 281474976710656)) (four (b / 4294967296 % 65536)) (four (b / 65536 % 65536)) (four (b % 65536))
+
 -- the small square of an Id's number, from 512 to 66,063
 unfoldable pub small_square : ℕ → Tree
 small_square n = if nat_lt n 528 then two (n - 512) else four (n - 528)
@@ -186,3 +190,7 @@ pub record HasSeen (seen : Id → Bool) (log : List ℕ) : Type 0 where
 -- each small square of level 1 that isn't blank is marked
 abbrev pub HasQuarters : (Id → Bool) → Type 0
 HasQuarters seen = (k : ℕ) → 512 < k → k < 528 → seen (id_of k) ≡ true
+
+-- so are those before a number
+abbrev pub HasQuartersBelow : ℕ → (Id → Bool) → Type 0
+HasQuartersBelow number seen = (k : ℕ) → 512 < k → k < number → seen (id_of k) ≡ true

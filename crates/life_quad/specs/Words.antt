@@ -1,6 +1,6 @@
 -- The words of the contracts of this crate.
 pub use Rattle.life_base.specs.Refusal.{IsMemory}
-pub use Rattle.life_base.specs.Tree.{blank, depth, is_blank_tree, point, quad, quarters, state_at, Tree}
+pub use Rattle.life_base.specs.Tree.{blank, depth, IsFull, is_blank_tree, point, quad, quarters, state_at, Tree}
 pub use Rattle.life_base.specs.declared.kind.Kind.TheVariants.{Full, Memory, TooManyCells}
 pub use Rattle.life_quad.specs.Bands.{band_cells, InBand, IsPlaced, piece_unless_blank, live_cells, lower, northern, pair_of, part_cells, pieces, row_cells, row_states}
 pub use Rattle.life_quad.specs.Bands.{southern, upper}
@@ -17,7 +17,7 @@ pub use Rattle.life_quad.specs.Moves.{AreQuarters, can_trim, CanJoin, grown_squa
 pub use Rattle.life_quad.specs.Pages.{index_in, place_of}
 pub use Rattle.life_quad.specs.Refused.{SomeOf, SomePart, TrimmedTo}
 pub use Rattle.life_quad.specs.Span.{SetsHalves, SetsSpan}
-pub use Rattle.life_quad.specs.Store.{AnswersJoin, AreFound, content, digit_id, four, HasQuarters, stored_squares, id_of, is_bit_id, is_blank_id, is_digit_id, IsFoundId}
+pub use Rattle.life_quad.specs.Store.{AnswersJoin, AreFound, content, digit_id, eight, four, HasQuarters, stored_squares, id_of, is_bit_id, is_blank_id, is_digit_id, IsFoundId}
 pub use Rattle.life_quad.specs.Store.{IsIdWithin, IsNode, IsShared, IsSmall, IsSoundStore, Knows, levels_of, node_square, Nodes, small_number_of, small_of, small_square, square_of}
 pub use Rattle.life_quad.specs.Store.{squares, two}
 pub use Rattle.life_quad.specs.StoreLaws.{full_content, low_content, same_id}

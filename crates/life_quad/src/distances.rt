@@ -24,8 +24,8 @@ type Found = Result<Option<u64>, Kind>;
 /// What the table has for a square that was not visited: no square is so large.
 pub(crate) const UNKNOWN: u64 = u64::MAX;
 
-/// The least level of squares whose distances are kept. In lower ones they are found as fast, and the Ids of these lie far apart.
-const LEAST_KEPT: u8 = 3;
+/// The least level of squares whose distances are kept. In lower ones few squares are visited, and a pattern of a few leaves asks for no memory.
+const LEAST_KEPT: u8 = 6;
 
 /// The least distance of a nonzero cell from a side, in columns or rows: 0 for a cell that touches it. A blank square has none. At most
 /// the squares that reach nearest to the side are visited, and each shared one once.

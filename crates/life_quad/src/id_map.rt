@@ -14,11 +14,11 @@ const PAGE: u64 = 256;
 /// The page of the first nodes.
 const NODES: u64 = FIRST_NODE / PAGE;
 
-/// The first capacity of a map is for the places of the small squares and of the first nodes, and for four pages. A pattern of a few squares
+/// The first capacity of a map is for the places of the small squares and of the first nodes, and for twenty pages. A pattern of a few leaves
 /// needs no more, and asks for memory twice.
 const FIRST_PLACES: usize = NODES as usize + 2;
 
-const FIRST_VALUES: usize = 4 * PAGE as usize;
+const FIRST_VALUES: usize = 20 * PAGE as usize;
 
 /// The first index of a page that wasn't made: no value has it.
 const NONE: u32 = u32::MAX;

@@ -4,7 +4,7 @@
 //! half, are bands of the level below; a band of level 0 is a row of cells. So no cell is sorted and no blank square is
 //! entered, and each band has at most as many squares as there are cells. If the list has capacity for all cells that a band of level 2
 //! may have, its four rows are taken from its squares at once.
-ghost use Rattle.std.specs.Prelude.{◌≡◌, ◌⊎◌, ◌+◌, ◌-◌, ◌^◌, ◌<◌, ◌≤◌, ◌+ℤ◌, ◌≤ℤ◌, pos, neg_ℤ, [], ◌∷◌, ◌++◌, length, All, Err, OnOk, IfOk, IfErr};
+ghost use Rattle.std.specs.Prelude.{◌≡◌, ◌⊎◌, ◌+◌, ◌-◌, ◌^◌, ◌<◌, ◌≤◌, ◌+ℤ◌, ◌≤ℤ◌, pos, neg_ℤ, [], ◌∷◌, ◌++◌, length, take, All, Err, OnOk, IfOk, IfErr};
 ghost use Rattle.life_quad.specs.Words.{Memory, TooManyCells, depth, state_at, IsCellList, population, InBand, IsPlaced, pieces, piece_unless_blank, northern, southern, upper, lower, row_cells, band_cells, pair_of, row_states, live_cells, part_cells, two, four, IsMemory};
 
 use crate::moves::{Quarters, divide, is_blank_at};
@@ -259,37 +259,62 @@ fn row_of<S: Squares>(squares: &S, id: Id, south: bool, low: bool) -> (State, St
     (west[0], west[1], east[0], east[1])
 }
 
-/// A cell at the end of a list, unless its state is 0.
+/// How many cells are gathered at most before they are added to a list.
+const GATHERED: usize = 16;
+
+/// A cell after those that were gathered, unless its state is 0. Returns how many are gathered then. Which states are 0 can't be foreseen, so the cell is
+/// put there in any case and counted without a branch.
 #[inline(always)]
-fn append_cell(list: &mut Vec<Cell>, x: i64, y: i64, state: State) -> Listed
-    ensures cells { OnOk result (list.new.items ≡ list.old.items ++ live_cells x y (state ∷ [])) }
-    ensures refusals { IfErr result IsMemory }
+fn gather_cell(gathered: &mut [Cell; GATHERED], count: usize, x: i64, y: i64, state: State) -> usize
+    requires { count < 16 }
+    ensures cells { take result gathered.new
+        ≡ take count gathered.old ++ live_cells x y (state ∷ []) }
+    ensures most { result ≤ count + 1 }
 {
-    if state == 0 {
-        return Ok(());
-    }
-    list.push(Cell { x, y, state })?;
-    Ok(())
+    gathered[count] = Cell { x, y, state };
+    if state == 0 { count } else { count + 1 }
 }
 
-/// The cells of four states side by side at the end of a list, without those of state 0.
+/// The cells of four states side by side after those that were gathered, without those of state 0. Returns how many are gathered then.
 #[inline(always)]
-fn append_states(
-    list: &mut Vec<Cell>,
+fn gather_states(
+    gathered: &mut [Cell; GATHERED],
+    count: usize,
     x: i64,
     y: i64,
     states: (State, State, State, State),
-) -> Listed
+) -> usize
+    requires space { count + 4 ≤ 16 }
     requires west { neg_ℤ (pos (2 ^ 61)) ≤ℤ x }
     requires east { (x +ℤ pos 4) ≤ℤ pos (2 ^ 61) }
-    ensures cells { OnOk result (list.new.items ≡ list.old.items ++ live_cells x y
-        (states.0 ∷ states.1 ∷ states.2 ∷ states.3 ∷ [])) }
+    ensures cells { take result gathered.new ≡ take count gathered.old ++ live_cells x y
+        (states.0 ∷ states.1 ∷ states.2 ∷ states.3 ∷ []) }
+    ensures most { result ≤ count + 4 }
+{
+    let one = gather_cell(gathered, count, x, y, states.0);
+    let two = gather_cell(gathered, one, x + 1, y, states.1);
+    let three = gather_cell(gathered, two, x + 2, y, states.2);
+    gather_cell(gathered, three, x + 3, y, states.3)
+}
+
+/// Adds the cells that were gathered to a list, if there is no space for four more. Returns how many are gathered then.
+#[inline(always)]
+fn make_space(
+    list: &mut Vec<Cell>,
+    gathered: &[Cell; GATHERED],
+    count: usize,
+) -> Result<usize, Kind>
+    requires { count ≤ 16 }
+    ensures cells { IfOk result (λ left. list.new.items ++ take left gathered.now
+        ≡ list.old.items ++ take count gathered.now) }
+    ensures space { IfOk result (λ left. left + 4 ≤ 16) }
     ensures refusals { IfErr result IsMemory }
 {
-    append_cell(list, x, y, states.0)?;
-    append_cell(list, x + 1, y, states.1)?;
-    append_cell(list, x + 2, y, states.2)?;
-    append_cell(list, x + 3, y, states.3)
+    if count + 4 <= GATHERED {
+        return Ok(count);
+    }
+    list.extend_from_slice(&gathered[..count])?;
+    Ok(0)
 }
 
 /// The cells of a row of a band of level 2 at the end of a list: in the southern or in the northern half, the lower or the upper row.
@@ -308,10 +333,19 @@ fn append_part<S: Squares>(
         (pieces (S.content squares.now) band.now)) }
     ensures refusals { IfErr result IsMemory }
 {
+    let none = Cell {
+        x: 0,
+        y: 0,
+        state: 0,
+    };
+    let mut gathered = [none; GATHERED];
+    let mut count: usize = 0;
     for placed in band {
+        let left = make_space(list, &gathered, count)?;
         let states = row_of(squares, placed.square, south, low);
-        append_states(list, placed.column, y, states)?;
+        count = gather_states(&mut gathered, left, placed.column, y, states);
     }
+    list.extend_from_slice(&gathered[..count])?;
     Ok(())
 }
 

@@ -9,39 +9,41 @@ use life_base::Kind;
 use std::alloc::Global;
 use std::marker::Model;
 
-/// A mark for each small square that was joined, and whether all those of level 1 were: a new square of level 2 then needs no look at its quarters.
+/// A mark for each small square that was joined, and the first one of level 1 without a mark: where all of them are marked a new square of level 2 needs no
+/// look at its quarters.
 #[derive(Drop)]
 pub(crate) struct Marks {
     seen: IdMap<bool>,
-    has_quarters: bool,
+    /// The number after those of level 1 if all are marked.
+    unmarked: u64,
 }
 
 impl Model for Marks {
-    ghost use Rattle.std.specs.Prelude.{◌≡◌, Bool, true};
+    ghost use Rattle.std.specs.Prelude.{◌≡◌, ◌≤◌, Bool, true};
     ghost use Rattle.life_quad.specs.IdMap.{value_of_id};
     ghost use Rattle.life_quad.specs.Pages.{Pages};
-    ghost use Rattle.life_quad.specs.Store.{HasQuarters};
+    ghost use Rattle.life_quad.specs.Store.{HasQuartersBelow};
 
     ghost Value = { Pages Bool };
 
     ghost view = { λ m. m.seen };
 
-    ghost invariant = { λ m. m.has_quarters ≡ true → HasQuarters (value_of_id m.seen) };
+    ghost invariant = { λ m. (m.unmarked ≤ 528) × HasQuartersBelow m.unmarked (value_of_id m.seen) };
 }
 
-/// Whether all small squares of level 1 from a number on are marked.
-fn are_marked(seen: &IdMap<bool>, number: u64) -> bool
+/// The first small square of level 1, from a number on, without a mark, or the number after them.
+fn first_unmarked(seen: &IdMap<bool>, number: u64) -> u64
     requires { number ≤ 528 }
-    ensures { result ≡ true → (k : ℕ) → number ≤ k → k < 528 → value_of_id seen.now (id_of k)
-        ≡ true }
+    ensures marked { (k : ℕ) → number ≤ k → k < result → value_of_id seen.now (id_of k) ≡ true }
+    ensures last { result ≤ 528 }
 {
     if number == LEVEL_TWO {
-        return true;
+        return number;
     }
     if !seen.get(Id(number)) {
-        return false;
+        return number;
     }
-    are_marked(seen, number + 1)
+    first_unmarked(seen, number + 1)
 }
 
 impl Marks {
@@ -51,7 +53,7 @@ impl Marks {
     {
         Marks {
             seen: IdMap::new(alloc, false),
-            has_quarters: false,
+            unmarked: FIRST_SMALL + 1,
         }
     }
 
@@ -66,7 +68,7 @@ impl Marks {
     pub(crate) fn has_quarters(&self) -> bool
         ensures { result ≡ true → HasQuarters (value_of_id self.now) }
     {
-        self.has_quarters
+        self.unmarked == LEVEL_TWO
     }
 
     /// Marks a small square.
@@ -79,8 +81,8 @@ impl Marks {
         ensures kind { IfErr result IsMemory }
     {
         self.seen.set(id, true)?;
-        if id.0 < LEVEL_TWO {
-            self.has_quarters = are_marked(&self.seen, FIRST_SMALL + 1);
+        if id.0 == self.unmarked {
+            self.unmarked = first_unmarked(&self.seen, id.0);
         }
         Ok(())
     }

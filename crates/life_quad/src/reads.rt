@@ -25,22 +25,14 @@ pub fn population<S: SharedSquares>(alloc: Global, squares: &S, id: Id) -> Resul
     count(squares, squares.level(id), id, &mut known)
 }
 
-/// The number of cells with a state in a square of level 3, if the store gives the cells of its quarters; `None` says nothing.
+/// The number of cells with a state in a square of level 3, if the store gives its cells; `None` says nothing.
 #[inline(always)]
-fn count_leaf<S: Squares>(squares: &S, level: u8, id: Id) -> Option<u128>
-    requires known { S.knows squares.now id }
-    requires level { level ≡ depth (S.content squares.now id) }
-    ensures number { IfSome result (λ n. n ≡ population (S.content squares.now id)) }
+fn count_leaf<S: Squares>(squares: &S, id: Id) -> Option<u128>
+    requires { S.knows squares.now id }
+    ensures { IfSome result (λ n. n ≡ population (S.content squares.now id)) }
 {
-    if level != 3 {
-        return None;
-    }
-    let Quarters { nw, ne, sw, se } = divide(squares, id);
-    let nw = squares.small_cells(nw)?.count_ones();
-    let ne = squares.small_cells(ne)?.count_ones();
-    let sw = squares.small_cells(sw)?.count_ones();
-    let se = squares.small_cells(se)?.count_ones();
-    Some(u128::from(nw + ne + sw + se))
+    let leaf = squares.leaf_cells(id)?;
+    Some(u128::from(leaf.count_ones()))
 }
 
 /// The number of cells with a state in a square of a level, each of whose squares is visited as often as it occurs.
@@ -70,7 +62,7 @@ pub fn leaf_population<S: Squares>(squares: &S, level: u8, id: Id) -> u128
     requires level { level ≡ depth (S.content squares.now id) }
     ensures { result ≡ population (S.content squares.now id) }
 {
-    match count_leaf(squares, level, id) {
+    match count_leaf(squares, id) {
         Some(number) => number,
         None => count_cells(squares, level, id),
     }
@@ -88,14 +80,14 @@ fn count<S: Squares>(squares: &S, level: u8, id: Id, known: &mut IdMap<u128>) ->
         → value_of_id known.new q ≡ population (S.content squares.now q) }
     ensures refusals { IfErr result IsMemory }
 {
+    if let Some(number) = count_leaf(squares, id) {
+        return Ok(number);
+    }
     if let Some(cells) = squares.small_cells(id) {
         return Ok(u128::from(cells.count_ones()));
     }
     if let Some(state) = squares.state(id) {
         return Ok(if state == 0 { 0 } else { 1 });
-    }
-    if let Some(number) = count_leaf(squares, level, id) {
-        return Ok(number);
     }
     let number = known.get(id);
     if number != 0 {

@@ -298,8 +298,25 @@ impl Squares for Shared {
         self.small_of_quarters(cells)
     }
 
+    // A square of level 3 that isn't blank has a node, whichever its quarters are.
+    fn leaf(&mut self, cells: u64) -> Result<Id, Kind> {
+        let blank = self.empty(3);
+        if cells == 0 {
+            return Ok(blank);
+        }
+        let nw = self.small((cells / 0x1_0000_0000_0000) as u16)?;
+        let ne = self.small((cells / 0x1_0000_0000 % 0x1_0000) as u16)?;
+        let sw = self.small((cells / 0x1_0000 % 0x1_0000) as u16)?;
+        let se = self.small((cells % 0x1_0000) as u16)?;
+        self.intern(Node::of(nw, ne, sw, se), 3)
+    }
+
     fn small_cells(&self, id: Id) -> Option<u16> {
         id.cells()
+    }
+
+    fn leaf_cells(&self, id: Id) -> Option<u64> {
+        id.leaf_cells(self.nodes.as_slice())
     }
 
     ghost full = { λ s id h. full_content s id h.0 };

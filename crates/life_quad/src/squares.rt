@@ -5,7 +5,7 @@ ghost use Rattle.life_base.specs.declared.kind.Kind.TheVariants.{Full, Memory};
 ghost use Rattle.life_quad.specs.Keeping.{KeepsSquares, AddsOnly, IsShortageKind, MakesOneSquare};
 ghost use Rattle.life_quad.specs.Moves.{CanJoin, quads_of};
 ghost use Rattle.life_quad.specs.Refused.{SomeOf, SomePart};
-ghost use Rattle.life_quad.specs.Store.{two, four};
+ghost use Rattle.life_quad.specs.Store.{two, four, eight};
 ghost use Rattle.life_quad.specs.declared.id.Id.{Id as IdValue};
 
 use crate::{Id, Quarters, Seed};
@@ -187,6 +187,29 @@ pub trait Squares {
     fn small_cells(&self, id: Id) -> Option<u16>
         requires { knows self.now id }
         ensures { IfSome result (λ cells. content self.now id ≡ four cells) }
+    {
+        let _ = id;
+        None
+    }
+
+    /// The square of level 3 with these cells of the states 0 and 1: the highest sixteen bits are the cells of the north-west quarter, as `find_small`
+    /// takes them, then come those of the north-east, the south-west and the south-east one. After a refusal each Id has its square.
+    fn leaf(&mut self, cells: u64) -> Result<Id, Kind>
+        ensures { MakesOneSquare knows content stored most needs_node self.old self.new
+            (eight cells) (λ P. SomePart P (eight cells)) result }
+    {
+        let nw = self.small((cells / 0x1_0000_0000_0000) as u16)?;
+        let ne = self.small((cells / 0x1_0000_0000 % 0x1_0000) as u16)?;
+        let sw = self.small((cells / 0x1_0000 % 0x1_0000) as u16)?;
+        let se = self.small((cells % 0x1_0000) as u16)?;
+        self.join(nw, ne, sw, se)
+    }
+
+    /// The cells of a square of level 3 with the states 0 and 1, as `leaf` takes them, if the store can read them at once. `None` says nothing
+    /// about the square, and is what a store whose Ids don't contain cells always returns: read its quarters instead.
+    fn leaf_cells(&self, id: Id) -> Option<u64>
+        requires { knows self.now id }
+        ensures { IfSome result (λ cells. content self.now id ≡ eight cells) }
     {
         let _ = id;
         None

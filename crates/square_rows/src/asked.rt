@@ -67,6 +67,14 @@ fn show_small_cells(out: &mut Answer, cells: Option<u16>) {
     }
 }
 
+/// Adds the cells of a square of level 3, or `none`.
+fn show_leaf_cells(out: &mut Answer, cells: Option<u64>) {
+    match cells {
+        Some(cells) => out.number(u128::from(cells)),
+        None => out.text("none"),
+    }
+}
+
 /// Adds the place of the square of level 2 that a store finds for some cells, or `none`.
 pub(crate) fn found<S: Squares>(
     out: &mut Answer,
@@ -109,6 +117,7 @@ pub(crate) fn answer_question<S: Squares>(
         Question::Level => out.number(u128::from(squares.level(id))),
         Question::State => show_state(out, squares.state(id)),
         Question::SmallCells => show_small_cells(out, squares.small_cells(id)),
+        Question::LeafCells => show_leaf_cells(out, squares.leaf_cells(id)),
         Question::Parts => parts(out, squares, ids, id),
         Question::Blank => blank(out, squares, id),
         Question::LeafPopulation => {

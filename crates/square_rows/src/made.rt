@@ -57,6 +57,17 @@ fn small<S: Squares>(squares: &mut S, cells: i64) -> Result<Id, Unanswered>
     Ok(squares.small(cells)?)
 }
 
+/// The square of level 3 with these cells.
+fn leaf<S: Squares>(squares: &mut S, cells: i64) -> Result<Id, Unanswered>
+    ensures known { IfOk result (S.knows squares.new) }
+    ensures keeps { KeepsStore S.Squares squares.old squares.new }
+{
+    let Ok(cells) = u64::try_from(cells) else {
+        return Err(Unanswered::BadRow);
+    };
+    Ok(squares.leaf(cells)?)
+}
+
 /// The square of level 1 with these four cells.
 fn quarter<S: Squares>(squares: &mut S, cells: i64) -> Result<Id, Unanswered>
     ensures known { IfOk result (S.knows squares.new) }
@@ -169,6 +180,7 @@ fn begun<S: Squares>(
         New::Cell => cell(squares, step.numbers[0]),
         New::Small => small(squares, step.numbers[0]),
         New::Quarter => quarter(squares, step.numbers[0]),
+        New::Leaf => leaf(squares, step.numbers[0]),
         New::Rows => fill_plane(alloc, squares, step.runs),
         New::Slice => fill_at_once(alloc, squares, step.runs),
     }

@@ -11,6 +11,7 @@ pub(crate) enum New {
     Cell,
     Small,
     Quarter,
+    Leaf,
     Rows,
     /// The same, by a slice of runs.
     Slice,
@@ -38,6 +39,7 @@ pub(crate) enum Question {
     Level,
     State,
     SmallCells,
+    LeafCells,
     Parts,
     Blank,
     LeafPopulation,
@@ -67,11 +69,12 @@ pub(crate) enum Verb {
 }
 
 /// The first word of each step with what it does, and how many numbers come after it.
-const VERBS: [(&[u8], Verb, usize); 23] = [
+const VERBS: [(&[u8], Verb, usize); 25] = [
     (b"empty", Verb::Make(Make::New(New::Empty)), 1),
     (b"cell", Verb::Make(Make::New(New::Cell)), 1),
     (b"small", Verb::Make(Make::New(New::Small)), 1),
     (b"quarter", Verb::Make(Make::New(New::Quarter)), 1),
+    (b"leaf", Verb::Make(Make::New(New::Leaf)), 1),
     (b"join", Verb::Make(Make::Change(Change::Join)), 4),
     (b"put", Verb::Make(Make::Change(Change::Put)), 5),
     (b"grow", Verb::Make(Make::Change(Change::Grow)), 1),
@@ -81,6 +84,7 @@ const VERBS: [(&[u8], Verb, usize); 23] = [
     (b"level", Verb::Ask(Question::Level), 1),
     (b"state", Verb::Ask(Question::State), 1),
     (b"small_cells", Verb::Ask(Question::SmallCells), 1),
+    (b"leaf_cells", Verb::Ask(Question::LeafCells), 1),
     (b"parts", Verb::Ask(Question::Parts), 1),
     (b"divide", Verb::Measure(Measure::Divide), 1),
     (b"blank", Verb::Ask(Question::Blank), 1),

@@ -7,9 +7,9 @@ use Rattle.life_quad.proofs.CountLemmas.{population-blank, quarters_small, four-
 use Rattle.life_quad.proofs.MapLemmas.{after_set}
 use Rattle.life_quad.proofs.reads.+count.Goals as goal
 
-pub returns-in-Some-clause-number : goal.returns-in-Some-clause-number
-returns-in-Some-clause-number g t c =
-    c.from.ensures ∙ sym (four-ones c.in-Some.cells (omega arith)) ∙ ap population (sym c.in-Some.ensures)
+pub returns-in-Some-small_cells-clause-number : goal.returns-in-Some-small_cells-clause-number
+returns-in-Some-small_cells-clause-number g t c =
+    c.from.ensures ∙ sym (four-ones c.in-Some-small_cells.cells (omega arith)) ∙ ap population (sym c.in-Some-small_cells.ensures)
 
 pub returns-then-is_blank_at-clause-number : goal.returns-then-is_blank_at-clause-number
 returns-then-is_blank_at-clause-number g t c =

@@ -1,5 +1,4 @@
-use Rattle.std.proofs.Common.{◌≡◌, ◌≤◌, ◌<◌, ◌+◌, ◌-◌, length, sym, ◌∙◌, rules, arith}
-use Rattle.life_quad.specs.IdNumbers.{first_of}
+use Rattle.std.proofs.Common.{◌≡◌, ◌+◌, ◌-◌, length, rules, arith}
 use Rattle.life_quad.proofs.CallLemmas.{from_first}
 use Rattle.life_quad.proofs.id_numbers.IdNumbers.new.Goals as goal
 

@@ -1,4 +1,4 @@
-use Rattle.std.proofs.Common.{◌≡◌, ◌+◌, ◌-◌, ◌<◌, ◌≤◌, ◌++◌, ◌∷◌, [], ap, sym, ◌∙◌, subst, arith, length, length-append, length-set, map, Contains}
+use Rattle.std.proofs.Common.{◌≡◌, ◌+◌, ◌<◌, ◌++◌, ◌∷◌, [], ap, sym, ◌∙◌, subst, arith, length, length-append, length-set, map, Contains}
 use Rattle.life_quad.specs.IdMap.{value_of_id}
 use Rattle.life_quad.specs.Store.{id_of}
 use Rattle.life_quad.specs.IdNumbers.{NumberedIds}
