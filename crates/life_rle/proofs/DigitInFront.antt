@@ -1,5 +1,5 @@
 -- What stands in an item's place, by the first byte.
-use Rattle.std.proofs.Common.{◌≡◌, ◌∷◌, ◌-◌, ◌≤◌, ◌<◌, ◌+◌, ℕ, List, [], true, false, refl, arith, nat_lt, add-one, length, drop, get_or, ap, sym, ◌∙◌, ◌==◌, drop-drop}
+use Rattle.std.proofs.Common.{◌≡◌, ◌∷◌, ◌-◌, ◌*◌, ◌≤◌, ◌<◌, ◌+◌, ℕ, List, [], true, false, refl, arith, nat_lt, add-one, length, drop, get_or, ap, sym, ◌∙◌, ◌==◌, drop-drop}
 use Rattle.std.specs.Char.{is_ascii_digit}
 use Rattle.std.specs.List.{prefix_len}
 use Rattle.std.proofs.Math.Seq.{drop-cons}
@@ -61,3 +61,17 @@ digit_in_front d b rest low high other =
     let some : (d - 48 == 0) ≡ false = grind (arith, nat_tests) in
     let few : nat_lt (most_count MAX_LEVEL) (d - 48) ≡ false = grind (arith, nat_tests) in
     rw (space, mark, digit, other, number, some, few) refl
+
+-- two digits in front of a byte that is none
+pub two_digits_in_front : (d e b : ℕ) (rest : List ℕ) → 49 ≤ d → d ≤ 57 → 48 ≤ e → e ≤ 57 → is_ascii_digit b ≡ false
+    → next_of MAX_LEVEL (d ∷ e ∷ b ∷ rest) ≡ item_after (10 * (d - 48) + (e - 48)) (b ∷ rest)
+two_digits_in_front d e b rest low high from to other =
+    let space : is_whitespace d ≡ false = grind (arith, nat_tests) in
+    let mark : (d == 33) ≡ false = grind (arith, nat_tests) in
+    let digit : is_ascii_digit d ≡ true = grind (arith, nat_tests) in
+    let second : is_ascii_digit e ≡ true = grind (arith, nat_tests) in
+    let number : value_of (d ∷ e ∷ []) ≡ 10 * (d - 48) + (e - 48) =
+    omega (arith, digit_value_digit d (omega arith, high), digit_value_digit e (from, to)) in
+    let some : (10 * (d - 48) + (e - 48) == 0) ≡ false = grind (arith, nat_tests) in
+    let few : nat_lt (most_count MAX_LEVEL) (10 * (d - 48) + (e - 48)) ≡ false = grind (arith, nat_tests) in
+    rw (space, mark, digit, second, other, number, some, few) refl

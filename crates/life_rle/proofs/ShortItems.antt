@@ -1,5 +1,5 @@
 -- Short items: the tables that decide them, held against each of the 256 bytes by computing; what they spell; and one more of them is read.
-use Rattle.std.proofs.Common.{◌≡◌, ◌∙◌, ◌+◌, ◌-◌, ◌*◌, ◌≤◌, ◌<◌, ◌∷◌, ◌++◌, ◌^◌, ℕ, List, [], length, drop, get_or, true, false, cond, refl, ap, sym, arith, pos, neg_ℤ, ℤ, ◌+ℤ◌, ◌≤ℤ◌, None, Some, subst, ◌&&◌, map, append-nil, nat_le, int_lt}
+use Rattle.std.proofs.Common.{◌≡◌, ◌∙◌, ◌+◌, ◌-◌, ◌*◌, ◌≤◌, ◌<◌, ◌∷◌, ◌++◌, ◌^◌, ℕ, List, [], length, drop, get_or, true, false, cond, refl, ap, sym, arith, pos, neg_ℤ, ℤ, ◌+ℤ◌, ◌≤ℤ◌, None, Some, subst, ◌&&◌, map, append-nil, nat_le, nat_lt, int_lt, if◌then◌else◌}
 use Rattle.std.proofs.lemmas.Bool.Decides.{nat_tests}
 use Rattle.std.proofs.lemmas.Int.{ints}
 use Rattle.std.proofs.lemmas.List.FromFn.{get_or-map-range_with_len}
@@ -11,7 +11,7 @@ use Rattle.life_base.specs.declared.rule.Rule.TheVariants.{Life, Named}
 use Rattle.life_rle.specs.declared.cursor.Cursor.{Cursor}
 use Rattle.life_rle.specs.declared.item.Item.{Item}
 use Rattle.life_rle.specs.declared.item.Item.TheVariants.{Cells}
-use Rattle.life_rle.specs.declared.short_items.TheConstants.{COUNTS, DIGITS}
+use Rattle.life_rle.specs.declared.short_items.TheConstants.{SHORT}
 use Rattle.life_rle.specs.Items.{Spelled, next_of}
 use Rattle.life_rle.specs.Pattern.{item_fault}
 use Rattle.life_rle.specs.Plane.{rle_plane_end}
@@ -23,22 +23,33 @@ use Rattle.life_rle.specs.ShortItems.{short_count, short_digits, IsShortItem, Is
 use Rattle.life_rle.proofs.PlainItems.{IsRead, IsRead-text, state_at-text}
 use Rattle.life_rle.proofs.StatesRead.{one-byte, two-bytes}
 use Rattle.life_rle.proofs.Texts.{next_of-tag}
-use Rattle.life_rle.proofs.DigitInFront.{text_at, digit_in_front}
+use Rattle.life_rle.proofs.DigitInFront.{text_at, digit_in_front, two_digits_in_front}
 use Rattle.life_rle.proofs.ReadItems.{reads-as, reads_more}
 use Rattle.life_rle.proofs.RowLimits.{fault-by, further}
 use Rattle.life_base.proofs.Basics.{int_le_trans, le-int_le}
 
-counts : COUNTS ≡ map short_count (range_with_len 0 256)
-counts = refl
+-- what the table has at an index
+abbrev entry : ℕ → ℕ
+entry i = if nat_lt i 256 then short_count i else short_digits (i - 256)
 
-pub count_of : (b : ℕ) → b < 256 → get_or COUNTS b 0 ≡ short_count b
-count_of b h = ap (λ (r : List ℕ). get_or r b 0) counts ∙ get_or-map-range_with_len short_count 0 256 b b 0 h (omega arith)
+table : SHORT ≡ map entry (range_with_len 0 512)
+table = refl
 
-digits : DIGITS ≡ map short_digits (range_with_len 0 256)
-digits = refl
+entry_of : (i : ℕ) → i < 512 → get_or SHORT i 0 ≡ entry i
+entry_of i h = ap (λ (r : List ℕ). get_or r i 0) table ∙ get_or-map-range_with_len entry 0 512 i i 0 h (omega arith)
 
-pub digits_of : (b : ℕ) → b < 256 → get_or DIGITS b 0 ≡ short_digits b
-digits_of b h = ap (λ (r : List ℕ). get_or r b 0) digits ∙ get_or-map-range_with_len short_digits 0 256 b b 0 h (omega arith)
+pub count_of : (b : ℕ) → b < 256 → get_or SHORT b 0 ≡ short_count b
+count_of b h =
+    let first : nat_lt b 256 ≡ true = grind (arith, nat_tests) in
+    let at : entry b ≡ short_count b = rw first refl in
+    entry_of b (omega (arith, h)) ∙ at
+
+pub digits_of : (b : ℕ) → b < 256 → get_or SHORT (b + 256) 0 ≡ short_digits b
+digits_of b h =
+    let second : nat_lt (b + 256) 256 ≡ false = grind (arith, nat_tests) in
+    let same : b + 256 - 256 ≡ b = omega arith in
+    let at : entry (b + 256) ≡ short_digits b = rw (second, same) refl in
+    entry_of (b + 256) (omega (arith, h)) ∙ at
 
 -- a state behind a count
 state-item : (count state : ℕ) (bytes rest : List ℕ) → leading_state bytes ≡ Some (state, rest) → IsRead count bytes (Cells count state) rest
@@ -90,7 +101,26 @@ one-digit line at h low high =
           ∙ read.1;
     }
 
--- what the tables say of the item at a place
+-- dead cells whose count has two digits
+many-dead : (line : List ℕ) (at : ℕ) → at + 2 < length line → 49 ≤ get_or line at 0 → get_or line at 0 ≤ 57 → 48 ≤ get_or line (at + 1) 0
+    → get_or line (at + 1) 0 ≤ 57 → get_or line (at + 2) 0 ≡ 98
+    → next_of MAX_LEVEL (drop at line) ≡ Spelled (Cells (10 * (get_or line at 0 - 48) + (get_or line (at + 1) 0 - 48)) 0) (drop (at + 3) line)
+many-dead line at h low high from to dead =
+    let first = get_or line at 0 in
+    let second = get_or line (at + 1) 0 in
+    let rest = drop (at + 3) line in
+    let count = 10 * (first - 48) + (second - 48) in
+    let one : at + 1 + 1 ≡ at + 2 = omega arith in
+    let two : at + 2 + 1 ≡ at + 3 = omega arith in
+    let third : drop (at + 2) line ≡ 98 ∷ rest =
+    text_at line (at + 2) h ∙ ap (λ b. b ∷ drop (at + 2 + 1) line) dead ∙ ap (λ n. 98 ∷ drop n line) two in
+    let parts : drop at line ≡ first ∷ second ∷ 98 ∷ rest =
+    text_at line at (omega (arith, h))
+    ∙ ap (λ t. first ∷ t) (text_at line (at + 1) (omega (arith, h)) ∙ ap (λ n. second ∷ drop n line) one ∙ ap (λ t. second ∷ t) third) in
+    let read : IsRead count (98 ∷ rest) (Cells count 0) rest = state-item count 0 (98 ∷ rest) rest (one-byte 98 0 rest refl) in
+    ap (next_of MAX_LEVEL) parts ∙ two_digits_in_front first second 98 rest low high from to refl ∙ read.1
+
+-- what the table says of the item at a place
 pub is-short : (line : List ℕ) (at : ℕ) → at + 1 < length line
     → IsShortItem MAX_LEVEL line at (short_count (get_or line at 0)) (at + short_digits (get_or line at 0))
 is-short line at h =
@@ -205,3 +235,43 @@ reads-none rule from line runs near = record {
   read = record { spelled = refl; sound = refl; cursor = refl; near = near; runs = refl };
   added = sym (append-nil runs);
 }
+
+two-digit-cells : (x limit : ℤ) (n : ℕ) → n ≤ 99 → (x +ℤ pos 9437283) ≤ℤ limit → (x +ℤ pos n) ≤ℤ limit
+two-digit-cells x limit n few room = omega (arith, ints)
+
+room-of-line : (x limit : ℤ) (n len behind : ℕ) → n ≤ 99 → len ≤ 1048576 → (x +ℤ pos 9437283) ≤ℤ limit
+    → ((x +ℤ pos n) +ℤ pos (9 * (len - behind))) ≤ℤ limit
+room-of-line x limit n len behind few short room = omega (arith, ints)
+
+-- there is room behind dead cells of two digits that are not near the edge of the plane
+pub many-room : (line : List ℕ) (at count behind : ℕ) (here : Cursor) → RowHasSpace MAX_LEVEL line at here → count ≤ 99 → length line ≤ 1048576
+    → (here.x +ℤ pos 9437283) ≤ℤ row_limit MAX_LEVEL here.y → RowHasSpace MAX_LEVEL line behind (cursor_after_item here (Cells count 0))
+many-room line at count behind here h few short far =
+    let limit = row_limit MAX_LEVEL here.y in
+    let cells = two-digit-cells here.x limit count few far in
+    record {
+      near = record {
+        left = h.near.left;
+        x = (further (neg_ℤ (rle_plane_end MAX_LEVEL)) here.x count h.near.x.0, int_le_trans _ _ _ cells (low-limit here.y));
+        y = h.near.y;
+      };
+      room = room-of-line here.x limit count (length line) behind few short far;
+    }
+
+-- such dead cells are read
+pub reads-many-dead : (line : List ℕ) (at count : ℕ) (here : Cursor) → at + 2 < length line → RowHasSpace MAX_LEVEL line at here
+    → length line ≤ 1048576 → (here.x +ℤ pos 9437283) ≤ℤ row_limit MAX_LEVEL here.y
+    → 49 ≤ get_or line at 0 → get_or line at 0 ≤ 57 → 48 ≤ get_or line (at + 1) 0 → get_or line (at + 1) 0 ≤ 57 → get_or line (at + 2) 0 ≡ 98
+    → count ≡ 10 * (get_or line at 0 - 48) + (get_or line (at + 1) 0 - 48)
+    → (rule : Rule) (found : List Run) → ReadsOn MAX_LEVEL rule line at here found (at + 3) (cursor_after_item here (Cells count 0)) found
+reads-many-dead line at count here inside h short far low high from to dead e rule found =
+    let few : count ≤ 99 = omega (arith, e, high, to) in
+    let limit = row_limit MAX_LEVEL here.y in
+    let item : Item = Cells count 0 in
+    let sound : item_fault MAX_LEVEL rule here.y here.x item ≡ None =
+    fault-by (is_state_of rule 0) here.y here.x limit count h.near.x.0 refl (low-state rule 0 (omega arith)) true
+    (le-int_le _ _ (two-digit-cells here.x limit count few far)) in
+    let spelled = subst (λ n. next_of MAX_LEVEL (drop at line) ≡ Spelled (Cells n 0) (drop (at + 3) line)) (sym e)
+    (many-dead line at inside low high from to dead) in
+    reads-one rule line at (at + 3) here (cursor_after_item here item) found found item spelled sound refl
+    (many-room line at count (at + 3) here h few short far).near (sym (append-nil found))

@@ -160,14 +160,13 @@ live-cell rule cell good =
     let right = good.right in
     record { left = good.left; right = omega (arith, ints, right); top = good.top; bottom = good.bottom; live = good.live }
 
-pub take-ended : (rule : Rule) (pen : Pen) (cell : Cell) (middle new : ItemLines) → IsPen pen → IsGoodCell rule cell
-    → IsAhead pen.left (column_after_run pen.run) pen.run.y cell → continues_run pen.run cell ≡ false → PutsItems rule pen.lines (item_of pen.run ∷ []) middle
-    → PutsItems rule middle (way_to pen.left (column_after_run pen.run) pen.run.y cell []) new
+pub take-ended : (rule : Rule) (pen : Pen) (cell : Cell) (new : ItemLines) → IsPen pen → IsGoodCell rule cell
+    → IsAhead pen.left (column_after_run pen.run) pen.run.y cell → continues_run pen.run cell ≡ false
+    → PutsItems rule pen.lines (item_of pen.run ∷ way_to pen.left (column_after_run pen.run) pen.run.y cell []) new
     → WritesCell rule pen cell (record { lines = new; left = pen.left; run = run_of cell })
-take-ended rule pen cell middle new p good ahead h item way =
+take-ended rule pen cell new p good ahead h both =
     let run = pen.run in
     let x = column_after_run run in
-    let both = Puts-then rule (item_of run ∷ []) (way_to pen.left x run.y cell []) pen.lines middle new item way in
     record {
       sound = record { short = both.short; left = p.left; run = live-cell rule cell good };
       place = (refl, refl, refl);
@@ -175,6 +174,13 @@ take-ended rule pen cell middle new p good ahead h item way =
           both.text (with_cells 1 cell.state (items_from pen.left (cell.x +ℤ pos 1) cell.y cells))
           ∙ ap (λ items. text_with rule pen.lines items) (sym (cell-ends run.len run.state pen.left x run.y cell cells p.run.live ahead h));
     }
+
+-- the way along a row
+pub way-along : (left x y : ℤ) (cell : Cell) (rows gap : ℕ) → rows ≡ nat_abs (cell.y -ℤ y) → rows ≡ 0 → gap ≡ nat_abs (cell.x -ℤ x)
+    → with_gap gap [] ≡ way_to left x y cell []
+way-along left x y cell rows gap e none g =
+    let on : int_eq cell.y y ≡ true = grind (arith, ints) in
+    ap (λ n. with_gap n []) g ∙ sym (ap (λ t. stepped t left x y cell []) on)
 
 -- the way to a later row
 pub way-down : (rule : Rule) (left x y : ℤ) (cell : Cell) (rows gap : ℕ) (old middle new : ItemLines) → rows ≡ nat_abs (cell.y -ℤ y) → (rows ≡ 0 → ⊥)

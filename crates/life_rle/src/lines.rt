@@ -1,11 +1,12 @@
 //! An RLE file that comes line by line.
 
-ghost use Rattle.std.specs.Prelude.{◌≡◌, ◌⊎◌, List, [], ℕ, Err, Ok, false, true, IfOk, IfErr, OnErr, IsErrOf, IsOkAnd};
-ghost use Rattle.life_rle.specs.Words.{IsNear, IsPrefixOfRuns, opening_of, later_of, BreaksRle, ItemsBreak, is_refused, is_over, Advances, TakesRleLine, IsCursorPlaced, StandsAt, Data, Position};
+ghost use Rattle.std.specs.Prelude.{◌≡◌, ◌⊎◌, List, [], ℕ, Err, Ok, false, true, IfOk, IfErr, OnErr, IsErrOf, IsOk, IsOkAnd, OnOk};
+ghost use Rattle.life_rle.specs.Words.{IsNear, IsPrefixOfRuns, opening_of, later_of, BreaksRle, ItemsBreak, is_refused, is_over, Advances, TakesRleLine, IsCursorPlaced, StandsAt, Data, Position, Rule};
+ghost use Rattle.life_rle.specs.Phases.{is_items, phase_after};
 
 use crate::cursor::{Cursor, start_of};
 use crate::line::{Later, Opening, later_of, opening_of};
-use crate::line_items::read_items;
+use crate::line_items::{ItemsRead, read_items};
 use crate::position::Position;
 use life_base::{Kind, LineLog, MAX_LEVEL, Rule, Run};
 use std::alloc::Global;
@@ -45,63 +46,115 @@ fn before_header(
     }
 }
 
-/// A line after the header: one that is passed over, or items and whether `!` ends them.
+/// Takes a line after the header: one that is passed over, or items, whose runs go after the runs. Returns where the items end.
+#[inline(always)]
 fn behind_header(
-    rule: Rule,
-    position: Position,
+    rule: &Rule,
     cursor: Cursor,
     line: &[u8],
     runs: &mut Vec<Run>,
-) -> Result<(Phase, Cursor), Kind>
+) -> Result<ItemsRead, Kind>
     requires { IsNear MAX_LEVEL cursor }
-    ensures advance { IfOk result (λ next. TakesRleLine MAX_LEVEL (Phase.Items rule position) cursor
-        line.now next.0 next.1 runs.old.items runs.new.items) }
-    ensures going { IfOk result (λ next. is_refused next.0 ≡ false) }
+    ensures advance { IfOk result (λ read. (position : Position)
+        → TakesRleLine MAX_LEVEL (Phase.Items rule.now position) cursor line.now
+        (phase_after rule.now position read.marked) read.cursor runs.old.items runs.new.items) }
     ensures fault { IfErr result (λ kind. (kind ≡ Kind.Memory) ⊎ (later_of line.now ≡ Err kind)
-        ⊎ ((later_of line.now ≡ Ok Data) × ItemsBreak MAX_LEVEL rule cursor line.now kind)) }
+        ⊎ ((later_of line.now ≡ Ok Data) × ItemsBreak MAX_LEVEL rule.now cursor line.now kind)) }
     ensures kept { OnErr result (IsPrefixOfRuns runs.old.items runs.new.items) }
 {
     match later_of(line)? {
-        Later::Passed => Ok((Phase::Items(rule, position), cursor)),
-        Later::Data => {
-            let read = read_items(&rule, cursor, line, runs)?;
-            let phase = if read.marked {
-                Phase::Over(rule, position)
-            } else {
-                Phase::Items(rule, position)
-            };
-            Ok((phase, read.cursor))
-        }
+        Later::Passed => Ok(ItemsRead {
+            cursor,
+            marked: false,
+        }),
+        Later::Data => read_items(rule, cursor, line, runs),
     }
 }
 
-/// A line after any lines, which have brought the reader to this phase and place; its runs go after the runs.
-fn after_line(
+/// A line before the header or after the mark: where it brings the reader. Few lines of a large file are such, so it stays apart.
+#[inline(never)]
+fn beside_items(
     alloc: Global,
-    at: (Phase, Cursor),
+    phase: Phase,
+    cursor: Cursor,
     line: &[u8],
-    runs: &mut Vec<Run>,
 ) -> Result<(Phase, Cursor), Kind>
-    requires { IsCursorPlaced MAX_LEVEL at.0 at.1 }
-    ensures advance { IfOk result (λ next. TakesRleLine MAX_LEVEL at.0 at.1 line.now next.0 next.1
-        runs.old.items runs.new.items) }
+    requires { is_items phase ≡ false }
+    ensures advance { IfOk result
+        (λ next. Advances MAX_LEVEL phase cursor line.now next.0 next.1 []) }
     ensures going { IfOk result (λ next. is_refused next.0 ≡ false) }
     ensures fault { IfErr result (λ kind. (kind ≡ Kind.Memory)
-        ⊎ ((kind ≡ Kind.Spent) × (is_refused at.0 ≡ true))
-        ⊎ ((lines : List (List ℕ)) → StandsAt MAX_LEVEL at.0 at.1 lines
+        ⊎ ((kind ≡ Kind.Spent) × (is_refused phase ≡ true))
+        ⊎ ((lines : List (List ℕ)) → StandsAt MAX_LEVEL phase cursor lines
         → BreaksRle MAX_LEVEL lines line.now kind)) }
-    ensures kept { OnErr result (IsPrefixOfRuns runs.old.items runs.new.items) }
-    ensures unspent { IfOk result (λ _. is_refused at.0 ≡ false) }
-    ensures spent { is_refused at.0 ≡ true → IsErrOf result Kind.Spent }
-    ensures free { is_over at.0 ≡ true → IsOkAnd result (λ _. runs.new.items ≡ runs.old.items) }
+    ensures unspent { IfOk result (λ _. is_refused phase ≡ false) }
+    ensures spent { is_refused phase ≡ true → IsErrOf result Kind.Spent }
+    ensures free { is_over phase ≡ true → IsOk result }
 {
-    let (phase, cursor) = at;
     match phase {
         Phase::Before(position) => before_header(alloc, position, cursor, line),
-        Phase::Items(rule, position) => behind_header(rule, position, cursor, line, runs),
+        Phase::Items(rule, position) => Ok((Phase::Items(rule, position), cursor)),
         Phase::Over(rule, position) => Ok((Phase::Over(rule, position), cursor)),
         Phase::Refused => Err(Kind::Spent),
     }
+}
+
+/// Ends the items of a file: `!` came.
+#[inline(never)]
+fn end_items(phase: &mut Phase)
+    ensures { (rule : Rule) (position : Position) → phase.old ≡ Phase.Items rule position
+        → phase.new ≡ Phase.Over rule position }
+{
+    let was = mem::replace(phase, Phase::Refused);
+    if let Phase::Items(rule, position) = was {
+        *phase = Phase::Over(rule, position);
+    }
+}
+
+/// Takes a line after any lines, which have brought the reader to this phase and place; its runs go after the runs. Neither is moved where the
+/// line is one of items, as most lines are.
+fn after_line(
+    alloc: Global,
+    phase: &mut Phase,
+    cursor: &mut Cursor,
+    line: &[u8],
+    runs: &mut Vec<Run>,
+) -> Result<(), Kind>
+    requires { IsCursorPlaced MAX_LEVEL phase.old cursor.old }
+    ensures advance { OnOk result (TakesRleLine MAX_LEVEL phase.old cursor.old line.now phase.new
+        cursor.new runs.old.items runs.new.items) }
+    ensures going { OnOk result (is_refused phase.new ≡ false) }
+    ensures refused { OnErr result (phase.new ≡ Phase.Refused) }
+    ensures fault { IfErr result (λ kind. (kind ≡ Kind.Memory)
+        ⊎ ((kind ≡ Kind.Spent) × (is_refused phase.old ≡ true))
+        ⊎ ((lines : List (List ℕ)) → StandsAt MAX_LEVEL phase.old cursor.old lines
+        → BreaksRle MAX_LEVEL lines line.now kind)) }
+    ensures kept { OnErr result (IsPrefixOfRuns runs.old.items runs.new.items) }
+    ensures unspent { OnOk result (is_refused phase.old ≡ false) }
+    ensures spent { is_refused phase.old ≡ true → IsErrOf result Kind.Spent }
+    ensures free { is_over phase.old ≡ true
+        → IsOkAnd result (λ _. runs.new.items ≡ runs.old.items) }
+{
+    if let Phase::Items(rule, _) = phase {
+        match behind_header(rule, *cursor, line, runs) {
+            Ok(read) => {
+                *cursor = read.cursor;
+                if read.marked {
+                    end_items(phase);
+                }
+                return Ok(());
+            }
+            Err(kind) => {
+                *phase = Phase::Refused;
+                return Err(kind);
+            }
+        }
+    }
+    let was = mem::replace(phase, Phase::Refused);
+    let (next, place) = beside_items(alloc, was, *cursor, line)?;
+    *phase = next;
+    *cursor = place;
+    Ok(())
 }
 
 /// Takes the lines of a file in extended RLE one after another. It keeps the rule, the position and a place, and no text.
@@ -213,11 +266,8 @@ impl RleLines {
             → ((file : Rle) × IsMarked MAX_LEVEL self.old.lines file)
             → IsOkAnd result (λ _. runs.new.items ≡ runs.old.items) }
     {
-        let phase = mem::replace(&mut self.phase, Phase::Refused);
-        let (phase, cursor) = after_line(self.alloc, (phase, self.cursor), line, runs)?;
+        after_line(self.alloc, &mut self.phase, &mut self.cursor, line, runs)?;
         self.log = self.log.then(line);
-        self.phase = phase;
-        self.cursor = cursor;
         Ok(())
     }
 

@@ -66,22 +66,28 @@ fn distance(from: i64, to: i64) -> u64
     (to - from) as u64
 }
 
-/// Writes what is between a run and a cell ahead of it, where rows begin at a column.
+/// Writes a run and what is between it and a cell ahead of it, where rows begin at a column.
 #[inline(always)]
-fn put_way(lines: &mut ItemLines, rule: &Rule, left: i64, run: Run, cell: &Cell) -> Result<(), Kind>
+fn put_run_and_way(
+    lines: &mut ItemLines,
+    rule: &Rule,
+    left: i64,
+    run: Run,
+    cell: &Cell,
+) -> Result<(), Kind>
     requires pen { IsPen (record { lines = lines.old; left = left; run = run }) }
     requires cell { IsGoodCell rule.now cell.now }
     requires ahead { IsAhead left (column_after_run run) run.y cell.now }
-    ensures way { OnOk result
-        (PutsItems rule.now lines.old (way_to left (column_after_run run) run.y cell.now [])
-        lines.new) }
+    ensures way { OnOk result (PutsItems rule.now lines.old
+        (item_of run ∷ way_to left (column_after_run run) run.y cell.now []) lines.new) }
     ensures memory { IfErr result IsMemory }
 {
     let count = distance(run.y, cell.y);
     if count == 0 {
         let gap = distance(column_behind(run), cell.x);
-        return lines.put_gap(rule, gap);
+        return lines.put_run(rule, run.len, run.state, gap);
     }
+    lines.put_item(rule, item_of(run))?;
     lines.put_item(rule, Item::RowEnds { count })?;
     lines.put_gap(rule, distance(left, cell.x))
 }
@@ -100,8 +106,7 @@ fn take(lines: &mut ItemLines, rule: &Rule, left: i64, run: Run, cell: &Cell) ->
     if joins(run, cell) {
         return Ok(longer(run));
     }
-    lines.put_item(rule, item_of(run))?;
-    put_way(lines, rule, left, run, cell)?;
+    put_run_and_way(lines, rule, left, run, cell)?;
     Ok(run_of(cell))
 }
 

@@ -1,15 +1,16 @@
 //! Short items of a line: cells whose count has at most one digit. Under a rule of two states their state is written `b` or `o`. Most items are short.
 
-ghost use Rattle.std.specs.Prelude.{◌≡◌, ◌≤◌, ◌<◌, ◌+◌, ◌-◌, true, length, IfSome, IsTrue};
-ghost use Rattle.life_rle.specs.Words.{vec_len, vec_capacity, is_state_of, IsNear, row_limit, RowHasSpace, ReadsOn, IsShortItem, IsStateAt, AreShortCells, PassesDead, short_count, short_digits, Rule};
+ghost use Rattle.std.specs.Prelude.{◌≡◌, ◌≤◌, ◌<◌, ◌+◌, ◌-◌, true, length, List, IfSome, IsTrue};
+ghost use Rattle.life_rle.specs.Words.{vec_len, vec_capacity, is_state_of, IsNear, row_limit, RowHasSpace, ReadsOn, IsShortItem, IsStateAt, AreShortCells, PassesDead, short_count, short_digits, Rule, Run};
 
 use crate::cursor::{Cursor, cursor_after};
 use crate::item::{Item, prefixed_state, single_state};
 use life_base::{LONGEST_LINE, MAX_LEVEL, Rule, Run, State};
 use std::mem;
 
-/// The count of a short item that begins with this byte.
-static COUNTS: [u8; 256] = [
+/// The count of a short item that begins with each byte, and then how many digits such an item has. They are one table, so that the loop over the
+/// items needs one address for both.
+static SHORT: [u8; 512] = [
     1, 1, 1, 1, 1, 1, 1, 1, 1, 1, 1, 1, 1, 1, 1, 1, 1, 1, 1, 1, 1, 1, 1, 1, 1, 1, 1, 1, 1, 1, 1, 1,
     1, 1, 1, 1, 1, 1, 1, 1, 1, 1, 1, 1, 1, 1, 1, 1, 1, 1, 2, 3, 4, 5, 6, 7, 8, 9, 1, 1, 1, 1, 1, 1,
     1, 1, 1, 1, 1, 1, 1, 1, 1, 1, 1, 1, 1, 1, 1, 1, 1, 1, 1, 1, 1, 1, 1, 1, 1, 1, 1, 1, 1, 1, 1, 1,
@@ -18,10 +19,6 @@ static COUNTS: [u8; 256] = [
     1, 1, 1, 1, 1, 1, 1, 1, 1, 1, 1, 1, 1, 1, 1, 1, 1, 1, 1, 1, 1, 1, 1, 1, 1, 1, 1, 1, 1, 1, 1, 1,
     1, 1, 1, 1, 1, 1, 1, 1, 1, 1, 1, 1, 1, 1, 1, 1, 1, 1, 1, 1, 1, 1, 1, 1, 1, 1, 1, 1, 1, 1, 1, 1,
     1, 1, 1, 1, 1, 1, 1, 1, 1, 1, 1, 1, 1, 1, 1, 1, 1, 1, 1, 1, 1, 1, 1, 1, 1, 1, 1, 1, 1, 1, 1, 1,
-];
-
-/// How many digits a short item has that begins with this byte.
-static DIGITS: [u8; 256] = [
     0, 0, 0, 0, 0, 0, 0, 0, 0, 0, 0, 0, 0, 0, 0, 0, 0, 0, 0, 0, 0, 0, 0, 0, 0, 0, 0, 0, 0, 0, 0, 0,
     0, 0, 0, 0, 0, 0, 0, 0, 0, 0, 0, 0, 0, 0, 0, 0, 0, 1, 1, 1, 1, 1, 1, 1, 1, 1, 0, 0, 0, 0, 0, 0,
     0, 0, 0, 0, 0, 0, 0, 0, 0, 0, 0, 0, 0, 0, 0, 0, 0, 0, 0, 0, 0, 0, 0, 0, 0, 0, 0, 0, 0, 0, 0, 0,
@@ -38,6 +35,9 @@ const FEW_BYTES: usize = 32;
 /// Short items of a line move the cursor by fewer columns than this: 9 for each byte of the longest line.
 const FAR: i64 = 9 * LONGEST_LINE as i64;
 
+/// The same, where cells whose count has two digits come first.
+const FARTHER: i64 = FAR + 99;
+
 /// A place of a line, and where the item there begins on the plane.
 #[derive(Clone, Copy)]
 pub(crate) struct ItemPlace {
@@ -50,7 +50,7 @@ pub(crate) struct ItemPlace {
 fn short_count(byte: u8) -> u64
     ensures { result ≡ short_count byte }
 {
-    u64::from(COUNTS[usize::from(byte)])
+    u64::from(SHORT[usize::from(byte)])
 }
 
 /// How many digits a short item has that begins with a byte.
@@ -58,7 +58,7 @@ fn short_count(byte: u8) -> u64
 fn short_digits(byte: u8) -> usize
     ensures { result ≡ short_digits byte }
 {
-    usize::from(DIGITS[usize::from(byte)])
+    usize::from(SHORT[usize::from(byte) + 256])
 }
 
 /// The count of the short item at a place, and the place of its state. If there is no state, the item isn't short.
@@ -98,6 +98,34 @@ fn pass_dead(line: &[u8], here: ItemPlace) -> ItemPlace
     }
 }
 
+/// The place after dead cells whose count has two digits, if they are here. None are passed near the edge of the plane.
+#[inline(always)]
+fn pass_many_dead(line: &[u8], here: ItemPlace, limit: i64) -> ItemPlace
+    requires line { length line.now ≤ LONGEST_LINE }
+    requires inside { here.at + 2 < length line.now }
+    requires room { RowHasSpace MAX_LEVEL line.now here.at here.cursor }
+    requires limit { limit ≡ row_limit MAX_LEVEL here.cursor.y }
+    ensures inside { (here.at ≤ result.at) × (result.at ≤ here.at + 3) }
+    ensures row { result.cursor.y ≡ here.cursor.y }
+    ensures room { RowHasSpace MAX_LEVEL line.now result.at result.cursor }
+    ensures read { (rule : Rule) (found : List Run) → ReadsOn MAX_LEVEL rule line.now here.at
+        here.cursor found result.at result.cursor found }
+{
+    let tens = line[here.at];
+    let ones = line[here.at + 1];
+    if tens < b'1' || tens > b'9' || ones < b'0' || ones > b'9' {
+        return here;
+    }
+    if line[here.at + 2] != b'b' || here.cursor.x + FARTHER > limit {
+        return here;
+    }
+    let count = 10 * u64::from(tens - b'0') + u64::from(ones - b'0');
+    ItemPlace {
+        at: here.at + 3,
+        cursor: cursor_after(here.cursor, Item::Cells { count, state: 0 }),
+    }
+}
+
 /// The state at a place and the place after it, if a state is there.
 #[inline(always)]
 fn state_at(line: &[u8], place: usize) -> Option<(State, usize)>
@@ -131,7 +159,7 @@ fn short_cells(line: &[u8], at: usize) -> Option<(u64, State, usize)>
     }
     let (count, place) = short_item(line, at);
     match state_at(line, place) {
-        Some((state, behind)) => Some((count, state, behind)),
+        Some((state, after)) => Some((count, state, after)),
         None => None,
     }
 }
@@ -151,12 +179,15 @@ fn short_end(line: &[u8], at: usize, runs: &Vec<Run>, rest: usize) -> usize
 }
 
 /// Takes short items of states 0 and 1, which take turns as a rule, from a place of a line on, and puts their runs after the runs. It stops
-/// before the line's last four bytes, before another item, and where there may be no capacity for one more run.
+/// before the line's last four bytes, before another item (dead cells may have a count of two digits), and where there may be no capacity for one
+/// more run.
 #[inline(always)]
-fn take_two_states(line: &[u8], from: ItemPlace, runs: &mut Vec<Run>) -> ItemPlace
+fn take_two_states(line: &[u8], from: ItemPlace, limit: i64, runs: &mut Vec<Run>) -> ItemPlace
+    requires line { length line.now ≤ LONGEST_LINE }
     requires inside { from.at < length line.now }
     requires room { RowHasSpace MAX_LEVEL line.now from.at from.cursor }
-    ensures inside { (from.at ≤ result.at) × (result.at < length line.now) }
+    requires limit { limit ≡ row_limit MAX_LEVEL from.cursor.y }
+    ensures inside { (from.at ≤ result.at) × (result.at ≤ length line.now) }
     ensures near { IsNear MAX_LEVEL result.cursor }
     ensures row { result.cursor.y ≡ from.cursor.y }
     ensures read { (rule : Rule) → ReadsOn MAX_LEVEL rule line.now from.at from.cursor
@@ -170,7 +201,12 @@ fn take_two_states(line: &[u8], from: ItemPlace, runs: &mut Vec<Run>) -> ItemPla
         here = pass_dead(line, here);
         let (count, last) = short_item(line, here.at);
         if line[last] != b'o' {
-            break;
+            let next = pass_many_dead(line, here, limit);
+            if next.at == here.at {
+                break;
+            }
+            here = next;
+            continue;
         }
         lent.push_reserved(Run {
             x: here.cursor.x,
@@ -204,7 +240,7 @@ fn take_many_states(line: &[u8], from: ItemPlace, runs: &mut Vec<Run>) -> ItemPl
     let end = short_end(line, from.at, &lent, 2);
     let mut here = from;
     while here.at < end {
-        let Some((count, state, behind)) = short_cells(line, here.at) else {
+        let Some((count, state, after)) = short_cells(line, here.at) else {
             break;
         };
         if state != 0 {
@@ -216,7 +252,7 @@ fn take_many_states(line: &[u8], from: ItemPlace, runs: &mut Vec<Run>) -> ItemPl
             });
         }
         here = ItemPlace {
-            at: behind,
+            at: after,
             cursor: cursor_after(here.cursor, Item::Cells { count, state }),
         };
     }
@@ -252,6 +288,6 @@ pub(crate) fn take_short_items(
     if many {
         take_many_states(line, from, runs)
     } else {
-        take_two_states(line, from, runs)
+        take_two_states(line, from, limit, runs)
     }
 }

@@ -1,6 +1,6 @@
 //! Texts of items, on lines of at most 70 bytes.
 
-ghost use Rattle.std.specs.Prelude.{◌≡◌, ◌+◌, ◌<◌, ◌≤◌, ◌++◌, ◌∷◌, [], length, drop, OnOk, IfOk, IfErr, IfSome, MatchOption};
+ghost use Rattle.std.specs.Prelude.{◌≡◌, ℕ, ◌+◌, ◌<◌, ◌≤◌, ◌++◌, ◌∷◌, [], length, drop, OnOk, IfOk, IfErr, IfSome, MatchOption};
 ghost use Rattle.life_rle.specs.Words.{Rule, state_text, state_letters, item_count, Cells, RowEnds, count_text, item_text, with_gap, tag_text, PutsItems, text_with, IsMemory};
 
 use crate::item::Item;
@@ -55,6 +55,17 @@ fn single_state(rule: &Rule, state: State) -> Option<u8>
     match rule {
         Rule::Life(_) => Some(if state == 0 { b'b' } else { b'o' }),
         Rule::Named(_) => single_lettered(state),
+    }
+}
+
+/// The letter of dead cells.
+#[inline(always)]
+fn dead_letter(rule: &Rule) -> u8
+    ensures { state_text rule.now 0 ≡ result ∷ [] }
+{
+    match rule {
+        Rule::Life(_) => b'b',
+        Rule::Named(_) => b'.',
     }
 }
 
@@ -139,6 +150,7 @@ impl ItemLines {
             (self.new.text.items ≡ self.old.text.items ++ (count_text count ++ letter ∷ [])) }
         ensures used { OnOk result
             (self.new.used ≡ self.old.used + length (count_text count ++ letter ∷ [])) }
+        ensures most { OnOk result (self.new.used ≤ self.old.used + 2) }
         ensures memory { IfErr result IsMemory }
     {
         if count != 1 {
@@ -233,6 +245,58 @@ impl ItemLines {
             return Ok(());
         }
         self.put_item(rule, Item::Cells { count, state: 0 })
+    }
+
+    /// Writes cells and the dead cells after them, if any.
+    #[inline(never)]
+    fn put_long_run(&mut self, rule: &Rule, count: u64, state: State, gap: u64) -> Result<(), Kind>
+        requires { self.old.used ≤ 70 }
+        ensures run { OnOk result
+            (PutsItems rule.now self.old (Cells count state ∷ with_gap gap []) self.new) }
+        ensures memory { IfErr result IsMemory }
+    {
+        self.put_item(rule, Item::Cells { count, state })?;
+        self.put_gap(rule, gap)
+    }
+
+    /// Writes a count of cells and one of dead cells, if any, each of one digit, on a line with space for both.
+    #[inline(always)]
+    fn put_short_run(&mut self, rule: &Rule, count: u64, letter: u8, gap: u64) -> Result<(), Kind>
+        requires digit { count < 10 }
+        requires gap_digit { gap < 10 }
+        requires room { self.old.used + 4 ≤ 70 }
+        ensures run { (state : ℕ) → state_text rule.now state ≡ letter ∷ [] → OnOk result
+            (PutsItems rule.now self.old (Cells count state ∷ with_gap gap []) self.new) }
+        ensures memory { IfErr result IsMemory }
+    {
+        self.put_short(count, letter)?;
+        if gap == 0 {
+            return Ok(());
+        }
+        self.put_short(gap, dead_letter(rule))
+    }
+
+    /// Writes cells and the dead cells after them, if any: at once where each takes a byte or two and both fit on the line.
+    #[inline(always)]
+    pub(crate) fn put_run(
+        &mut self,
+        rule: &Rule,
+        count: u64,
+        state: State,
+        gap: u64,
+    ) -> Result<(), Kind>
+        requires { self.old.used ≤ 70 }
+        ensures run { OnOk result
+            (PutsItems rule.now self.old (Cells count state ∷ with_gap gap []) self.new) }
+        ensures memory { IfErr result IsMemory }
+    {
+        if count >= 10 || gap >= 10 || self.used + 4 > LINE_WIDTH {
+            return self.put_long_run(rule, count, state, gap);
+        }
+        match single_state(rule, state) {
+            Some(letter) => self.put_short_run(rule, count, letter, gap),
+            None => self.put_long_run(rule, count, state, gap),
+        }
     }
 
     /// Writes the `!` after the last item, ends its line, and returns the text.

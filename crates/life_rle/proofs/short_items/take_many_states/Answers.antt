@@ -17,7 +17,7 @@ loop-here-preserved c =
     let here = c.loop-here.here.cursor in
     let count = c.in-Some.count in
     let state = c.in-Some.state in
-    let behind = c.in-Some.behind in
+    let after = c.in-Some.after in
     let found = c.in-Some.ensures in
     let before = c.loop-here.lent.items in
     let kept = c.loop-here.invariant in
@@ -41,12 +41,12 @@ loop-here-preserved c =
       inside = omega (arith, end, on, to);
       end = end;
       row = ap (λ (next : Cursor). next.y) moves ∙ kept.row;
-      room = subst (RowHasSpace MAX_LEVEL line behind) (sym moves)
-          (still-room line at count state behind here kept.room found.few (omega (arith, from)) (omega (arith, end, on, to)));
+      room = subst (RowHasSpace MAX_LEVEL line after) (sym moves)
+          (still-room line at count state after here kept.room found.few (omega (arith, from)) (omega (arith, end, on, to)));
       spare = omega (arith, spare, len, capacity, on, from);
-      read = λ rule many. subst (λ (next : Cursor). ReadsOn MAX_LEVEL rule line c.args.from.at c.args.from.cursor c.args.runs.now.items behind next
-          c.if-state-ne0.lent.items) (sym moves) (reads-on rule line c.args.from.at at behind c.args.from.cursor here there
+      read = λ rule many. subst (λ (next : Cursor). ReadsOn MAX_LEVEL rule line c.args.from.at c.args.from.cursor c.args.runs.now.items after next
+          c.if-state-ne0.lent.items) (sym moves) (reads-on rule line c.args.from.at at after c.args.from.cursor here there
           c.args.runs.now.items before c.if-state-ne0.lent.items (kept.read rule many)
-          (reads-short line at count state behind here before c.if-state-ne0.lent.items kept.room found.few (omega (arith, from))
+          (reads-short line at count state after here before c.if-state-ne0.lent.items kept.room found.few (omega (arith, from))
           (omega (arith, end, on, to)) found.read pushed.0 rule (any-state rule state many found.small)));
     }

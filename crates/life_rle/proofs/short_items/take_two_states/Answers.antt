@@ -7,7 +7,7 @@ use Rattle.life_rle.specs.Runs.{with_run}
 use Rattle.life_rle.specs.ShortItems.{RowHasSpace, ReadsOn}
 use Rattle.life_rle.proofs.ShortItems.{low-state, reads-on, reads-short, state-byte, still-room}
 use Rattle.life_rle.proofs.short_items.take_two_states.Goals as goal
-use Rattle.life_rle.proofs.short_items.take_two_states.Goals.{else-loop-here-test, then-loop-here-test+then-line-last-ne111}
+use Rattle.life_rle.proofs.short_items.take_two_states.Goals.{else-loop-here-test, then-loop-here-test+then-line-last-ne111+then-next-here}
 
 pub loop-here-preserved : goal.loop-here-preserved
 loop-here-preserved c =
@@ -56,13 +56,13 @@ loop-here-preserved c =
 pub returns-clause-near : goal.returns-clause-near
 returns-clause-near c = elim c.loop-here-test.branch [
   | else-loop-here-test w ↦ rw w.here-is c.loop-here.invariant.room.near
-  | then-loop-here-test+then-line-last-ne111 w ↦ rw w.here-is w.pass_dead-here.ensures.room.near
+  | then-loop-here-test+then-line-last-ne111+then-next-here w ↦ rw w.here-is w.pass_dead-here.ensures.room.near
 ]
 
 pub returns-clause-read : goal.returns-clause-read
 returns-clause-read c rule = elim c.loop-here-test.branch [
   | else-loop-here-test w ↦ rw w.here-is (c.loop-here.invariant.read rule)
-  | then-loop-here-test+then-line-last-ne111 w ↦ rw w.here-is
+  | then-loop-here-test+then-line-last-ne111+then-next-here w ↦ rw w.here-is
       (reads-on rule c.args.line.now c.args.from.at c.loop-here.here.at w.pass_dead-here.result.at c.args.from.cursor c.loop-here.here.cursor
       w.pass_dead-here.result.cursor c.args.runs.now.items c.loop-here.lent.items c.loop-here.lent.items (c.loop-here.invariant.read rule)
       (w.pass_dead-here.ensures.read rule c.loop-here.lent.items))

@@ -1,4 +1,4 @@
-use Rattle.std.proofs.Common.{◌≡◌, ◌≤◌, ◌<◌, ◌+◌, ◌-◌, length}
+use Rattle.std.proofs.Common.{◌≡◌, ◌≤◌, ◌+◌, ◌-◌, length}
 use Rattle.std.specs.Vec.{vec_len, vec_capacity}
 use Rattle.life_base.specs.declared.cell.TheConstants.{MAX_LEVEL}
 use Rattle.life_base.specs.declared.rule.Rule.{Rule}
@@ -9,7 +9,7 @@ use Rattle.life_rle.proofs.short_items.take_two_states.Given as goal
 abbrev pub invariant-loop-here : goal.invariant-loop-here
 invariant-loop-here l = record {
   on : l.fn.from.at ≤ l.here.at;
-  inside : l.here.at < length l.line;
+  inside : l.here.at ≤ length l.line;
   end : l.end ≤ length l.line - 4;
   row : l.here.cursor.y ≡ l.fn.from.cursor.y;
   room : RowHasSpace MAX_LEVEL l.line l.here.at l.here.cursor;

@@ -15,54 +15,46 @@ use Rattle.life_rle.proofs.LineKinds.{Breaks-placed}
 use Rattle.life_rle.proofs.Stands.{StandsAt-Prefix, marked-is_over}
 use Rattle.life_rle.proofs.lines.RleLines.line_into.Goals as goal
 
--- the phase that was taken out stands where the reader stood
-taken-StandsAt : (phase was : Phase) (cursor : Cursor) (lines : List (List ℕ)) → phase ≡ was → StandsAt MAX_LEVEL was cursor lines
-    → StandsAt MAX_LEVEL phase cursor lines
-taken-StandsAt phase was cursor lines e h = subst (λ p. StandsAt MAX_LEVEL p cursor lines) (sym e) h
-
 -- a line was refused for want of memory, or behind another one, or it breaks a rule
 abbrev Told : Phase → Kind → Type 0 → Type 0
 Told phase kind Broken = (kind ≡ Memory) ⊎ ((kind ≡ Spent) × (is_refused phase ≡ true)) ⊎ Broken
 
 -- what a refused line breaks, told of the lines that the reader has taken
-refused-for : (phase was : Phase) (cursor : Cursor) (lines : List (List ℕ)) (line : List ℕ) (kind : Kind) → phase ≡ was
-    → StandsAt MAX_LEVEL was cursor lines
+refused-for : (phase : Phase) (cursor : Cursor) (lines : List (List ℕ)) (line : List ℕ) (kind : Kind) → StandsAt MAX_LEVEL phase cursor lines
     → Told phase kind ((before : List (List ℕ)) → StandsAt MAX_LEVEL phase cursor before → BreaksRle MAX_LEVEL before line kind)
     → Told phase kind (BreaksRle MAX_LEVEL lines line kind)
-refused-for phase was cursor lines line kind e h (inl m) = inl m
-refused-for phase was cursor lines line kind e h (inr (inl s)) = inr (inl s)
-refused-for phase was cursor lines line kind e h (inr (inr f)) = inr (inr (f lines (taken-StandsAt phase was cursor lines e h)))
+refused-for phase cursor lines line kind h (inl m) = inl m
+refused-for phase cursor lines line kind h (inr (inl s)) = inr (inl s)
+refused-for phase cursor lines line kind h (inr (inr f)) = inr (inr (f lines h))
 
 pub returns-clause-front : goal.returns-clause-front
 returns-clause-front c =
     let inside = c.self.inside in
-    let next = c.in_ok-phase in
-    let stands = taken-StandsAt c.replace-phase.result inside.phase inside.cursor inside.log.lines c.replace-phase.ensures.value c.self.invariant in
+    let next = c.after_line.new in
     subst (Prefix (IsSomeRle MAX_LEVEL)) (sym c.then-self-inside.ensures)
     (StandsAt-Prefix MAX_LEVEL next.phase next.cursor (inside.log.lines ++ c.args.line.now ∷ [])
-    (c.in_ok-phase.ensures.advance.advances.stands inside.log.lines stands) c.in_ok-phase.ensures.going)
+    (c.in_ok-after_line.ensures.advance.advances.stands inside.log.lines c.self.invariant) c.in_ok-after_line.ensures.going)
 
 pub returns-clause-runs : goal.returns-clause-runs
 returns-clause-runs c =
     let inside = c.self.inside in
-    let took = c.in_ok-phase.ensures.advance in
-    let stands = taken-StandsAt c.replace-phase.result inside.phase inside.cursor inside.log.lines c.replace-phase.ensures.value c.self.invariant in
+    let took = c.in_ok-after_line.ensures.advance in
     record {
       runs = took.runs;
       added = took.added;
       found = λ before h.
           let known : HasRuns MAX_LEVEL inside.log.lines before = subst (λ (v : LinesRead). HasRuns MAX_LEVEL v.lines before) (sym c.self.view_is) h in
-          subst (λ ls. HasRuns MAX_LEVEL ls (before ++ took.runs)) (sym c.then-self-inside.ensures) (took.advances.found inside.log.lines before stands known);
+          subst (λ ls. HasRuns MAX_LEVEL ls (before ++ took.runs)) (sym c.then-self-inside.ensures)
+          (took.advances.found inside.log.lines before c.self.invariant known);
     }
 
-pub returns-in_err-phase-clause-fault : goal.returns-in_err-phase-clause-fault
-returns-in_err-phase-clause-fault c =
+pub returns-in_err-after_line-clause-fault : goal.returns-in_err-after_line-clause-fault
+returns-in_err-after_line-clause-fault c =
     let inside = c.self.inside in
     let line = c.args.line.now in
-    let kind : Kind = c.in_err-phase.field-0.0 in
+    let kind : Kind = c.in_err-after_line.field-0.0 in
     let told =
-    refused-for c.replace-phase.result inside.phase inside.cursor inside.log.lines line kind c.replace-phase.ensures.value c.self.invariant
-    c.in_err-phase.ensures.fault in
+    refused-for inside.phase inside.cursor inside.log.lines line kind c.self.invariant c.in_err-after_line.ensures.fault in
     let answer : (kind ≡ Memory) ⊎ (kind ≡ Spent) ⊎ BreaksRle MAX_LEVEL c.args.self.now.lines line kind =
     elim told [
       | inl m ↦ inl m
@@ -71,22 +63,24 @@ returns-in_err-phase-clause-fault c =
     let p = err_from_is_err_and c.from_residual.result c.from_residual.ensures.1 in
     rw (p.1, p.2) answer
 
-pub returns-in_err-phase-clause-spent : goal.returns-in_err-phase-clause-spent
-returns-in_err-phase-clause-spent c =
+pub returns-in_err-after_line-clause-spent : goal.returns-in_err-after_line-clause-spent
+returns-in_err-after_line-clause-spent c =
     let inside = c.self.inside in
-    let kind : Kind = c.in_err-phase.field-0.0 in
-    let phase : Phase = c.replace-phase.result in
+    let kind : Kind = c.in_err-after_line.field-0.0 in
+    let phase : Phase = inside.phase in
     let told =
-    refused-for phase inside.phase inside.cursor inside.log.lines c.args.line.now kind c.replace-phase.ensures.value c.self.invariant
-    c.in_err-phase.ensures.fault in
-    let refused : is_refused phase ≡ c.args.self.now.refused = ap is_refused c.replace-phase.ensures.value ∙ ap (λ (v : LinesRead). v.refused) c.self.view_is in
+    refused-for phase inside.cursor inside.log.lines c.args.line.now kind c.self.invariant c.in_err-after_line.ensures.fault in
+    let refused : is_refused phase ≡ c.args.self.now.refused = ap (λ (v : LinesRead). v.refused) c.self.view_is in
     let spent : kind ≡ Spent → c.args.self.now.refused ≡ true = λ e.
     elim told [
       | inl m ↦ absurd (other kind m e)
       | inr t ↦ elim t [ inl s ↦ sym refused ∙ s.1 | inr b ↦ absurd (placed kind e (Breaks-placed MAX_LEVEL inside.log.lines c.args.line.now kind b)) ]
     ] in
     let p = err_from_is_err_and c.from_residual.result c.from_residual.ensures.1 in
-    rw (p.1, p.2) (λ h. let e : kind ≡ Spent = cc in spent e, λ r. let s = c.in_err-phase.ensures.spent (refused ∙ r) in let e : kind ≡ Spent = cc in ap Err e)
+    rw (p.1, p.2) (
+      λ h. let e : kind ≡ Spent = cc in spent e,
+      λ r. let s = c.in_err-after_line.ensures.spent (refused ∙ r) in let e : kind ≡ Spent = cc in ap Err e,
+    )
   where
     other : (kind : Kind) → kind ≡ Memory → kind ≡ Spent → ⊥
     other kind m e = cc
@@ -95,21 +89,20 @@ returns-in_err-phase-clause-spent c =
     placed kind e p = let t : true ≡ false = ap is_placeless (sym e) ∙ p in cc
 
 -- behind the mark
-free : (phase was : Phase) (cursor : Cursor) (lines : List (List ℕ)) (self : LinesRead) (P : Type 0) → phase ≡ was → StandsAt MAX_LEVEL was cursor lines
-    → self ≡ record { lines = lines; refused = is_refused was } → (is_over phase ≡ true → P) → self.refused ≡ false
+free : (phase : Phase) (cursor : Cursor) (lines : List (List ℕ)) (self : LinesRead) (P : Type 0) → StandsAt MAX_LEVEL phase cursor lines
+    → self ≡ record { lines = lines; refused = is_refused phase } → (is_over phase ≡ true → P) → self.refused ≡ false
     → ((file : Rle) × IsMarked MAX_LEVEL self.lines file) → P
-free phase was cursor lines self P e h v p r (file, m) =
-    p (marked-is_over MAX_LEVEL phase cursor lines file (taken-StandsAt phase was cursor lines e h)
-    (ap is_refused e ∙ sym (ap (λ (s : LinesRead). s.refused) v) ∙ r) (subst (λ (s : LinesRead). IsMarked MAX_LEVEL s.lines file) v m))
+free phase cursor lines self P h v p r (file, m) =
+    p (marked-is_over MAX_LEVEL phase cursor lines file h (sym (ap (λ (s : LinesRead). s.refused) v) ∙ r)
+    (subst (λ (s : LinesRead). IsMarked MAX_LEVEL s.lines file) v m))
 
 pub returns-clause-free : goal.returns-clause-free
 returns-clause-free c =
     let inside = c.self.inside in
-    free c.replace-phase.result inside.phase inside.cursor inside.log.lines c.args.self.now _ c.replace-phase.ensures.value c.self.invariant
-    (sym c.self.view_is) c.in_ok-phase.ensures.free
+    free inside.phase inside.cursor inside.log.lines c.args.self.now _ c.self.invariant (sym c.self.view_is) c.in_ok-after_line.ensures.free
 
-pub returns-in_err-phase-clause-free : goal.returns-in_err-phase-clause-free
-returns-in_err-phase-clause-free c =
+pub returns-in_err-after_line-clause-free : goal.returns-in_err-after_line-clause-free
+returns-in_err-after_line-clause-free c =
     let inside = c.self.inside in
-    λ r m. absurd (free c.replace-phase.result inside.phase inside.cursor inside.log.lines c.args.self.now ⊥ c.replace-phase.ensures.value c.self.invariant
-    (sym c.self.view_is) c.in_err-phase.ensures.free r m)
+    λ r m. absurd (free inside.phase inside.cursor inside.log.lines c.args.self.now ⊥ c.self.invariant (sym c.self.view_is)
+    c.in_err-after_line.ensures.free r m)
