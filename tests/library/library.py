@@ -36,9 +36,10 @@ IN_PIECES = " in pieces"
 
 class Limits(NamedTuple):
     """The least limits of a store for a file, counted with the squares of the independent reader and found again by trying each limit: to read the file,
-    which every text of its pattern takes; to step it under its own rule; and to compare it with the file behind it here. So many different squares that
-    aren't blank are stored: of an RLE file those of the plane, of a macrocell file those of its node lines with the parts of leaves, and the root of the
-    canonical file; then those of the next generation, and its root."""
+    which every text of its pattern takes; to step it under its own rule; and to compare it with the file after it here. So many different squares that
+    aren't blank are stored: of an RLE file those of the least square about (0, 0) that has every cell, and of one with a cell above row 0 those of the
+    plane; of a macrocell file those of its node lines with the parts of leaves, and the root of the canonical file; then those of the next generation,
+    and its root."""
 
     read: int
     step: int
@@ -48,10 +49,10 @@ class Limits(NamedTuple):
 # Files of both formats, with their least limits.
 WORKED = {
     "a blank plane": (b"x = 0, y = 0, rule = 23/3\n!\n", Limits(0, 0, 0)),
-    "a blank plane of node lines": (b"[M2]\n#R B3/S23\n$\n4 0 0 1 0\n", Limits(0, 0, 66)),
-    "a glider": (small_files.LIFE_FILES["a glider"], Limits(66, 71, 186)),
-    "lines that end by CR LF": (small_files.LIFE_FILES["lines that end by CR LF"], Limits(121, 121, 245)),
-    "a rule of four neighbours": (small_files.LIFE_FILES["a rule of four neighbours"], Limits(124, 140, 185)),
+    "a blank plane of node lines": (b"[M2]\n#R B3/S23\n$\n4 0 0 1 0\n", Limits(0, 0, 6)),
+    "a glider": (small_files.LIFE_FILES["a glider"], Limits(6, 11, 9)),
+    "lines that end by CR LF": (small_files.LIFE_FILES["lines that end by CR LF"], Limits(4, 4, 9)),
+    "a rule of four neighbours": (small_files.LIFE_FILES["a rule of four neighbours"], Limits(5, 21, 66)),
     "a row as wide as the plane": (small_files.LIFE_FILES["a row as wide as the plane"], Limits(62, 62, 72)),
     "a root above its pattern": (small_files.LIFE_FILES["a root above its pattern"], Limits(10, 10, 10)),
     "squares below the leaves": (small_files.LIFE_FILES["squares below the leaves"], Limits(4, 4, 6)),
@@ -65,8 +66,8 @@ WORKED = {
 
 # Files that are stepped by a table, with the least limit for that.
 STEPPED = {
-    "the example wire.rle": (*small_files.NAMED_FILES["the example wire.rle"], 129),
-    "a state that spreads": (*small_files.NAMED_FILES["a state that spreads"], 248),
+    "the example wire.rle": (*small_files.NAMED_FILES["the example wire.rle"], 69),
+    "a state that spreads": (*small_files.NAMED_FILES["a state that spreads"], 189),
     "levels and leaves under a name": (*small_files.NAMED_FILES["levels and leaves under a name"], 200),
     "no header": (b"o!\n", small_files.SPREAD_TABLE, 0),
 }
@@ -75,13 +76,13 @@ STEPPED = {
 # of each file what reading it takes, or, if that is more, the root of its moved pattern with its parts, because a form has a store of its own; of two
 # files what reading both takes, because their forms have no more.
 MOVED = {
-    "a glider": (small_files.LIFE_FILES["a glider"], 66, 66),
-    "a glider far away": (b"#CXRLE Pos=-12345,777\nx = 3, y = 3\nbo$2bo$3o!\n", 67, 132),
-    "the example glider.mc": (small_files.LIFE_FILES["the example glider.mc"], 6, 70),
-    "a blank plane": (b"x = 0, y = 0, rule = 23/3\n!\n", 0, 66),
-    "two states at the corner": (small_files.NAMED_FILES["two states at the corner"][0], 124, 190),
-    "cells at the ends of the plane": (b"#CXRLE Pos=-2305843009213693952,777\nx = 1, y = 1\no4611686018427387902bo!\n", 123, 188),
-    "no header": (b"o!\n", 0, 66),
+    "a glider": (small_files.LIFE_FILES["a glider"], 6, 6),
+    "a glider far away": (b"#CXRLE Pos=-12345,777\nx = 3, y = 3\nbo$2bo$3o!\n", 19, 24),
+    "the example glider.mc": (small_files.LIFE_FILES["the example glider.mc"], 6, 10),
+    "a blank plane": (b"x = 0, y = 0, rule = 23/3\n!\n", 0, 6),
+    "two states at the corner": (small_files.NAMED_FILES["two states at the corner"][0], 124, 130),
+    "cells at the ends of the plane": (b"#CXRLE Pos=-2305843009213693952,777\nx = 1, y = 1\no4611686018427387902bo!\n", 123, 128),
+    "no header": (b"o!\n", 0, 6),
 }
 
 # How many random files of each kind are read with the room that suffices for their bytes.

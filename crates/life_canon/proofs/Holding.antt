@@ -1,5 +1,5 @@
 -- Where a file was read to its end, the store holds every square of it that isn't blank.
-use Rattle.std.proofs.Common.{◌≡◌, ℕ, suc, ◌+◌, ◌-◌, ◌^◌, ◌<◌, ◌≤◌, true, false, List, [], ◌∷◌, ◌++◌, length, take, get_or, refl, ap, sym, ◌∙◌, subst, arith, inl, Some, ℤ, append_assoc, length-append, slice_get, Contains, Result, Ok, Err, IfOk, OnOk}
+use Rattle.std.proofs.Common.{◌≡◌, ℕ, suc, ◌+◌, ◌-◌, ◌^◌, ◌<◌, ◌≤◌, true, false, List, [], ◌∷◌, ◌++◌, length, take, get_or, refl, ap, sym, ◌∙◌, subst, arith, inl, inr, Some, ℤ, append_assoc, length-append, slice_get, Contains, Result, Ok, Err, IfOk, OnOk}
 use Rattle.std.proofs.lemmas.List.Elements.{filter_map-append}
 use Rattle.std.proofs.lemmas.Option.{slice_get-get_or}
 use Rattle.std.proofs.Math.Seq.{take-append_seam}
@@ -22,7 +22,8 @@ use Rattle.life_quad.specs.StoreLaws.{full_content}
 use Rattle.life_quad.specs.declared.id.Id.{Id}
 use Rattle.life_rle.specs.RunsLaw.{rle_state_by}
 use Rattle.life_rle.proofs.BlockFronts.{few_blocks_in_fronts}
-use Rattle.life_strip.specs.Given.{by_columns}
+use Rattle.life_strip.specs.Given.{by_columns, half_plane}
+use Rattle.life_strip.specs.Middle.{AreSouth, IsLeastSouth, IsSouthLevel, SomeAboutMiddle}
 use Rattle.life_strip.specs.Needed.{SomeSquare}
 use Rattle.life_canon.specs.Files.{Reads, Says, as_macrocell, as_rle, is_macrocell}
 use Rattle.life_canon.specs.Filling.{AreSquaresOf}
@@ -38,10 +39,11 @@ use Rattle.life_canon.proofs.GrowFacts.{last-tree}
 use Rattle.life_canon.proofs.Known.{known-held, part-held}
 use Rattle.life_canon.proofs.NeedFacts.{grown-centred, is-centred}
 use Rattle.life_canon.proofs.PatternFacts.{next-square}
-use Rattle.life_canon.proofs.PlaneParts.{plane-part}
+use Rattle.life_canon.proofs.MiddleParts.{IsRoot, square-in-root}
+use Rattle.life_canon.proofs.MiddleSquares.{about-rows}
 use Rattle.life_canon.proofs.RoomLaw.{file-states, no-nodes, no-runs, none-of-none}
 use Rattle.life_canon.proofs.RoomRoots.{least-three}
-use Rattle.life_canon.proofs.RoomRuns.{squares-of-runs}
+use Rattle.life_canon.proofs.RoomRuns.{south-of-runs}
 use Rattle.life_canon.proofs.TreeWords.{below_top}
 use Rattle.life_base.proofs.Basics.{true_false}
 
@@ -153,11 +155,19 @@ macrocell-held store lines file ids m is good are roots t live (at_end (of_root 
     root-held store (macrocell_universe file) (level_of_root MAX_LEVEL lines) roots t live
     (subst (λ (v : Universe). SomeRoot MAX_LEVEL (λ w. w ≡ t) v (level_of_root MAX_LEVEL lines)) same some)
 
--- the store knows the square of the whole plane
+-- the store knows the square about (0, 0) with all cells
 module _ (store : Nodes) (lines : List (List ℕ)) (u : Universe) (rle : is_macrocell lines ≡ false) (says : Says MAX_LEVEL lines u) (plane : Id)
-    (known : IsKnown store plane) (is : content store plane ≡ centred_square u.cell (suc below_top)) (roots : HasRoots store u MAX_LEVEL) where
-  square-held : (t : Tree) → is_blank_tree t ≡ false → SomeSquare (λ v. v ≡ t) (2 ^ MAX_LEVEL) (by_columns u.cell) → Contains (stored_squares store) t
-  square-held t live s = part-held store plane (centred_square u.cell (suc below_top)) t known is live (plane-part u.cell t s)
+    (known : IsKnown store plane) (n : ℕ) (root : IsRoot u.cell n (content store plane)) (least : IsLeastSouth n u.cell)
+    (roots : HasRoots store u MAX_LEVEL) where
+  square-held : (t : Tree) → is_blank_tree t ≡ false → SomeSquare (λ v. v ≡ t) (half_plane + 2 ^ (n - 1)) (by_columns u.cell)
+      → Contains (stored_squares store) t
+  square-held t live s = part-held store plane (content store plane) t known refl live (square-in-root u.cell n (content store plane) t root live s)
+
+  about-held : (t : Tree) → is_blank_tree t ≡ false → SomeAboutMiddle (λ v. v ≡ t) u.cell → Contains (stored_squares store) t
+  about-held t live s = elim (about-rows u.cell n (content store plane) t root least live s) [
+    | inl rest ↦ square-held t live rest
+    | inr same ↦ (let d = root.deep in let l = root.low in let e = ap depth same in known-held store plane known t same live (omega (arith, d, l, e)))
+  ]
 
   -- the states of all runs
   states : rle_state_by (few_blocks_in_fronts MAX_LEVEL lines).runs ≡ u.cell
@@ -176,11 +186,12 @@ module _ (store : Nodes) (lines : List (List ℕ)) (u : Universe) (rle : is_macr
       let few = few_blocks_in_fronts MAX_LEVEL lines in
       let more = few.most front behind runs e h in
       square-held t live
-      (subst (λ (f : ℤ → ℤ → ℕ). SomeSquare (λ v. v ≡ t) (2 ^ MAX_LEVEL) (by_columns f)) states
-      (squares-of-runs (λ v. v ≡ t) few.rule runs more.0 few.runs more.1 few.good few.order some))
+      (subst (λ (f : ℤ → ℤ → ℕ). SomeSquare (λ v. v ≡ t) (half_plane + 2 ^ (n - 1)) (by_columns f)) states
+      (south-of-runs (λ v. v ≡ t) few.rule runs more.0 few.runs more.1 few.good few.order n root.high
+      (λ lt. subst (AreSouth n) (sym states) (root.south lt)) some))
   rle-held t live (at_end (of_plane v other format some)) =
       let same = files_say_one MAX_LEVEL lines v u other says in
-      square-held t live (subst (λ (w : Universe). SomeSquare (λ v. v ≡ t) (2 ^ MAX_LEVEL) (by_columns w.cell)) same some)
+      about-held t live (subst (λ (w : Universe). SomeAboutMiddle (λ v. v ≡ t) w.cell) same some)
   rle-held t live (at_end (of_root v other some)) =
       let same = files_say_one MAX_LEVEL lines v u other says in
       root-held store u MAX_LEVEL roots t live
@@ -201,14 +212,16 @@ roots-of store bytes u pattern level reads is grown = record {
   grown = grown;
 }
 
--- of an RLE file: the store knows the square of the whole plane
+-- of an RLE file: the store knows the square about (0, 0) with all cells
 pub rle-holds : (store : Nodes) (bytes : List ℕ) (u : Universe) (pattern : Pattern) (plane : Id) → is_macrocell (lines_of bytes) ≡ false
     → Reads MAX_LEVEL bytes u → IsPatternOf MAX_LEVEL (IsKnown store) (content store) u pattern → IsKnown store plane
-    → depth (content store plane) ≡ MAX_LEVEL → ((x y : ℤ) → tree_cell (content store plane) x y ≡ u.cell x y) → HoldsFile bytes (stored_squares store)
+    → IsSouthLevel (depth (content store plane)) u.cell → ((x y : ℤ) → tree_cell (content store plane) x y ≡ u.cell x y)
+    → HoldsFile bytes (stored_squares store)
 rle-holds store bytes u pattern plane rle reads is known level cells =
-    let top : MAX_LEVEL ≡ suc below_top = omega arith in
-    let whole = (is-centred u.cell (content store plane) below_top (full_content store plane known.0) (level ∙ top) cells).0 in
-    rle-held store (lines_of bytes) u rle reads plane known whole (roots-of store bytes u pattern MAX_LEVEL reads is (λ n h l. none-grown u.rule n h l))
+    let root : IsRoot u.cell (depth (content store plane)) (content store plane) =
+    record { full = full_content store plane known.0; deep = refl; low = level.low; high = level.high; south = level.south; cells = cells } in
+    rle-held store (lines_of bytes) u rle reads plane known (depth (content store plane)) root level.least
+    (roots-of store bytes u pattern MAX_LEVEL reads is (λ n h l. none-grown u.rule n h l))
 
 -- of a macrocell file: the store knows the squares of its lines, and those through which the last of them was grown
 pub macrocell-holds : (store : Nodes) (bytes : List ℕ) (file : Macrocell) (ids : List Id) (pattern : Pattern) (last : Id)

@@ -5,7 +5,7 @@ mod Walk
 mod LineWords
 mod LineFacts
 mod Leaves
-mod LeafWords
+pub mod LeafWords
 mod Content
 mod Planes
 mod Canonical
@@ -23,7 +23,7 @@ mod FeedFacts
 mod FrontFacts
 mod RefusedFronts
 mod BuildFacts
-mod RowFacts
+pub mod RowFacts
 mod RunFacts
 mod GrowFacts
 mod WaitingFacts
@@ -52,6 +52,9 @@ mod RoomRuns
 mod RoomRoots
 mod RoomNodes
 mod RoomLaw
+mod Middles
+mod MiddleParts
+mod MiddleSquares
 pub mod RoomCount
 mod Adding
 pub mod Spots

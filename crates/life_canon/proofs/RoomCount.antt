@@ -1,5 +1,5 @@
 -- A store that lacks a square of a file has room left.
-use Rattle.std.proofs.Common.{◌≡◌, ◌≢◌, ℕ, ◌+◌, ◌≤◌, false, List, ◌∷◌, ◌++◌, length, refl, subst, arith, inl, inr, length-append, AllPairs, Contains}
+use Rattle.std.proofs.Common.{◌≡◌, ◌≢◌, ℕ, ℤ, ◌+◌, ◌≤◌, false, List, ◌∷◌, ◌++◌, length, refl, subst, arith, inl, inr, length-append, AllPairs, Contains}
 use Rattle.life_base.specs.Tree.{Tree, point, quad, is_blank_tree}
 use Rattle.life_base.specs.Text.{lines_of}
 use Rattle.life_base.specs.declared.cell.Run.{Run}
@@ -9,6 +9,7 @@ use Rattle.life_mc.specs.declared.line.Line.TheVariants.{Leaf, Quad}
 use Rattle.life_mc.specs.Squares.{leaf_tree}
 use Rattle.life_quad.specs.Refused.{SomePart, TrimmedTo}
 use Rattle.life_quad.specs.Store.{Nodes, stored_squares}
+use Rattle.life_strip.specs.Middle.{SomeAboutMiddle}
 use Rattle.life_strip.specs.Needed.{SomeSquare}
 use Rattle.life_strip.proofs.NeededLemmas.{SomeSquare-as}
 use Rattle.life_canon.specs.Needs.{SomeOfLine, SomeOfRuns, SomeOfLines, of_node_line, of_runs, SomeRoot, trimmed_root, grown_root, of_plane, of_root, SomeOfFile, of_lines, at_end, IsNew}
@@ -59,9 +60,27 @@ find-root : (P : Tree → Type 0) (u : Universe) (n : ℕ) → SomeRoot MAX_LEVE
 find-root P u n (trimmed_root lower p) = record { square = whole MAX_LEVEL u; holds = p; some = trimmed_root lower refl }
 find-root P u n (grown_root level higher least p) = found-as (λ Q k. grown_root level higher least k) (find-part P (centred_square u.cell level) p)
 
+find-about : (P : Tree → Type 0) (f : ℤ → ℤ → ℕ) → SomeAboutMiddle P f → Found P (λ Q. SomeAboutMiddle Q f)
+find-about P f s = elim s.some [
+  | inl rest ↦
+      found-as (λ Q k. record { level = s.level; low = s.low; high = s.high; least = s.least; some = inl k }) (find-square P _ _ rest)
+  | inr whole ↦
+      record {
+        square = whole.square;
+        holds = whole.property;
+        some = record {
+          level = s.level;
+          low = s.low;
+          high = s.high;
+          least = s.least;
+          some = inr (record { square = whole.square; full = whole.full; deep = whole.deep; cells = whole.cells; south = whole.south; property = refl });
+        };
+      }
+]
+
 pub find-file : (P : Tree → Type 0) (lines : List (List ℕ)) → SomeOfFile MAX_LEVEL P lines → Found P (λ Q. SomeOfFile MAX_LEVEL Q lines)
 find-file P lines (of_lines s) = found-as (λ Q k. of_lines k) (find-lines P lines s)
-find-file P lines (at_end (of_plane u says rle s)) = found-as (λ Q k. at_end (of_plane u says rle k)) (find-square P _ _ s)
+find-file P lines (at_end (of_plane u says rle s)) = found-as (λ Q k. at_end (of_plane u says rle k)) (find-about P u.cell s)
 find-file P lines (at_end (of_root u says s)) = found-as (λ Q k. at_end (of_root u says k)) (find-root P u _ s)
 
 -- ---- the law

@@ -1,6 +1,8 @@
 -- A file needs few squares.
-use Rattle.std.proofs.Common.{◌≡◌, ℕ, suc, ◌+◌, ◌*◌, ◌^◌, ◌<◌, ◌≤◌, true, false, cond, List, [], ◌∷◌, ◌++◌, length, map, max, refl, ap, sym, ◌∙◌, subst, arith, inl, inr, length-append, ℤ, ◌==◌, Contains, if◌then◌else◌}
+use Rattle.std.proofs.Common.{◌≡◌, ℕ, suc, ◌+◌, ◌-◌, ◌*◌, ◌^◌, ◌<◌, ◌≤◌, true, false, cond, List, [], ◌∷◌, ◌++◌, length, map, max, refl, ap, sym, ◌∙◌, subst, arith, inl, inr, length-append, ℤ, ◌==◌, Contains, if◌then◌else◌}
+use Rattle.std.proofs.lemmas.Bool.{cases_lt}
 use Rattle.std.proofs.lemmas.List.{length-map}
+use Rattle.std.proofs.Math.Pow.{pow_mono}
 use Rattle.std.proofs.lemmas.List.Elements.{Contains-append_left, Contains-append_right}
 use Rattle.life_base.specs.Lines.{joined_lines}
 use Rattle.life_base.specs.Text.{lines_of, onto_first}
@@ -20,12 +22,15 @@ use Rattle.life_rle.specs.RunsLaw.{rle_state_by}
 use Rattle.life_rle.proofs.BlockFronts.{few_blocks_in_fronts}
 use Rattle.life_rle.proofs.RunsLaws.{runs_are_cells}
 use Rattle.life_strip.specs.Given.{by_columns}
+use Rattle.life_strip.specs.Middle.{SomeAboutMiddle, SomeSouth}
 use Rattle.life_strip.specs.Needed.{SomeSquare}
+use Rattle.life_strip.proofs.NeededLemmas.{SomeSquare-within}
 use Rattle.life_canon.specs.Files.{Says, as_macrocell, as_rle, is_macrocell}
 use Rattle.life_canon.specs.Needs.{SomeOfRuns, of_node_line, of_runs, of_plane, of_root, SomeOfFile, of_lines, at_end, SomeRoot, level_of_root}
 use Rattle.life_canon.specs.Room.{FewSquares}
 use Rattle.life_canon.specs.Universe.{Universe}
 use Rattle.life_canon.proofs.Formats.{macrocell-first, rle-first}
+use Rattle.life_canon.proofs.MiddleSquares.{south-trimmed, whole-square}
 use Rattle.life_canon.proofs.RoomLists.{Among, contains-among}
 use Rattle.life_canon.proofs.RoomNodes.{nodes, nodes-have, nodes-few}
 use Rattle.life_canon.proofs.RoomRoots.{trimmed_roots, plane-root, all_roots, all_roots-few, any-root}
@@ -122,11 +127,36 @@ module _ (lines : List (List ℕ)) (m : is_macrocell lines ≡ false) (few : Has
       Contains-append_left (map (block_tree run_states) few.blocks) (trimmed_roots run_states) t
       (square-of-block run_states few.blocks t (2 ^ MAX_LEVEL) few.all some s)
 
-  plane-square : (u : Universe) (t : Tree) → is_blank_tree t ≡ false → Says MAX_LEVEL lines u → SomeSquare (λ v. v ≡ t) (2 ^ MAX_LEVEL) (by_columns u.cell)
+  -- the square about (0, 0): that of the plane, or a trimmed one
+  about-south : (t : Tree) → is_blank_tree t ≡ false → (s : SomeAboutMiddle (λ v. v ≡ t) run_states) → SomeSouth (λ v. v ≡ t) s.level run_states
+      → Contains run_squares t
+  about-south t live s whole = elim (cases_lt s.level MAX_LEVEL) [
+    | inl lt ↦
+        (let e : whole.square ≡ t = whole.property in
+        let is = south-trimmed run_states s.level whole.square s.low s.high s.least whole.full whole.deep whole.cells whole.south
+        (ap is_blank_tree e ∙ live) in
+        Contains-append_right (map (block_tree run_states) few.blocks) (trimmed_roots run_states) t
+        (contains-among (trimmed_roots run_states) t (inl (is ∙ e))))
+    | inr le ↦
+        (let h = s.high in
+        let d = whole.deep in
+        of-block t live (subst (λ (q : Tree). SomeSquare (λ v. v ≡ q) (2 ^ MAX_LEVEL) (by_columns run_states)) whole.property
+        (whole-square run_states whole.square whole.full (omega (arith, d, h, le)) whole.cells)))
+  ]
+
+  about-square : (t : Tree) → is_blank_tree t ≡ false → SomeAboutMiddle (λ v. v ≡ t) run_states → Contains run_squares t
+  about-square t live s = elim s.some [
+    | inl rest ↦
+        (let h = s.high in
+        let p = pow_mono {i = s.level - 1} {j = MAX_LEVEL - 1} (omega (arith, h)) in
+        of-block t live (SomeSquare-within (omega (arith, p)) (λ i j li lj. refl) rest))
+    | inr whole ↦ about-south t live s whole
+  ]
+
+  plane-square : (u : Universe) (t : Tree) → is_blank_tree t ≡ false → Says MAX_LEVEL lines u → SomeAboutMiddle (λ v. v ≡ t) u.cell
       → Contains run_squares t
   plane-square _ t some (as_macrocell file a) s = absurd (true_false _ (macrocell-first MAX_LEVEL lines file a) m)
-  plane-square u t some (as_rle file h) s =
-      of-block t some (subst (λ (f : ℤ → ℤ → ℕ). SomeSquare (λ v. v ≡ t) (2 ^ MAX_LEVEL) (by_columns f)) (file-states file h) s)
+  plane-square u t some (as_rle file h) s = about-square t some (subst (SomeAboutMiddle (λ v. v ≡ t)) (file-states file h) s)
 
   run-root : (u : Universe) (t : Tree) → Says MAX_LEVEL lines u → SomeRoot MAX_LEVEL (λ v. v ≡ t) u (level_of_root MAX_LEVEL lines) → Contains run_squares t
   run-root _ t (as_macrocell file a) s = absurd (true_false _ (macrocell-first MAX_LEVEL lines file a) m)

@@ -15,8 +15,7 @@ use Rattle.life_quad.specs.Moves.{grown_square}
 use Rattle.life_quad.specs.Refused.{SomePart}
 use Rattle.life_quad.specs.Store.{Nodes, stored_squares}
 use Rattle.life_rle.specs.File.{HasRuns}
-use Rattle.life_strip.specs.Given.{by_columns}
-use Rattle.life_strip.specs.Needed.{SomeSquare}
+use Rattle.life_strip.specs.Middle.{SomeAboutMiddle}
 pub use Rattle.life_strip.specs.Needed.{SomeOfRuns}
 use Rattle.life_canon.specs.Files.{Says, is_macrocell}
 use Rattle.life_canon.specs.Universe.{Universe, least_level, centred_square, whole}
@@ -64,9 +63,9 @@ pub data SomeRoot (top : ℕ) (P : Tree → Type 0) (u : Universe) (n : ℕ) : T
 abbrev pub level_of_root : ℕ → List (List ℕ) → ℕ
 level_of_root top lines = if is_macrocell lines then max 1 (root_level (squares_of lines)) else top
 
--- a square at the end of a file has a property: of the whole plane, which is filled to its last row under RLE, or of the root
+-- a square at the end of a file has a property: under RLE of the square about (0, 0) into which the cells are put, or of the root
 pub data SomeAtEnd (top : ℕ) (P : Tree → Type 0) (lines : List (List ℕ)) : Type 0 where
-  of_plane : (u : Universe) → Says top lines u → is_macrocell lines ≡ false → SomeSquare P (2 ^ top) (by_columns u.cell) → SomeAtEnd top P lines
+  of_plane : (u : Universe) → Says top lines u → is_macrocell lines ≡ false → SomeAboutMiddle P u.cell → SomeAtEnd top P lines
   of_root : (u : Universe) → Says top lines u → SomeRoot top P u (level_of_root top lines) → SomeAtEnd top P lines
 
 -- a square of a file has a property

@@ -17,8 +17,8 @@ room_for n = 14 * n + 264
 abbrev pub IsSquareOfFile : List ℕ → Tree → Type 0
 IsSquareOfFile bytes t = SomeOfFile MAX_LEVEL (λ u. u ≡ t) (lines_of bytes)
 
--- The list has every square of the file that isn't blank: the same set that a call adds at most, so all squares of node lines, or all squares of
--- level 1 or more of the whole plane under RLE, those through which the root is grown, and the trimmed root.
+-- The list has every square of the file that isn't blank: the same set that a call adds at most, so all squares of node lines, or under RLE all squares
+-- of level 1 or more of the square about (0, 0) into which the cells are put, those through which the root is grown, and the trimmed root.
 abbrev pub HoldsFile : List ℕ → List Tree → Type 0
 HoldsFile bytes squares = (t : Tree) → is_blank_tree t ≡ false → IsSquareOfFile bytes t → Contains squares t
 

@@ -293,7 +293,7 @@ impl Progress {
             Progress::Undecided => Err(Kind::NoHeader),
             Progress::Rle(lines, builder, _) => {
                 let (rule, generation) = lines.end()?;
-                let root = builder.finish(store)?;
+                let root = builder.finish_about_middle(store)?;
                 trimmed_pattern(store, rule, generation, root)
             }
             Progress::Macrocell(lines, mut ids, mut waiting) => {

@@ -330,27 +330,32 @@ height-falling (x ∷ xs) n fall low =
     let more = pow_mono {i = suc x.level} {j = n} (omega (arith, first)) in
     omega (arith, rest, two, more)
 
--- strips of falling levels that fill the plane are one
-pub one_strip : (xs : List Strip) → AreFalling xs → height xs ≡ 2 ^ MAX_LEVEL → (s : Strip) × (xs ≡ s ∷ []) × (s.level ≡ MAX_LEVEL)
-one_strip [] fall full = absurd (omega (arith, full))
-one_strip (x ∷ []) fall full = (x, refl, by (nat_lt x.level MAX_LEVEL) refl (nat_lt MAX_LEVEL x.level) refl)
+-- strips of falling levels with the rows of a square are one
+pub one_strip_of : (level : ℕ) (xs : List Strip) → AreFalling xs → height xs ≡ 2 ^ level → (s : Strip) × (xs ≡ s ∷ []) × (s.level ≡ level)
+one_strip_of level [] fall full = absurd (let p = positive_power level in omega (arith, full, p))
+one_strip_of level (x ∷ []) fall full = (x, refl, by (nat_lt x.level level) refl (nat_lt level x.level) refl)
   where
-    by : (p : Bool) → nat_lt x.level MAX_LEVEL ≡ p → (q : Bool) → nat_lt MAX_LEVEL x.level ≡ q → x.level ≡ MAX_LEVEL
-    by true e q f = absurd (let a : suc x.level ≤ MAX_LEVEL = grind arith in let m = pow_mono {i = suc x.level} {j = MAX_LEVEL} a in let t = twice x.level in
+    by : (p : Bool) → nat_lt x.level level ≡ p → (q : Bool) → nat_lt level x.level ≡ q → x.level ≡ level
+    by true e q f = absurd (let a : suc x.level ≤ level = grind arith in let m = pow_mono {i = suc x.level} {j = level} a in let t = twice x.level in
         let z = positive_power x.level in omega (arith, m, t, z, full))
-    by false e true f = absurd (let a : suc MAX_LEVEL ≤ x.level = grind arith in let m = pow_mono {i = suc MAX_LEVEL} {j = x.level} a in omega (arith, m, full))
+    by false e true f = absurd (let a : suc level ≤ x.level = grind arith in let m = pow_mono {i = suc level} {j = x.level} a in let t = twice level in
+        let z = positive_power level in omega (arith, m, t, z, full))
     by false e false f = grind arith
-one_strip (x ∷ y ∷ xs) fall full = absurd (by (nat_lt x.level MAX_LEVEL) refl)
+one_strip_of level (x ∷ y ∷ xs) fall full = absurd (by (nat_lt x.level level) refl)
   where
     rest : height (y ∷ xs) < 2 ^ x.level
     rest = height-falling (y ∷ xs) x.level (λ i j d ij jl. fall (suc i) (suc j) d (omega (arith, ij)) (omega (arith, jl)))
         (λ k d lt. fall 0 (suc k) d (omega arith) (omega (arith, lt)))
 
-    by : (p : Bool) → nat_lt x.level MAX_LEVEL ≡ p → ⊥
-    by true e = let a : suc x.level ≤ MAX_LEVEL = grind arith in let m = pow_mono {i = suc x.level} {j = MAX_LEVEL} a in let t = twice x.level in
+    by : (p : Bool) → nat_lt x.level level ≡ p → ⊥
+    by true e = let a : suc x.level ≤ level = grind arith in let m = pow_mono {i = suc x.level} {j = level} a in let t = twice x.level in
         let r = rest in omega (arith, m, t, r, full)
-    by false e = let a : MAX_LEVEL ≤ x.level = grind arith in let m = pow_mono {i = MAX_LEVEL} {j = x.level} a in let z = positive_power y.level in
+    by false e = let a : level ≤ x.level = grind arith in let m = pow_mono {i = level} {j = x.level} a in let z = positive_power y.level in
         omega (arith, m, z, full)
+
+-- and those that fill the plane
+pub one_strip : (xs : List Strip) → AreFalling xs → height xs ≡ 2 ^ MAX_LEVEL → (s : Strip) × (xs ≡ s ∷ []) × (s.level ≡ MAX_LEVEL)
+one_strip = one_strip_of MAX_LEVEL
 
 -- the first square of one strip of the greatest level has the cells of the plane
 pub record IsWhole (knows : Id → Type 0) (content : Id → Tree) (strips : List Strip) (id : Id) : Type 0 where

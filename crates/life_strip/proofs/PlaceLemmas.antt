@@ -24,42 +24,6 @@ module _ (spans : List Span) (a : ℕ) (p : StripPlace) (h : IsAt spans a p) whe
     within = h.within;
   }
 
-  -- its span goes on from a later column
-  pub at-passed : (c m : ℕ) → a ≤ c → c < p.end → p.start ≤ m → c ≤ m → (c < p.start → m ≡ p.start) → (p.start ≤ c → m ≡ c)
-      → IsAt spans c (record { index = p.index; start = m; end = p.end; square = p.square })
-  at-passed c m le end start later one other = record {
-    past = past_later spans p.index a c h.past le;
-    from = later;
-    beyond = end;
-    none = none;
-    some = λ x from lt. h.some x (omega (arith, start, from)) lt;
-    span = h.span;
-    over = h.over;
-    order = ordered (nat_lt c p.start) refl;
-    within = within;
-  }
-    where
-      none : (x : ℕ) → c ≤ x → x < m → id_at spans x ≡ None
-      none x from lt = by (nat_lt c p.start) refl
-        where
-          by : (b : Bool) → nat_lt c p.start ≡ b → id_at spans x ≡ None
-          by true e = let same = one (grind arith) in h.none x (omega (arith, le, from)) (omega (arith, same, lt))
-          by false e = absurd (let same = other (grind arith) in omega (arith, same, from, lt))
-
-      ordered : (b : Bool) → nat_lt c p.start ≡ b → m ≤ p.end
-      ordered true e = let same = one (grind arith) in let o = h.order in omega (arith, same, o)
-      ordered false e = let same = other (grind arith) in omega (arith, same, end)
-
-      within : (side : ℕ) → AreBefore side spans → m < NEVER → (m < p.end) × (p.end ≤ side)
-      within side before lt =
-          let w = h.within side before (omega (arith, start, lt)) in
-          let less = w.0 in
-          (by less (nat_lt c p.start) refl, w.1)
-        where
-          by : p.start < p.end → (b : Bool) → nat_lt c p.start ≡ b → m < p.end
-          by less true e = let same = one (grind arith) in omega (arith, same, less)
-          by less false e = let same = other (grind arith) in omega (arith, same, end)
-
   -- the Id in a column before its end
   pub at-square : (b : Id) (c : ℕ) → a ≤ c → c < p.end → id_or b (id_at spans c) ≡ square_in p b c
   at-square b c le end = by (nat_le p.start c) refl

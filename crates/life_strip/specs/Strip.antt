@@ -4,6 +4,7 @@ use Rattle.std.specs.Prelude.{◌≡◌, ℕ, suc, ◌+◌, ◌-◌, ◌*◌, �
 use Rattle.life_quad.specs.declared.id.Id.{Id}
 use Rattle.life_quad.specs.declared.moves.Quarters.{Quarters}
 use Rattle.life_base.specs.Tree.{Tree, quad, depth, blank}
+use Rattle.life_strip.specs.declared.single.Columns.{Columns}
 use Rattle.life_strip.specs.declared.spans.Span.{Span}
 use Rattle.life_strip.specs.declared.spans.StripPlace.{StripPlace}
 use Rattle.life_strip.specs.declared.spans.TheConstants.{NEVER}
@@ -62,16 +63,26 @@ quad_at content level upper lower column =
     quad (square_at content level upper (2 * column)) (square_at content level upper (2 * column + 1))
     (square_at content level lower (2 * column)) (square_at content level lower (2 * column + 1))
 
--- the strip has one span at most, and that is in the two columns of this column of the next level
-pub record IsOnly (spans : List Span) (column : ℕ) : Type 0 where
-  pub few : length spans ≤ 1
-  pub there : All (λ s. (2 * column ≤ s.start) × (s.end ≤ 2 * column + 2)) spans
+-- the columns of the next level that have columns of a span
+pub record HasSpan (columns : Columns) (span : Span) : Type 0 where
+  pub from : 2 * columns.start ≤ span.start
+  pub begun : span.start ≤ 2 * columns.start + 1
+  pub to : span.end ≤ 2 * columns.end
+  pub ended : 2 * columns.end ≤ span.end + 1
+  pub some : columns.start < columns.end
 
--- this column of the next level has all squares of two strips, which aren't both blank
-pub record IsOnlyColumn (upper lower : List Span) (column : ℕ) : Type 0 where
-  pub above : IsOnly upper column
-  pub below : IsOnly lower column
-  pub within : (side : ℕ) → AreBefore side upper → AreBefore side lower → 2 * column < side
+-- The strip has one span at most, and that is in the columns of these columns of the next level. If they are several columns, the span fills them.
+pub record IsOnly (spans : List Span) (columns : Columns) : Type 0 where
+  pub few : length spans ≤ 1
+  pub there : All (λ s. (2 * columns.start ≤ s.start) × (s.end ≤ 2 * columns.end)) spans
+  pub filled : columns.start + 1 < columns.end → All (λ s. (s.start ≤ 2 * columns.start) × (2 * columns.end ≤ s.end)) spans
+
+-- these columns of the next level have all squares of two strips, which aren't both blank, and one square each
+pub record AreOnlyColumns (upper lower : List Span) (columns : Columns) : Type 0 where
+  pub above : IsOnly upper columns
+  pub below : IsOnly lower columns
+  pub some : columns.start < columns.end
+  pub within : (side : ℕ) → AreBefore side upper → AreBefore side lower → 2 * columns.end ≤ side + 1
 
 -- each column of a strip of the next level has the four squares of the two strips
 abbrev pub IsPaired : (Id → Tree) → (Id → Tree) → ℕ → List Span → List Span → List Span → Type 0
@@ -99,7 +110,7 @@ pub record IsAt (spans : List Span) (column : ℕ) (place : StripPlace) : Type 0
   pub none : (c : ℕ) → column ≤ c → c < place.start → id_at spans c ≡ None
   pub some : (c : ℕ) → place.start ≤ c → c < place.end → id_at spans c ≡ Some place.square
   pub span : (d : Span) → place.index < length spans → place.end ≡ (get_or spans place.index d).end
-  pub over : length spans ≤ place.index → NEVER ≤ place.end
+  pub over : length spans ≤ place.index → place.end ≡ NEVER
   pub order : place.start ≤ place.end
   pub within : (side : ℕ) → AreBefore side spans → place.start < NEVER → (place.start < place.end) × (place.end ≤ side)
 

@@ -1,6 +1,6 @@
 //! A builder that fills a store row by row.
 ghost use Rattle.std.specs.Prelude.{◌≡◌, ℤ, pos, nat_abs, ◌+ℤ◌, ◌^◌, ◌≤◌, ◌++◌, ◌∷◌, [], length, IfOk, OnOk};
-ghost use Rattle.life_strip.specs.Words.{depth, tree_cell, Grows, IsAfterRun, IsNextRunStart, IsRunOnPlane, AreInOrder, state_by, by_columns, half_plane, SomeSquare, IsEmpty, IsFilling, AreNext, SomeOfRuns};
+ghost use Rattle.life_strip.specs.Words.{depth, tree_cell, Grows, IsAfterRun, IsNextRunStart, IsRunOnPlane, AreInOrder, state_by, by_columns, half_plane, SomeSquare, EndsWithCell, IsEmpty, IsFilling, IsSouthLevel, SomeAboutMiddle, AreNext, SomeOfRuns};
 
 use crate::plane::Plane;
 use crate::run_log::RunLog;
@@ -155,5 +155,26 @@ impl Builder {
             (λ P. SomeSquare P (2 ^ MAX_LEVEL) (by_columns (state_by self.runs))) }
     {
         self.plane.finish(squares)
+    }
+
+    /// The square of the least level, 3 or more, about the middle of the plane with the cells of the runs, where none of them is north of row 0. Otherwise
+    /// the square of the whole plane.
+    ///
+    /// # Errors
+    ///
+    /// `Full` if the store holds its limit and a square of the runs is new, or `Memory`.
+    pub fn finish_about_middle<S: Squares>(self, squares: &mut S) -> Result<Id, Kind>
+        requires filling { IsFilling (S.knows squares.old) (S.content squares.old) self }
+        requires cell { EndsWithCell self.runs }
+        ensures known { IfOk result (S.knows squares.new) }
+        ensures level { IfOk result
+            (λ r. IsSouthLevel (depth (S.content squares.new r)) (state_by self.runs)) }
+        ensures cells { IfOk result
+            (λ r. (x y : ℤ) → tree_cell (S.content squares.new r) x y ≡ state_by self.runs x y) }
+        ensures order { AreInOrder self.runs }
+        ensures grows { Grows S.Squares squares.old squares.new result
+            (λ P. SomeAboutMiddle P (state_by self.runs)) }
+    {
+        self.plane.finish_about_middle(squares)
     }
 }

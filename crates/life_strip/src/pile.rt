@@ -1,7 +1,8 @@
 //! The rows of the plane that are over.
-ghost use Rattle.std.specs.Prelude.{◌≡◌, ℕ, ◌+◌, ◌^◌, ◌<◌, ◌≤◌, [], All, length, IfOk, OnOk};
-ghost use Rattle.life_strip.specs.Words.{depth, state_at, Grows, AreStacked, IsLowest, IsRow, SomeSquare, IsPile, HasClosedRows, SomeOfPile, pile_height, pile_state, pile_state_with};
+ghost use Rattle.std.specs.Prelude.{◌≡◌, ℕ, ◌+◌, ◌-◌, ◌^◌, ◌<◌, ◌≤◌, ◌∷◌, [], All, length, false, IsTrue, IfOk, OnOk};
+ghost use Rattle.life_strip.specs.Words.{depth, state_at, Grows, AreStacked, IsLowest, IsRow, SomeSquare, IsBlankTo, IsPile, HasClosedRows, HasTakenNorth, IsMiddleSquare, SomeOfMiddle, StripValue, SomeOfPile, pile_height, pile_state, pile_state_with};
 
+use crate::middle::{is_blank_north, join_middle, widen};
 use crate::row::Row;
 use crate::rows::{band_strip, blank_level, push_and_raise, push_strip, take_last, whole};
 use crate::spans::Strip;
@@ -17,6 +18,39 @@ pub(crate) struct Pile {
     pub(crate) spare: Spare,
     strips: Vec<Strip>,
     band: Vec<Row>,
+}
+
+// The least level, from 2 on, of which a square has this row.
+fn row_level(row: u64) -> u8
+    requires { row < 2 ^ (MAX_LEVEL - 1) }
+    ensures low { 2 ≤ result }
+    ensures high { result < MAX_LEVEL }
+    ensures enough { row < 2 ^ result }
+    ensures least { (m : ℕ) → 2 ≤ m → m < result → ¬ (row < 2 ^ m) }
+{
+    (row.max(3).ilog2() + 1) as u8
+}
+
+// How many rows a square of a level has below this one.
+fn rows_below(level: u8, row: u64) -> u64
+    requires high { level < MAX_LEVEL }
+    requires enough { row < 2 ^ level }
+    ensures { result + row + 1 ≡ 2 ^ level }
+{
+    (1 << level) - 1 - row
+}
+
+// The strip, of strips of falling levels that have the rows of one of this level.
+fn only_strip(alloc: Global, strips: &mut Vec<Strip>) -> Strip
+    ensures { (s : StripValue) → strips.old.items ≡ s ∷ [] → result ≡ s }
+{
+    match strips.pop() {
+        Some(strip) => strip,
+        None => Strip {
+            level: 0,
+            spans: Vec::new(alloc),
+        },
+    }
 }
 
 impl Pile {
@@ -188,5 +222,46 @@ impl Pile {
         let mut pile = self;
         pile.end_row(squares, row, blank_rows)?;
         Ok(whole(squares, pile.strips.as_slice()))
+    }
+
+    // Takes the strip of the northern half of the plane away, if it has no cell. Returns whether it did.
+    pub(crate) fn take_northern_half<S: Squares>(&mut self, squares: &S) -> bool
+        requires pile { IsPile (S.knows squares.now) (S.content squares.now) self.old }
+        requires room { pile_height self.old < 2 ^ MAX_LEVEL }
+        ensures taken { IsTrue result → HasTakenNorth (S.content squares.now) self.old self.new }
+        ensures left { result ≡ false → self.new ≡ self.old }
+        ensures cell { result ≡ false → 2 ^ (MAX_LEVEL - 1) ≤ pile_height self.old
+            → ¬ IsBlankTo (2 ^ (MAX_LEVEL - 1)) (pile_state (S.content squares.now) self.old) }
+    {
+        if !is_blank_north(squares, self.strips.as_slice()) {
+            return false;
+        }
+        let _northern = self.strips.remove(0);
+        true
+    }
+
+    // The square about the middle of the plane with the cells of the rows from the middle on. `rows` are before the last one.
+    pub(crate) fn about_middle<S: Squares>(
+        self,
+        squares: &mut S,
+        row: Row,
+        rows: u64,
+    ) -> Result<Id, Kind>
+        requires pile { IsPile (S.knows squares.old) (S.content squares.old) self }
+        requires row { IsRow (S.knows squares.old) (S.content squares.old) row }
+        requires height { pile_height self ≡ rows }
+        requires room { rows < 2 ^ (MAX_LEVEL - 1) }
+        ensures known { IfOk result (S.knows squares.new) }
+        ensures square { IfOk result (λ r. IsMiddleSquare rows
+            (pile_state_with (S.content squares.old) self row) (S.content squares.new r)) }
+        ensures grows { Grows S.Squares squares.old squares.new result
+            (λ P. SomeOfMiddle P rows (pile_state_with (S.content squares.old) self row)) }
+    {
+        let mut pile = self;
+        let level = row_level(rows);
+        pile.end_row(squares, row, rows_below(level, rows))?;
+        let strip = only_strip(pile.alloc, &mut pile.strips);
+        let wide = widen(squares, &mut pile.spare, pile.alloc, strip)?;
+        join_middle(squares, &wide)
     }
 }

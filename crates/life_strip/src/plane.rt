@@ -1,6 +1,6 @@
 //! The plane as far as it is filled, row by row.
 ghost use Rattle.std.specs.Prelude.{◌≡◌, ℤ, pos, neg_ℤ, nat_abs, ◌+ℤ◌, ◌<ℤ◌, ◌≤ℤ◌, ◌+◌, ◌^◌, ◌<◌, ◌≤◌, ◌++◌, length, IfOk, OnOk};
-ghost use Rattle.life_strip.specs.Words.{depth, tree_cell, Grows, IsRunOnPlane, half_plane, SomeSquare, IsFilled, IsUnfilled, IsFree, AddsRun, BeginsRow, state_so_far, cell_so_far, AreNext, IsFilling, vec_len};
+ghost use Rattle.life_strip.specs.Words.{depth, tree_cell, Grows, IsRunOnPlane, half_plane, SomeSquare, IsFilled, IsUnfilled, IsFree, AddsRun, BeginsRow, EndsInCell, IsSouthLevel, SomeAboutMiddle, state_so_far, cell_so_far, AreNext, IsFilling, vec_len};
 
 use crate::open_blocks::OpenBlocks;
 use crate::pile::Pile;
@@ -13,6 +13,9 @@ use std::mem;
 
 // Half of the side of the plane: the column and the row of the cell (0, 0).
 const HALF_PLANE: i64 = 1 << (MAX_LEVEL - 1);
+
+// The row of the cell (0, 0).
+const HALF: u64 = 1 << (MAX_LEVEL - 1);
 
 // The side of the plane.
 const SIDE: u64 = 1 << MAX_LEVEL;
@@ -200,5 +203,32 @@ impl Plane {
     {
         let Plane { pile, rows, row } = self;
         pile.whole_plane(squares, row, SIDE - rows - 1)
+    }
+
+    // The square of the least level about the middle of the plane with all cells, where none is in the northern half. Otherwise that of the whole plane.
+    pub(crate) fn finish_about_middle<S: Squares>(self, squares: &mut S) -> Result<Id, Kind>
+        requires filled { IsFilled (S.knows squares.old) (S.content squares.old) self }
+        requires cell { EndsInCell (S.content squares.old) self }
+        ensures known { IfOk result (S.knows squares.new) }
+        ensures level { IfOk result (λ r. IsSouthLevel (depth (S.content squares.new r))
+            (cell_so_far (S.content squares.old) self)) }
+        ensures cells { IfOk result (λ r. (x y : ℤ)
+            → tree_cell (S.content squares.new r) x y
+            ≡ cell_so_far (S.content squares.old) self x y) }
+        ensures grows { Grows S.Squares squares.old squares.new result
+            (λ P. SomeAboutMiddle P (cell_so_far (S.content squares.old) self)) }
+    {
+        let Plane {
+            mut pile,
+            rows,
+            row,
+        } = self;
+        if rows < HALF {
+            return pile.whole_plane(squares, row, SIDE - rows - 1);
+        }
+        if !pile.take_northern_half(squares) {
+            return pile.whole_plane(squares, row, SIDE - rows - 1);
+        }
+        pile.about_middle(squares, row, rows - HALF)
     }
 }

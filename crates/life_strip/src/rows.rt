@@ -4,7 +4,7 @@ ghost use Rattle.life_strip.specs.Words.{depth, state_at, Grows, quad_at, pictur
 
 use crate::bands::band_spans;
 use crate::row::Row;
-use crate::single::{only_column, pair_only};
+use crate::single::{only_columns, pair_only};
 use crate::spans::{Strip, first_square, pair};
 use crate::spare::Spare;
 use life_base::{Kind, MAX_LEVEL};
@@ -47,7 +47,7 @@ fn merge_long<S: Squares>(
 
 // The strip of the next level with the upper strip above the lower.
 #[inline(always)]
-fn merge<S: Squares>(
+pub(crate) fn merge<S: Squares>(
     squares: &mut S,
     spare: &mut Spare,
     upper: Strip,
@@ -67,10 +67,10 @@ fn merge<S: Squares>(
         upper.level upper.spans.items lower.spans.items)) }
 {
     let level = upper.level;
-    let Some(column) = only_column(upper.spans.as_slice(), lower.spans.as_slice()) else {
+    let Some(columns) = only_columns(upper.spans.as_slice(), lower.spans.as_slice()) else {
         return merge_long(squares, spare, upper, lower);
     };
-    let spans = pair_only(squares, level, column, upper.spans, lower.spans)?;
+    let spans = pair_only(squares, spare, level, columns, upper.spans, lower.spans)?;
     Ok(Strip {
         level: level + 1,
         spans,

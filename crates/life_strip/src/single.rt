@@ -1,40 +1,66 @@
-//! Two strips whose squares are all parts of one square of the next level. Above and below a small pattern each strip is blank or has one
-//! square, so this saves most of the work there.
+//! Two strips that have one span each at most, whose squares make one square of the next level, or the same one in several columns. Above and below
+//! a small pattern each strip is blank or has one square, and a whole row is one span, so this saves most of the work there.
 ghost use Rattle.std.specs.Prelude.{◌≡◌, ℕ, suc, ◌+◌, ◌-◌, ◌*◌, ◌^◌, ◌<◌, ◌≤◌, ◌∷◌, [], IsTrue, length, IfSome, IfOk, IfErr};
-ghost use Rattle.life_strip.specs.Words.{AreWithin, blank, Grows, GrowsOnly, HaveColumns, id_at, id_or, IsMemory, IsOnly, IsOnlyColumn, IsPaired, IsStrip, quad_at, Rise, SomeColumn};
+ghost use Rattle.life_strip.specs.Words.{AreOnlyColumns, AreWithin, blank, Grows, GrowsOnly, HasSpan, HaveColumns, id_at, id_or, IsMemory, IsOnly, IsPaired, IsStrip, quad_at, Rise, SomeColumn};
 
 use crate::spans::Span;
+use crate::spare::Spare;
 use life_base::{Kind, MAX_LEVEL};
 use life_quad::{Id, Squares};
 
-// Whether a strip has one span at most, in the two columns of this column of the next level.
+// Columns of the next level, from `start` to before `end`.
+#[derive(Clone, Copy)]
+pub(crate) struct Columns {
+    pub(crate) start: u64,
+    pub(crate) end: u64,
+}
+
+// The columns of the next level that have columns of a span.
 #[inline(always)]
-fn is_only(spans: &[Span], column: u64) -> bool
+fn columns_of(span: &Span) -> Columns
+    requires { span.now.start < span.now.end }
+    ensures { HasSpan result span.now }
+{
+    Columns {
+        start: span.start / 2,
+        end: (span.end - 1) / 2 + 1,
+    }
+}
+
+// Whether a strip has one span at most, in these columns of the next level, which are one column, or all of which the span fills.
+#[inline(always)]
+fn is_only(spans: &[Span], columns: Columns) -> bool
     requires { HaveColumns spans.now }
-    ensures { IsTrue result → IsOnly spans.now column }
+    ensures { IsTrue result → IsOnly spans.now columns }
 {
     if spans.len() > 1 {
         return false;
     }
     match spans.first() {
-        Some(span) => span.start / 2 == column && (span.end - 1) / 2 == column,
+        Some(span) => {
+            let own = columns_of(span);
+            let are_same = own.start == columns.start && own.end == columns.end;
+            let is_one = own.start + 1 == own.end;
+            are_same && (is_one || (span.start % 2 == 0 && span.end % 2 == 0))
+        }
         None => true,
     }
 }
 
-// The column of the next level that has all squares of two strips, if each strip has one span at most and one of them isn't blank.
+// The columns of the next level that have all squares of two strips, and one square each, if each strip has one span at most and one of them isn't
+// blank.
 #[inline(always)]
-pub(crate) fn only_column(upper: &[Span], lower: &[Span]) -> Option<u64>
+pub(crate) fn only_columns(upper: &[Span], lower: &[Span]) -> Option<Columns>
     requires upper { HaveColumns upper.now }
     requires lower { HaveColumns lower.now }
-    ensures { IfSome result (IsOnlyColumn upper.now lower.now) }
+    ensures { IfSome result (AreOnlyColumns upper.now lower.now) }
 {
     let Some(span) = upper.first().or(lower.first()) else {
         return None;
     };
-    let column = span.start / 2;
-    if is_only(upper, column) && is_only(lower, column) {
-        Some(column)
+    let columns = columns_of(span);
+    if is_only(upper, columns) && is_only(lower, columns) {
+        Some(columns)
     } else {
         None
     }
@@ -83,13 +109,23 @@ fn join_only<S: Squares>(
     squares.join(nw, ne, sw, se)
 }
 
-// The span alone, in the memory of one of two strips.
+// The span alone, in the memory of one of two strips. The memory of the other one waits for another strip.
 #[inline(always)]
-fn put_only(upper: Vec<Span>, lower: Vec<Span>, span: Span) -> Result<Vec<Span>, Kind>
+fn put_only(
+    spare: &mut Spare,
+    upper: Vec<Span>,
+    lower: Vec<Span>,
+    span: Span,
+) -> Result<Vec<Span>, Kind>
     ensures items { IfOk result (λ r. r.items ≡ span ∷ []) }
     ensures refusals { IfErr result IsMemory }
 {
-    let mut spans = if upper.is_empty() { lower } else { upper };
+    let (mut spans, other) = if upper.is_empty() {
+        (lower, upper)
+    } else {
+        (upper, lower)
+    };
+    spare.give(other);
     spans.clear();
     spans.push(span)?;
     Ok(spans)
@@ -99,13 +135,14 @@ fn put_only(upper: Vec<Span>, lower: Vec<Span>, span: Span) -> Result<Vec<Span>,
 #[inline(always)]
 pub(crate) fn pair_only<S: Squares>(
     squares: &mut S,
+    spare: &mut Spare,
     level: u8,
-    column: u64,
+    columns: Columns,
     upper: Vec<Span>,
     lower: Vec<Span>,
 ) -> Result<Vec<Span>, Kind>
     requires low { level < MAX_LEVEL }
-    requires only { IsOnlyColumn upper.items lower.items column }
+    requires only { AreOnlyColumns upper.items lower.items columns }
     requires upper { IsStrip (S.knows squares.old) (S.content squares.old) level upper.items }
     requires lower { IsStrip (S.knows squares.old) (S.content squares.old) level lower.items }
     requires upper_within { AreWithin level upper.items }
@@ -120,11 +157,17 @@ pub(crate) fn pair_only<S: Squares>(
         (λ P. SomeColumn P (level + 1)
         (quad_at (S.content squares.old) level upper.items lower.items)) }
 {
-    let square = join_only(squares, level, column, upper.as_slice(), lower.as_slice())?;
+    let square = join_only(
+        squares,
+        level,
+        columns.start,
+        upper.as_slice(),
+        lower.as_slice(),
+    )?;
     let span = Span {
-        start: column,
-        end: column + 1,
+        start: columns.start,
+        end: columns.end,
         square,
     };
-    put_only(upper, lower, span)
+    put_only(spare, upper, lower, span)
 }

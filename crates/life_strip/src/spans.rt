@@ -1,5 +1,5 @@
 //! Strips of squares, and how two of them make one of the next level.
-ghost use Rattle.std.specs.Prelude.{◌≡◌, ℕ, suc, ◌+◌, ◌-◌, ◌*◌, ◌^◌, ◌<◌, ◌≤◌, ◌++◌, Some, None, MatchOption, length, take, slice_get, IfOk, IfErr, OnOk};
+ghost use Rattle.std.specs.Prelude.{◌≡◌, ℕ, suc, ◌+◌, ◌-◌, ◌*◌, ◌^◌, ◌<◌, ◌≤◌, ◌++◌, Some, None, MatchOption, length, take, slice_get, get_or, IfOk, IfErr, OnOk};
 ghost use Rattle.life_strip.specs.Words.{SpanValue, ArePieces, CanJoin, IsWalk, quad_of, with_squares, blank, Grows, GrowsOnly, IsStrip, AreBefore, AreWithin, HaveColumns, IsPaired, EndsAfter, IsPast, id_at, id_or, IsExtended, IsAt, Rise, quad_at, square_in, goes_to, SomeColumn, IsMemory};
 
 use crate::spare::Spare;
@@ -70,7 +70,10 @@ fn place_at(spans: &[Span], index: usize, column: u64, blank: Id) -> StripPlace
     requires past { IsPast spans.now index column }
     requires ends { EndsAfter spans.now index column }
     requires column { column < NEVER }
-    ensures { IsAt spans.now column result }
+    ensures place { IsAt spans.now column result }
+    ensures end { (d : SpanValue) → index < length spans.now
+        → result.end ≡ (get_or spans.now index d).end }
+    ensures over { length spans.now ≤ index → NEVER ≤ result.end }
 {
     if index < spans.len() {
         let span = spans[index];
@@ -89,6 +92,21 @@ fn place_at(spans: &[Span], index: usize, column: u64, blank: Id) -> StripPlace
     }
 }
 
+// The index of the span that a later column is in or before. Whether the span of the place ends before that column can't be foreseen, so the code has no
+// branch here.
+#[inline(always)]
+fn index_from(place: StripPlace, column: u64, len: usize) -> usize
+    requires { place.end ≤ column → place.index < len }
+    ensures stays { column < place.end → result ≡ place.index }
+    ensures next { place.end ≤ column → result ≡ place.index + 1 }
+{
+    if column < place.end {
+        place.index
+    } else {
+        place.index + 1
+    }
+}
+
 // The place in a later column, no later than where the one before ends.
 #[inline(always)]
 fn pass(spans: &[Span], place: StripPlace, column: u64, blank: Id) -> StripPlace
@@ -100,13 +118,8 @@ fn pass(spans: &[Span], place: StripPlace, column: u64, blank: Id) -> StripPlace
     ensures place { IsAt spans.now column result }
     ensures later { place.end ≤ result.end }
 {
-    if column < place.end {
-        return StripPlace {
-            start: place.start.max(column),
-            ..place
-        };
-    }
-    place_at(spans, place.index + 1, column, blank)
+    let index = index_from(place, column, spans.len());
+    place_at(spans, index, column, blank)
 }
 
 // The square in a column before the end of a place.
@@ -127,6 +140,22 @@ pub(crate) fn first_square(spans: &[Span], blank: Id) -> Id
     ensures { result ≡ id_or blank (id_at spans.now 0) }
 {
     square_of(place_at(spans, 0, 0, blank), 0, blank)
+}
+
+// The square in a column.
+pub(crate) fn square_in_column(spans: &[Span], column: u64, blank: Id) -> Id
+    ensures { result ≡ id_or blank (id_at spans.now column) }
+{
+    for span in spans {
+        if column < span.end {
+            return if span.start <= column {
+                span.square
+            } else {
+                blank
+            };
+        }
+    }
+    blank
 }
 
 // The column up to which it goes on.
@@ -442,8 +471,7 @@ fn pair_in_batches<S: Squares>(
     Ok(spans)
 }
 
-// The strip of the next level whose squares have two squares of the upper strip above two of the lower. A short strip isn't worth a batch, and the
-// squares of level 3 that a strip has are mostly there already.
+// The strip of the next level whose squares have two squares of the upper strip above two of the lower. A short strip isn't worth a batch.
 pub(crate) fn pair<S: Squares>(
     squares: &mut S,
     spare: &mut Spare,
@@ -468,7 +496,7 @@ pub(crate) fn pair<S: Squares>(
         (λ P. SomeColumn P (level + 1)
         (quad_at (S.content squares.old) level upper.now lower.now)) }
 {
-    if level != 2 && upper.len() + lower.len() >= BATCH {
+    if upper.len() + lower.len() >= BATCH {
         pair_in_batches(squares, spare, level, upper, lower)
     } else {
         pair_one_by_one(squares, spare, level, upper, lower)

@@ -7,5 +7,5 @@ place_at-requires-clause-past c x le = refl
 
 pub returns : goal.returns
 returns c =
-    let h = c.place_at.ensures in
+    let h = c.place_at.ensures.place in
     c.square_of.ensures ∙ sym (at-square c.args.spans.now 0 c.place_at.result h c.args.blank 0 (omega arith) h.beyond)

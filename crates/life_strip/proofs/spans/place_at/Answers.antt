@@ -8,8 +8,8 @@ use Rattle.life_strip.proofs.spans.place_at.Goals as goal
 abbrev none : Span
 none = record { start = 0; end = 0; square = record { 0 = 0 } }
 
-pub returns-then-index-spans : goal.returns-then-index-spans
-returns-then-index-spans c =
+pub returns-then-index-spans-clause-place : goal.returns-then-index-spans-clause-place
+returns-then-index-spans-clause-place c =
     let spans = c.args.spans.now in
     let index = c.args.index in
     let s = get_or spans index none in
@@ -29,8 +29,8 @@ returns-then-index-spans c =
       within = λ side before lt. (omega (arith, first, ends, some), (before index none inside).1);
     }
 
-pub returns : goal.returns
-returns c = record {
+pub returns-clause-place : goal.returns-clause-place
+returns-clause-place c = record {
   past = c.requires.past;
   from = omega (arith, c.requires.column);
   beyond = c.requires.column;
@@ -41,3 +41,6 @@ returns c = record {
   order = omega arith;
   within = λ side before lt. absurd (omega (arith, lt));
 }
+
+pub returns-then-index-spans-clause-end : goal.returns-then-index-spans-clause-end
+returns-then-index-spans-clause-end c = λ d lt. ap (λ z. z.end) (get_or_default c.args.spans.now c.args.index none d c.if-index-spans.true)

@@ -23,8 +23,8 @@ use Rattle.life_quad.proofs.KeepingLemmas.{keeps-then, adds-as, adds-then}
 use Rattle.life_rle.specs.Grammar.{IsRle}
 use Rattle.life_rle.specs.Pattern.{Rle}
 use Rattle.life_strip.specs.Filling.{Building}
-use Rattle.life_strip.specs.Given.{by_columns, state_by}
-use Rattle.life_strip.specs.Needed.{SomeSquare}
+use Rattle.life_strip.specs.Given.{state_by}
+use Rattle.life_strip.specs.Middle.{IsSouthLevel, SomeAboutMiddle}
 use Rattle.life_canon.specs.Files.{Says, as_rle, as_macrocell, is_macrocell}
 use Rattle.life_canon.specs.Filling.{AreSquaresOf}
 use Rattle.life_canon.specs.Needs.{SomeRoot, SomeAtEnd, SomeOfLines, SomeOfMacrocell, grown_times, of_plane, of_root, level_of_root}
@@ -37,7 +37,7 @@ use Rattle.life_canon.specs.declared.progress.Progress.TheVariants as progress
 use Rattle.life_canon.proofs.PatternFacts.{undecided-lacks, end-kind, file-cells}
 use Rattle.life_canon.proofs.FrontFacts.{end-lines, end-says, top-level, macrocell-level}
 use Rattle.life_canon.proofs.Holding.{macrocell-holds, ok-both, rle-holds}
-use Rattle.life_canon.proofs.NeedFacts.{same-square}
+use Rattle.life_canon.proofs.Middles.{ends-with-cell, root-lower, same-about}
 use Rattle.life_canon.proofs.Standing.{squares-stay}
 use Rattle.life_canon.proofs.WaitingFacts.{kept-joined, kept-squares, waiting-some}
 use Rattle.life_canon.proofs.progress.Progress.end.Goals as goal
@@ -48,8 +48,9 @@ record RleEnd (p : Progress) (runs : List Run) (file : Rle) : Type 1 where
   says : Says MAX_LEVEL (taken_lines p) (rle_universe file)
   format : is_macrocell (taken_lines p) ≡ false
   cells : (x y : ℤ) → state_by runs x y ≡ (rle_universe file).cell x y
-  plane : (P : Tree → Type 0) → SomeSquare P (2 ^ MAX_LEVEL) (by_columns (state_by runs)) → SomeAtEnd MAX_LEVEL P (taken_lines p)
-  root : {level : ℕ} → level ≡ MAX_LEVEL → (P : Tree → Type 0) → SomeRoot MAX_LEVEL P (rle_universe file) level → SomeAtEnd MAX_LEVEL P (taken_lines p)
+  plane : (P : Tree → Type 0) → SomeAboutMiddle P (state_by runs) → SomeAtEnd MAX_LEVEL P (taken_lines p)
+  root : {level : ℕ} → 3 ≤ level → level ≤ MAX_LEVEL → (P : Tree → Type 0) → SomeRoot MAX_LEVEL P (rle_universe file) level
+      → SomeAtEnd MAX_LEVEL P (taken_lines p)
 
 rle-end : (store : Nodes) {p : Progress} {reader : LinesRead} {builder : Building} {runs : Vec Run} → p ≡ progress.Rle reader builder runs → IsOpen p
     → StandsFor (IsKnown store) (content store) p → (file : Rle) → IsRle MAX_LEVEL reader.lines file → RleEnd p builder.runs file
@@ -62,8 +63,8 @@ rle-end store {p} {reader} {builder} is begun stands file are =
       says = whole;
       format = format;
       cells = same;
-      plane = λ P s. of_plane u whole format (same-square (2 ^ MAX_LEVEL) (state_by builder.runs) u.cell same s);
-      root = λ e P s. of_root u whole (subst (SomeRoot MAX_LEVEL P u) (e ∙ sym (top-level (taken_lines p) format)) s);
+      plane = λ P s. of_plane u whole format (same-about (state_by builder.runs) u.cell same s);
+      root = λ low high P s. of_root u whole (subst (SomeRoot MAX_LEVEL P u) (sym (top-level (taken_lines p) format)) (root-lower P u _ low high s));
     }
 
 -- what the end of a macrocell file gives whose squares these Ids name
@@ -141,6 +142,12 @@ returns-in_err-rule-in-Rle-clause-fault c =
     rw (p.1, p.2) (inr (end-kind c.args.self c.in-Rle.lines.lines c.in-Rle.lines.refused kind (ap taken_lines c.in-Rle.is) begun.format begun.unrefused e.only
     (λ n. (e.missing begun.unrefused).0 (cc)) (λ s. e.spent.0 (cc))))
 
+pub finish_about_middle-requires-clause-cell : goal.finish_about_middle-requires-clause-cell
+finish_about_middle-requires-clause-cell g =
+    let c = g in
+    let built = subst (StandsFor (IsKnown c.args.store.now) (content c.args.store.now)) c.in-Rle.is c.requires.stands in
+    ends-with-cell c.in-Rle.lines.lines c.in-Rle.builder.runs built.are built.filling.order
+
 pub returns-in-Rle-clause-pattern : goal.returns-in-Rle-clause-pattern
 returns-in-Rle-clause-pattern c =
     let found = c.in_ok-rule-in-Rle.ensures.file in
@@ -189,8 +196,9 @@ returns-in-Rle-clause-stores c =
     let trims = c.trimmed_pattern.ensures.grows in
     let cells = λ (x y : ℤ). filled.cells x y ∙ ended.cells x y in
     record {
-      needed = λ e. inl (ended.root filled.level _ (trims.needed e _ (sym found.2) cells));
-      adds = adds-then _ filled.grows.adds trims.adds (λ P s. inl (ended.plane P s)) (λ P s. inl (ended.root filled.level P (s _ (sym found.2) cells)));
+      needed = λ e. inl (ended.root filled.level.low filled.level.high _ (trims.needed e _ (sym found.2) cells));
+      adds = adds-then _ filled.grows.adds trims.adds (λ P s. inl (ended.plane P s))
+          (λ P s. inl (ended.root filled.level.low filled.level.high P (s _ (sym found.2) cells)));
       keeps = keeps-then filled.grows.keeps trims.keeps;
     }
 
@@ -233,7 +241,9 @@ returns-in-Rle-clause-all c =
     (λ pattern is grown bytes count end.
     let more = end-lines bytes count c.args.self u end ended.says in
     rle-holds store bytes u pattern plane (ap is_macrocell more.1 ∙ more.2 ∙ ended.format) (end-says bytes count c.args.self u end ended.says) is kept.0
-    (ap depth kept.1 ∙ filled.level) (λ x y. ap (λ (t : Tree). tree_cell t x y) kept.1 ∙ cells x y))
+    (subst (λ (f : ℤ → ℤ → ℕ). IsSouthLevel (depth (content store plane)) f) (λ i x y. ended.cells x y i)
+    (subst (λ (n : ℕ). IsSouthLevel n (state_by c.in-Rle.builder.runs)) (sym (ap depth kept.1)) filled.level))
+    (λ x y. ap (λ (t : Tree). tree_cell t x y) kept.1 ∙ cells x y))
 
 pub returns-clause-all : goal.returns-clause-all
 returns-clause-all c =
