@@ -1,5 +1,5 @@
 -- The first leaf of a square, and what it says of the text.
-use Rattle.std.proofs.Common.{◌≡◌, ◌≢◌, ◌⊎◌, inl, inr, ℕ, zero, suc, ◌-◌, ◌^◌, ◌<◌, ◌≤◌, Bool, true, false, ◌&&◌, List, [], ◌∷◌, ◌++◌, map, if◌then◌else◌, refl, sym, ap, ◌∙◌, subst, ℤ, pos, neg_ℤ, ◌+ℤ◌, ◌≤ℤ◌, ◌<ℤ◌, arith, true≢false, pow_mono, flat_map, lit≤}
+use Rattle.std.proofs.Common.{◌≡◌, ◌≢◌, ◌⊎◌, inl, inr, ℕ, zero, suc, ◌-◌, ◌^◌, ◌<◌, ◌≤◌, Bool, true, false, ◌&&◌, List, [], ◌∷◌, ◌++◌, map, if◌then◌else◌, refl, sym, ap, ◌∙◌, subst, ℤ, pos, neg_ℤ, ◌+ℤ◌, ◌≤ℤ◌, ◌<ℤ◌, arith, true≢false, pow_mono, flat_map, lit≤, append-nil}
 use Rattle.std.proofs.lemmas.Int.{ints}
 use Rattle.std.proofs.lemmas.Bool.{cases_lt}
 use Rattle.std.proofs.lemmas.Bool.Decides.{nat_tests}
@@ -202,6 +202,16 @@ module _ (rule : Rule) (life : is_life rule ≡ true) (low : least_level rule �
       subst (IsUpTo (square_text rule generation f)) (sym (text-by-list t list.0 list.1))
       (subst (λ (text : List ℕ). IsUpTo text (header_lines_text rule generation ++ (front ++ more))) (sym (text-by-list f [] (list-alone f alone)))
       (up-to-behind (header_lines_text rule generation) (front ++ []) (front ++ more) (up-to-behind front [] more (up-to-longer [] more))))
+
+-- the text of a leaf
+pub text-of-leaf : (rule : Rule) → is_life rule ≡ true → least_level rule ≡ 3 → (generation : ℕ) (a b c d : Tree) → depth a ≡ 2 → depth b ≡ 2 → depth c ≡ 2
+    → depth d ≡ 2 → is_blank_tree (quad a b c d) ≡ false
+    → square_text rule generation (quad a b c d) ≡ header_lines_text rule generation ++ node_text (Leaf (rows_of (quad a b c d)))
+text-of-leaf rule life low generation a b c d ea eb ec ed live =
+    let f = quad a b c d in
+    let level : depth f ≡ 3 = omega (arith, ea) in
+    text-by-list rule life low generation f level f [] (list-alone f (leaf-walk a b c d ea eb ec ed live))
+    ∙ ap (λ (text : List ℕ). header_lines_text rule generation ++ text) (append-nil (node_text (Leaf (rows_of f))))
 
 -- ---- the root of a pattern in the corner (0, 0)
 

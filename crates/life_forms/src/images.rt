@@ -4,11 +4,12 @@ ghost use Rattle.std.specs.Prelude.{◌≡◌, ◌^◌, ℕ, List, true, false, 
 ghost use Rattle.life_forms.specs.Words.{MAX_LEVEL, Memory, fault_of, content, is_blank_tree, square_text, turn_of, turned_tree, IsImageText, IsTrimmed, IsSquareBox, universe_in, IsLeastOfTwo, IsLesserOfTwo, IsLesserText, IsLowerBound, IsUpTo, AreSmall, IsTurnedText, HasLargeImage, RefusesTurning};
 
 use crate::lower_bounds::{above_texts, lower_bound};
-use crate::patterns::{WITHOUT_LIMIT, corner_form};
+use crate::order::is_up_to;
+use crate::patterns::corner_form;
 use life_base::{Bounds, Fault};
 use life_canon::laws::{centred_squares_tell_cells, squares_are_centred};
 use life_canon::{Pattern, lesser_text, lesser_turned_text};
-use life_quad::{Shared, SharedSquares, Turn, bounds};
+use life_quad::{Shared, Turn, bounds};
 use std::alloc::Global;
 
 /// The lesser of a text and of that of a pattern's root, with columns and rows counted from the other side or not. No image is made.
@@ -95,13 +96,6 @@ fn image_text(
 {
     let above = above_texts(alloc)?;
     lesser_image_text(alloc, store, pattern, found, columns, rows, above)
-}
-
-/// Whether the first text is no greater than the second, byte by byte.
-fn is_up_to(first: &[u8], second: &[u8]) -> bool
-    ensures { result ≡ true → IsUpTo first.now second.now }
-{
-    !second.cmp(first).is_lt()
 }
 
 /// The same as `lesser_image_text`, where the two texts may have a lower bound: if the text is no greater than that, no form is made.
@@ -204,11 +198,10 @@ pub fn turned_text(alloc: Global, store: &Shared, pattern: &Pattern) -> Result<V
     ensures fault { IfErr result (RefusesTurning store.now pattern.now) }
 {
     let found = bounds(alloc, store, pattern.root)?;
-    let mut leaves = Shared::seeded(alloc, store.seed(), WITHOUT_LIMIT);
-    let nw = lower_bound(alloc, store, &mut leaves, pattern, &found, false, false);
-    let ne = lower_bound(alloc, store, &mut leaves, pattern, &found, true, false);
-    let sw = lower_bound(alloc, store, &mut leaves, pattern, &found, false, true);
-    let se = lower_bound(alloc, store, &mut leaves, pattern, &found, true, true);
+    let nw = lower_bound(alloc, store, pattern, &found, false, false);
+    let ne = lower_bound(alloc, store, pattern, &found, true, false);
+    let sw = lower_bound(alloc, store, pattern, &found, false, true);
+    let se = lower_bound(alloc, store, pattern, &found, true, true);
     let east_of_north = is_less(&ne, &nw);
     let east_of_south = is_less(&se, &sw);
     let north = if east_of_north { &ne } else { &nw };

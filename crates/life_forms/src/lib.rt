@@ -4,8 +4,10 @@
 mod compare;
 mod images;
 pub mod laws;
+mod leaves;
 mod lower_bounds;
 mod moves;
+mod order;
 mod patterns;
 
 pub use compare::{are_shifts, are_turns};

@@ -1,25 +1,31 @@
 //! Texts that the texts of images are no less than, found without the images.
 
-ghost use Rattle.std.specs.Prelude.{◌≡◌, ◌^◌, [], ◌∷◌, true, false, min, pos, ◌+ℤ◌, ◌≤ℤ◌, ◌<ℤ◌, IfSome, IfOk, IfErr, MatchOption};
-ghost use Rattle.life_forms.specs.Words.{MAX_LEVEL, IsMemory, IsTrimmed, IsOrdered, IsSquareBox, IsUpTo, content, universe_in, is_blank_tree, is_life, IsCornerLeaf, IsLowerBound, IsMiddling, leaf_start, square_text, turned_tree, turn_of};
+ghost use Rattle.std.specs.Prelude.{◌≡◌, ◌^◌, [], ◌∷◌, ◌++◌, true, false, min, pos, ◌+ℤ◌, ◌≤ℤ◌, ◌<ℤ◌, IfSome, IfOk, IfErr, MatchOption};
+ghost use Rattle.life_forms.specs.Words.{MAX_LEVEL, IsMemory, IsTrimmed, IsOrdered, IsSquareBox, IsUpTo, content, universe_in, is_blank_tree, is_life, IsCornerLeaf, IsLowerBound, IsMiddling, Leaf, header_lines_text, leaf_square, leaf_start, node_text, rows_of, square_text, turned_tree, turn_of};
 
+use crate::leaves::{leaf_rows, turned_leaf};
+use crate::order::is_up_to;
 use crate::patterns::most_squares;
 use life_base::{Bounds, Kind, Rule};
+use life_canon::Pattern;
 use life_canon::laws::squares_are_centred;
-use life_canon::{Pattern, lesser_turned_text};
-use life_quad::{Shared, Turn, is_blank};
-use life_slide::square_at;
+use life_mc::{Line, append_front, append_line};
+use life_quad::{Shared, Turn};
+use life_slide::{LeafCells, leaf_at};
 use std::alloc::Global;
 
 /// A form of two states whose root is of level 13 at most has no more different squares than this: 16 of level 1, 65,536 of level 2, and 1,398,101
 /// above them.
 const SQUARES_OF_LEVEL_13: u64 = 1_463_653;
 
+/// A text has capacity for so many bytes at once: that of a small pattern needs no more.
+const FIRST_BYTES: usize = 1 << 10;
+
+/// The same for a text of one leaf. The header lines have fewer than 64 bytes for most rules, and the text needs 105 more before it is known to end.
+const LEAF_BYTES: usize = 1 << 8;
+
 /// No text begins with this byte or a greater one.
 const ABOVE_TEXTS: u8 = 255;
-
-/// The level of a leaf.
-const LEAF: u8 = 3;
 
 /// Whether a side of a box has at most 2^12 cells.
 fn is_within(low: i64, high: i64) -> bool
@@ -70,41 +76,27 @@ fn leaf_start(last: bool, low: i64, high: i64) -> i64
     if last { high - 7 } else { low }
 }
 
-/// The leaf in a corner of a pattern's box, as a pattern in another store, unless it is blank or memory is refused.
+/// The leaf in a corner of a pattern's box, unless it is blank or the store doesn't give its cells.
 fn corner_leaf(
-    alloc: Global,
     store: &Shared,
-    leaves: &mut Shared,
     pattern: &Pattern,
     found: &Bounds,
     columns: bool,
     rows: bool,
-) -> Option<Pattern>
+) -> Option<LeafCells>
     requires trimmed { IsTrimmed store.now pattern.now }
     requires bounds { IsSquareBox (content store.now pattern.now.root) found.now }
     requires life { is_life pattern.now.rule ≡ true }
-    ensures trimmed { IfSome result (IsTrimmed leaves.new) }
-    ensures rule { IfSome result (λ leaf. leaf.rule ≡ pattern.now.rule) }
-    ensures generation { IfSome result (λ leaf. leaf.generation ≡ pattern.now.generation) }
-    ensures leaf { IfSome result (λ leaf. IsCornerLeaf (universe_in store.now pattern.now)
-        found.now columns rows (content leaves.new leaf.root)) }
+    ensures { IfSome result (λ leaf. IsCornerLeaf (universe_in store.now pattern.now)
+        found.now columns rows (leaf_square leaf)) }
 {
     let x = leaf_start(columns, found.left, found.right);
     let y = leaf_start(rows, found.top, found.bottom);
-    let Ok(root) = square_at(alloc, store, leaves, pattern.root, LEAF, x, y) else {
-        return None;
-    };
-    if is_blank(leaves, root) {
+    let leaf = leaf_at(store, pattern.root, x, y)?;
+    if leaf.is_blank() {
         return None;
     }
-    let Ok(rule) = pattern.rule.copy(alloc) else {
-        return None;
-    };
-    Some(Pattern {
-        rule,
-        generation: pattern.generation,
-        root,
-    })
+    Some(leaf)
 }
 
 /// A text that is greater than each canonical text.
@@ -112,54 +104,73 @@ pub(crate) fn above_texts(alloc: Global) -> Result<Vec<u8>, Kind>
     ensures text { IfOk result (λ text. text.items ≡ 255 ∷ []) }
     ensures memory { IfErr result IsMemory }
 {
-    Ok(Vec::from_slice(alloc, &[ABOVE_TEXTS])?)
+    let mut text = Vec::with_capacity(alloc, FIRST_BYTES)?;
+    text.push(ABOVE_TEXTS)?;
+    Ok(text)
 }
 
-/// The lesser of the texts of a leaf, turned by two turns, or a lesser text.
+/// The lesser of two texts, byte by byte.
+fn lesser_of(first: Vec<u8>, second: Vec<u8>) -> Vec<u8>
+    ensures first { IsUpTo result.items first.items }
+    ensures second { IsUpTo result.items second.items }
+{
+    if is_up_to(&first, &second) {
+        first
+    } else {
+        second
+    }
+}
+
+/// The header lines of a pattern's text, and the line of a leaf.
+fn leaf_text(alloc: Global, pattern: &Pattern, leaf: LeafCells) -> Result<Vec<u8>, Kind>
+    ensures { IfOk result (λ text. text.items
+        ≡ header_lines_text pattern.now.rule pattern.now.generation
+        ++ node_text (Leaf (rows_of (leaf_square leaf)))) }
+{
+    let mut text = Vec::with_capacity(alloc, LEAF_BYTES)?;
+    append_front(&mut text, &pattern.rule, pattern.generation)?;
+    append_line(&mut text, &Line::Leaf(leaf_rows(leaf)))?;
+    Ok(text)
+}
+
+/// The lesser of the texts of a leaf, turned by two turns.
 fn lesser_leaf_text(
     alloc: Global,
-    leaves: &Shared,
-    leaf: &Pattern,
+    pattern: &Pattern,
+    leaf: LeafCells,
     columns: bool,
     rows: bool,
-) -> Option<Vec<u8>>
-    requires { IsTrimmed leaves.now leaf.now }
-    ensures first { IfSome result (λ text. IsUpTo text.items
-        (square_text leaf.now.rule leaf.now.generation
-        (turned_tree (turn_of false columns rows) (content leaves.now leaf.now.root)))) }
-    ensures second { IfSome result (λ text. IsUpTo text.items
-        (square_text leaf.now.rule leaf.now.generation
-        (turned_tree (turn_of true columns rows) (content leaves.now leaf.now.root)))) }
+) -> Result<Vec<u8>, Kind>
+    requires life { is_life pattern.now.rule ≡ true }
+    requires live { is_blank_tree (leaf_square leaf) ≡ false }
+    ensures first { IfOk result (λ text. IsUpTo text.items
+        (square_text pattern.now.rule pattern.now.generation
+        (turned_tree (turn_of false columns rows) (leaf_square leaf)))) }
+    ensures second { IfOk result (λ text. IsUpTo text.items
+        (square_text pattern.now.rule pattern.now.generation
+        (turned_tree (turn_of true columns rows) (leaf_square leaf)))) }
 {
-    let Ok(above) = above_texts(alloc) else {
-        return None;
-    };
     let turn = Turn {
         exchange: false,
         columns,
         rows,
-    };
-    let Ok(text) = lesser_turned_text(alloc, leaves, leaf, turn, above) else {
-        return None;
     };
     let exchanged = Turn {
         exchange: true,
         columns,
         rows,
     };
-    match lesser_turned_text(alloc, leaves, leaf, exchanged, text) {
-        Ok(lesser) => Some(lesser),
-        Err(_) => None,
-    }
+    let first = leaf_text(alloc, pattern, turned_leaf(turn, leaf))?;
+    let second = leaf_text(alloc, pattern, turned_leaf(exchanged, leaf))?;
+    Ok(lesser_of(first, second))
 }
 
 /// A text that those of two images of a pattern, moved, are no less than, if one is found: with columns and rows counted from the other side or not, and with
-/// both exchanged. It is that of the first leaf of the one or the other image, which is made in another store. Where there is one, neither image has more
+/// both exchanged. It is that of the first leaf of the one or the other image. Where there is one, neither image has more
 /// squares than a form may have.
 pub(crate) fn lower_bound(
     alloc: Global,
     store: &Shared,
-    leaves: &mut Shared,
     pattern: &Pattern,
     found: &Option<Bounds>,
     columns: bool,
@@ -175,14 +186,13 @@ pub(crate) fn lower_bound(
     let Some(found) = found else {
         return None;
     };
-    lower_bound_in(alloc, store, leaves, pattern, found, columns, rows)
+    lower_bound_in(alloc, store, pattern, found, columns, rows)
 }
 
 /// The same of a pattern with this box.
 fn lower_bound_in(
     alloc: Global,
     store: &Shared,
-    leaves: &mut Shared,
     pattern: &Pattern,
     found: &Bounds,
     columns: bool,
@@ -200,6 +210,9 @@ fn lower_bound_in(
     if !is_life(&pattern.rule) || !is_middling(found) {
         return None;
     }
-    let leaf = corner_leaf(alloc, store, leaves, pattern, found, columns, rows)?;
-    lesser_leaf_text(alloc, leaves, &leaf, columns, rows)
+    let leaf = corner_leaf(store, pattern, found, columns, rows)?;
+    match lesser_leaf_text(alloc, pattern, leaf, columns, rows) {
+        Ok(text) => Some(text),
+        Err(_) => None,
+    }
 }

@@ -17,6 +17,9 @@ pub(crate) const WITHOUT_LIMIT: u64 = 1 << 62;
 /// How many different squares a form has at most.
 pub const MOST_SQUARES: u64 = 1 << 21;
 
+/// A form's store has capacity for so many nodes at once: a small form needs no more.
+const FIRST_NODES: usize = 14;
+
 /// How many a form of a pattern of this store has at most: no more than the store may hold.
 pub(crate) fn most_squares(store: &Shared) -> u64
     ensures { result ≡ min (2 ^ 21) store.now.limit }
@@ -118,6 +121,7 @@ pub(crate) fn corner_form(
     centred_squares_tell_cells();
     let rule = pattern.rule.copy(alloc)?;
     let mut to = Shared::seeded(alloc, store.seed(), most_squares(store));
+    to.reserve(FIRST_NODES);
     let generation = pattern.generation;
     let square = pattern.root;
     let moved = moved_pattern(

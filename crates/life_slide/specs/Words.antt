@@ -15,7 +15,7 @@ pub use Rattle.life_quad.specs.declared.moves.Quarters.{Quarters as QuartersValu
 pub use Rattle.life_slide.specs.Margins.{AreMarginsOfFour, AreMargins, AreMarginsOf, IsAlong, IsSeenOrOther, IsSeenAs, Misses}
 pub use Rattle.life_slide.specs.Needed.{own_square_at, SomeOfBlock, SomeOfNineSquares}
 pub use Rattle.life_slide.specs.Parts.{AreAlike, AreFirstsByFour, ArePartsOf, AreViews, first_side, IsLike, key_of_quarters, second_side, TableGives}
-pub use Rattle.life_slide.specs.Pieces.{AreFourPieces, AreNinePieces, AreTwo, eastern_quarters, four_values, HasBlockAt, in_corner, InBlock, AllOfFour, AllOfNine, AllOfThree, IsBlock, IsNearMiddle, plane_from, root_from, side_origin, side_start, start, three_from, western_quarters}
+pub use Rattle.life_slide.specs.Pieces.{AreFourPieces, AreNinePieces, AreTwo, eastern_quarters, four_values, HasBlockAt, in_corner, InBlock, AllOfFour, AllOfNine, AllOfThree, IsBlock, IsNearMiddle, leaf_square, plane_from, root_from, side_origin, side_start, start, three_from, western_quarters}
 pub use Rattle.life_slide.specs.Remembered.{key_of_block, IsSlideAnswer, RemembersSlides}
 pub use Rattle.life_slide.specs.declared.sides.Side.{Side as SideValue}
 pub use Rattle.life_slide.specs.declared.sides.Side.TheVariants.{All, From, Nothing, Until}

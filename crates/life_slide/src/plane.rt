@@ -1,12 +1,16 @@
 //! A square of the plane of a square.
-ghost use Rattle.std.specs.Prelude.{◌≡◌, ◌≢◌, ℕ, ℤ, pos, neg_ℤ, ◌+ℤ◌, ◌<ℤ◌, suc, ◌+◌, ◌-◌, ◌^◌, ◌<◌, ◌≤◌, true, false, IfOk, IfErr, OnErr};
-ghost use Rattle.life_slide.specs.Words.{MAX_LEVEL, SomePart, depth, tree_cell, IsPiece, IsOfLevel, own_square_at, in_corner, IsNearMiddle, AddsOnly, KeepsStore, IsShortageIn};
+ghost use Rattle.std.specs.Prelude.{◌≡◌, ◌≢◌, ℕ, ℤ, pos, neg_ℤ, ◌+ℤ◌, ◌<ℤ◌, suc, ◌+◌, ◌-◌, ◌^◌, ◌<◌, ◌≤◌, true, false, IfOk, IfErr, IfSome, OnErr};
+ghost use Rattle.life_slide.specs.Words.{MAX_LEVEL, SomePart, depth, tree_cell, HasBlockAt, InBlock, IsPiece, IsOfLevel, leaf_square, own_square_at, in_corner, IsNearMiddle, AddsOnly, KeepsStore, IsShortageIn};
 
+use crate::leaf::{LeafCells, leaf_of_block};
 use crate::margins::half_side;
 use crate::slide::{Offset, slid, window};
 use life_base::{Kind, MAX_LEVEL};
 use life_quad::{Id, Quarters, SharedSquares, Squares};
 use std::alloc::Global;
+
+/// The level of a leaf.
+const LEAF: u8 = 3;
 
 // Where a coordinate is in two squares side by side, of which one is about the middle of the plane: whether that is the second, and how far the
 // coordinate is from where the first begins.
@@ -40,6 +44,32 @@ pub(crate) fn in_corner(east: bool, south: bool, id: Id, other: Id) -> Quarters
     }
 }
 
+// The square of a level of the plane of a square's cells that begins in the column x and the row y: how far it begins from the first of four squares of
+// that level, two by two, as far as their side length leaves of these numbers, and the four.
+fn block_at<S: Squares>(squares: &S, id: Id, level: u8, x: i64, y: i64) -> (Offset, Quarters)
+    requires known { S.knows squares.now id }
+    requires high { 1 ≤ depth (S.content squares.now id) }
+    requires low { level ≤ depth (S.content squares.now id) }
+    requires column { IsNearMiddle (depth (S.content squares.now id)) x }
+    requires row { IsNearMiddle (depth (S.content squares.now id)) y }
+    ensures known { InBlock (IsOfLevel (S.knows squares.now) (S.content squares.now) level)
+        result.1 }
+    ensures begins { HasBlockAt (S.content squares.now) (tree_cell (S.content squares.now id))
+        result.0.columns result.0.rows level x y result.1 }
+{
+    let whole = squares.level(id);
+    let blank = squares.empty(whole);
+    let column = placed(x, whole);
+    let row = placed(y, whole);
+    let around = in_corner(column.0, row.0, id, blank);
+    let offset = Offset {
+        columns: column.1,
+        rows: row.1,
+    };
+    let block = window(squares, offset, whole, level, &around);
+    (offset, block)
+}
+
 /// The square of a level of the plane of a square's cells that begins in the column x and the row y, in another store. Each square that is stored there is
 /// part of that one.
 ///
@@ -70,15 +100,20 @@ pub fn square_at<S: SharedSquares, T: Squares>(
     ensures adds { AddsOnly T.stored
         (λ P. SomePart P (own_square_at (S.content from.now id) level x y)) to.old to.new }
 {
-    let whole = from.level(id);
-    let blank = from.empty(whole);
-    let column = placed(x, whole);
-    let row = placed(y, whole);
-    let around = in_corner(column.0, row.0, id, blank);
-    let offset = Offset {
-        columns: column.1,
-        rows: row.1,
-    };
-    let block = window(from, offset, whole, level, &around);
+    let (offset, block) = block_at(from, id, level, x, y);
     slid(alloc, from, to, offset, level, &block)
+}
+
+/// The cells of the square of level 3 of the plane of a square's cells that begins in the column x and the row y, where the store gives the cells of the
+/// squares of level 2. No square is made.
+pub fn leaf_at<S: Squares>(squares: &S, id: Id, x: i64, y: i64) -> Option<LeafCells>
+    requires known { S.knows squares.now id }
+    requires high { 3 ≤ depth (S.content squares.now id) }
+    requires column { IsNearMiddle (depth (S.content squares.now id)) x }
+    requires row { IsNearMiddle (depth (S.content squares.now id)) y }
+    ensures { IfSome result
+        (λ leaf. leaf_square leaf ≡ own_square_at (S.content squares.now id) 3 x y) }
+{
+    let (offset, block) = block_at(squares, id, LEAF, x, y);
+    leaf_of_block(squares, offset, &block)
 }

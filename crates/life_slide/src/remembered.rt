@@ -13,6 +13,9 @@ const LEAST_LEVEL: u8 = 4;
 /// So many answers may be ones that were there.
 const FEW: u64 = 1 << 12;
 
+/// So many of the first answers aren't counted: a small pattern has no more, and then the count takes no memory.
+const UNCOUNTED: u64 = 1 << 6;
+
 /// Answers for four squares. None is forgotten.
 #[derive(Drop)]
 pub(crate) struct Answers {
@@ -53,11 +56,11 @@ fn key_of(block: &Quarters) -> Key
     Key::of(Side::All, Side::All, block)
 }
 
-// Counts an answer that is a new one.
+// Counts an answer that is a new one, unless few were put before it.
 fn count(answers: &mut Answers, answer: Id)
     ensures { answers.new.table ≡ answers.old.table }
 {
-    if answers.different.get(answer).is_some() {
+    if answers.table.len() < UNCOUNTED || answers.different.get(answer).is_some() {
         return;
     }
     if let Ok(number) = answers.different.push(answer) {

@@ -2,7 +2,7 @@
 ghost use Rattle.std.specs.Prelude.{◌≡◌, ◌↔◌, true};
 ghost use Rattle.life_slide.specs.Words.{first_side, second_side, SideValue, All, Nothing, Until};
 
-/// Which columns of a square are seen by a square of its level that begins so far east of it, or of one beside it; or which rows.
+/// Which columns of a square another square of its level overlaps, if it begins some columns to the east or to the west; the same for rows.
 #[derive(Clone, Copy, PartialEq, Eq, Hash)]
 pub(crate) enum Side {
     /// Each of them.

@@ -14,7 +14,7 @@ returns-then-is_up_to-clause-text c =
     let bound : IsLowerBound MAX_LEVEL most u c.args.columns c.args.rows lower.items =
     subst (λ o. IfSome o (λ text. IsLowerBound MAX_LEVEL most u c.args.columns c.args.rows text.items)) c.in-Some.is c.requires.lower in
     let up : IsUpTo c.args.best.items lower.items =
-    subst₂ (λ (a b : List ℕ). IsUpTo a b) c.deref.ensures.value c.deref-in-Some.ensures.value (c.is_up_to.ensures c.if-is_up_to.true) in
+    subst₂ (λ (a b : List ℕ). IsUpTo a b) c.deref.ensures.value c.deref-in-Some.ensures.value (c.is_up_to.ensures.first c.if-is_up_to.true) in
     record {
       one = inl refl;
       first = up-to-itself c.args.best.items;

@@ -4,17 +4,15 @@ use Rattle.life_block.specs.Needed.{square_from}
 use Rattle.life_base.specs.Tree.{depth, tree_cell}
 use Rattle.life_quad.proofs.LawLemmas.{known_squares_are_full}
 use Rattle.life_canon.specs.Store.{content}
-use Rattle.life_canon.specs.Universe.{square}
-use Rattle.life_block.proofs.NeedLemmas.{piece-is}
 use Rattle.life_slide.specs.Pieces.{IsNearMiddle}
 use Rattle.life_slide.proofs.MovedLemmas.{bottom-read, left-read, right-read, top-read}
 use Rattle.life_forms.specs.Images.{leaf_start}
-use Rattle.life_forms.proofs.CornerFacts.{column-start, leaf-trimmed, life-low, row-start}
+use Rattle.life_forms.proofs.CornerFacts.{column-start, life-low, row-start}
 use Rattle.life_forms.proofs.MovedFacts.{square-same}
-use Rattle.life_forms.proofs.PatternFacts.{cell-up-to, root-high}
+use Rattle.life_forms.proofs.PatternFacts.{root-high}
 use Rattle.life_forms.proofs.PlaneFacts.{columns-ordered, ordered-read, rows-ordered}
 use Rattle.life_forms.proofs.lower_bounds.corner_leaf.Goals as goal
-use Rattle.life_forms.proofs.lower_bounds.corner_leaf.Goals.{After-leaf_start-y, In-Ok}
+use Rattle.life_forms.proofs.lower_bounds.corner_leaf.Goals.{After-leaf_start-y}
 
 pub leaf_start-x-requires : goal.leaf_start-x-requires
 leaf_start-x-requires c =
@@ -54,6 +52,9 @@ deep c =
     let level = c.requires.trimmed.level in
     omega (arith, low, level)
 
+pub leaf_at-requires-clause-high : goal.leaf_at-requires-clause-high
+leaf_at-requires-clause-high c = deep (goal.at.leaf_at-requires-clause-high c).After-leaf_start-y
+
 -- what the code computes with is where the leaf begins
 column-at : (c : After-leaf_start-y) → to_z w64 (of_z w64 c.leaf_start-x.result) ≡ leaf_start c.args.columns c.args.found.now.left c.args.found.now.right
 column-at c = read-back c.leaf_start-x.result (record { sfits = c.leaf_start-x.type_inv }) ∙ c.leaf_start-x.ensures ∙ column-is c
@@ -61,39 +62,23 @@ column-at c = read-back c.leaf_start-x.result (record { sfits = c.leaf_start-x.t
 row-at : (c : After-leaf_start-y) → to_z w64 (of_z w64 c.leaf_start-y.result) ≡ leaf_start c.args.rows c.args.found.now.top c.args.found.now.bottom
 row-at c = read-back c.leaf_start-y.result (record { sfits = c.leaf_start-y.type_inv }) ∙ c.leaf_start-y.ensures ∙ row-is c
 
-pub square_at-requires-clause-column : goal.square_at-requires-clause-column
-square_at-requires-clause-column c =
-    let d = (goal.at.square_at-requires-clause-column c).After-leaf_start-y in
+pub leaf_at-requires-clause-column : goal.leaf_at-requires-clause-column
+leaf_at-requires-clause-column c =
+    let d = (goal.at.leaf_at-requires-clause-column c).After-leaf_start-y in
     let t = content c.args.store.now c.args.pattern.now.root in
     subst (IsNearMiddle (depth t)) (sym (column-at d)) (column-start t c.args.found.now c.requires.bounds (deep d) c.args.columns)
 
-pub square_at-requires-clause-row : goal.square_at-requires-clause-row
-square_at-requires-clause-row c =
-    let d = (goal.at.square_at-requires-clause-row c).After-leaf_start-y in
+pub leaf_at-requires-clause-row : goal.leaf_at-requires-clause-row
+leaf_at-requires-clause-row c =
+    let d = (goal.at.leaf_at-requires-clause-row c).After-leaf_start-y in
     let t = content c.args.store.now c.args.pattern.now.root in
     subst (IsNearMiddle (depth t)) (sym (row-at d)) (row-start t c.args.found.now c.requires.bounds (deep d) c.args.rows)
 
--- the leaf is the square that begins there
-leaf-at : (c : In-Ok) → content c.square_at.new.to c.in-Ok.root
-    ≡ square (tree_cell (content c.args.store.now c.args.pattern.now.root)) 3 (leaf_start c.args.columns c.args.found.now.left c.args.found.now.right)
-    (leaf_start c.args.rows c.args.found.now.top c.args.found.now.bottom)
-leaf-at c =
-    let d = (goal.at.In-Ok c).After-leaf_start-y in
-    let t = content c.args.store.now c.args.pattern.now.root in
-    let at = c.in-Ok.ensures.at in
-    let full = (known_squares_are_full c.square_at.new.to c.in-Ok.root at.known.0).0 in
-    piece-is (tree_cell t) 3 _ _ (content c.square_at.new.to c.in-Ok.root) full at.level c.in-Ok.ensures.square
-    ∙ (λ i. square_from (tree_cell t) 3 (column-at d i) (row-at d i)) ∙ square-same (tree_cell t) 3 _ _
-
-pub returns-clause-trimmed : goal.returns-clause-trimmed
-returns-clause-trimmed c =
-    let d = (goal.at.returns-clause-trimmed c).In-Ok in
-    let t = content c.args.store.now c.args.pattern.now.root in
-    let at = c.in-Ok.ensures.at in
-    leaf-trimmed c.square_at.new.to _ c.args.pattern.now.rule _ c.in-Ok.root at.known at.level c.requires.life c.in-Ok-copy.ensures.ok (tree_cell t) _ _
-    (leaf-at d) (cell-up-to _ t c.requires.trimmed.states)
-
-pub returns-clause-leaf : goal.returns-clause-leaf
-returns-clause-leaf c =
-    let d = (goal.at.returns-clause-leaf c).In-Ok in
-    record { at = leaf-at d; live = sym c.is_blank.ensures ∙ c.if-is_blank.false }
+pub returns : goal.returns
+returns c =
+    let d = (goal.at.returns c).After-leaf_start-y in
+    let cell = tree_cell (content c.args.store.now c.args.pattern.now.root) in
+    record {
+      at = c.in_ok-leaf.ensures ∙ (λ i. square_from cell 3 (column-at d i) (row-at d i)) ∙ square-same cell 3 _ _;
+      live = sym c.is_blank.ensures ∙ c.if-is_blank.false;
+    }

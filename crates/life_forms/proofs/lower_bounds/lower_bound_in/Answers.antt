@@ -9,6 +9,7 @@ use Rattle.life_quad.proofs.LawLemmas.{known_squares_are_full}
 use Rattle.life_canon.specs.Lesser.{IsUpTo}
 use Rattle.life_canon.specs.Listing.{square_text}
 use Rattle.life_canon.specs.Store.{content, universe_in}
+use Rattle.life_slide.specs.Pieces.{leaf_square}
 use Rattle.life_slide.proofs.MovedLemmas.{cell-below}
 use Rattle.life_forms.specs.Turns.{turn_of}
 use Rattle.life_forms.proofs.AreaFacts.{most_parts}
@@ -27,16 +28,12 @@ is_middling-requires-clause-rows c =
     let low = (known_squares_are_full c.args.store.now c.args.pattern.now.root c.requires.trimmed.known.0).1 in
     rows-ordered (content c.args.store.now c.args.pattern.now.root) c.args.found.now low c.requires.bounds
 
-both-some : {A : Type 0} (o : Option A) (P Q R : A → Type 0) → ((a : A) → P a → Q a → R a) → IfSome o P → IfSome o Q → IfSome o R
-both-some (Some a) P Q R f p q = f a p q
-both-some None P Q R f p q = tt
-
 life-states : (rule : Rule) → is_life rule ≡ true → largest_state rule ≡ 1
 life-states (Life sets) life = refl
 life-states (Named name) life = absurd (true≢false (sym life))
 
-pub returns : goal.returns
-returns c =
+pub returns-in-Ok : goal.returns-in-Ok
+returns-in-Ok c =
     let u = universe_in c.args.store.now c.args.pattern.now in
     let t = content c.args.store.now c.args.pattern.now.root in
     let known = known_squares_are_full c.args.store.now c.args.pattern.now.root c.requires.trimmed.known.0 in
@@ -45,15 +42,8 @@ returns c =
     let most = min 2097152 c.args.store.now.limit in
     let parts : most_parts 11 ≡ 1398101 = refl in
     let enough : 65552 + most_parts 11 ≤ most = omega (arith, parts, c.most_squares.ensures, c.if-most_squares-lt-SQUARES_OF_LEVEL_13.false) in
-    let of_leaf = c.in_ok-leaf.ensures in
-    let leaf = content c.corner_leaf.new.leaves c.in_ok-leaf.leaf.root in
-    let text-of = λ (exchange : Bool) (r : Rule) (g : ℕ). square_text r g (turned_tree (turn_of exchange c.args.columns c.args.rows) leaf) in
-    both-some c.lesser_leaf_text.result _ _ _
-    (λ text first second.
     bound-of-leaf c.squares_are_centred.ensures u life (life-low u.rule life) (cell-below t known.0)
     (λ x y. cell-up-to 1 t (subst (λ (m : ℕ). HasStatesUpTo m t) (life-states u.rule life) c.requires.trimmed.states) x y)
     (outside-blank t known.1) c.args.found.now
-    (box-of-square t c.args.found.now c.requires.bounds) middling c.args.columns c.args.rows most enough leaf of_leaf.leaf text.items
-    (subst₂ (λ (r : Rule) (g : ℕ). IsUpTo text.items (text-of false r g)) of_leaf.rule of_leaf.generation first)
-    (subst₂ (λ (r : Rule) (g : ℕ). IsUpTo text.items (text-of true r g)) of_leaf.rule of_leaf.generation second))
-    c.lesser_leaf_text.ensures.first c.lesser_leaf_text.ensures.second
+    (box-of-square t c.args.found.now c.requires.bounds) middling c.args.columns c.args.rows most enough (leaf_square c.in_ok-leaf.leaf)
+    c.in_ok-leaf.ensures c.in-Ok.text.items c.in-Ok.ensures.first c.in-Ok.ensures.second

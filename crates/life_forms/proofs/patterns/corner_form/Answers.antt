@@ -52,7 +52,7 @@ returns-in-Ok-clause-small c =
     subst (λ (r : Rule). ¬ HasLargerForm (min (2 ^ 21) c.args.store.now.limit) (image turn (square_universe r pattern.generation t))) c.in_ok-rule.ensures.ok
     (subst (λ (u : Universe). ¬ HasLargerForm (min (2 ^ 21) c.args.store.now.limit) u) same
     (subst (λ (n : ℕ). ¬ HasLargerForm n (square_universe rule pattern.generation (mirrored centre tell v w t known.0 high)))
-    (e.keeps.limit ∙ c.seeded-to.ensures.most ∙ c.most_squares.ensures)
+    (e.keeps.limit ∙ ap (λ (s : Nodes). s.limit) c.reserve.ensures ∙ c.seeded-to.ensures.most ∙ c.most_squares.ensures)
     (no-larger-form v w (mirrored centre tell v w t known.0 high) (low-mirrored centre tell v w t known.0 high known.1) rule pattern.generation now _
     e.trimmed.known c.len.ensures.all
     (subst (λ (u : Universe). IsMovedRoot u (least_level rule) (turned_tree turn (content now c.in-Ok.pattern.root))) (sym same) e.root))))
@@ -75,8 +75,10 @@ returns-in-Err-clause-fault c = by c.in-Err.ensures.refusals
     by (inr full) = inr (
       c.of.ensures ∙ ap fault_of full.0,
       subst (λ (r : Rule). HasLargerForm (min (2 ^ 21) c.args.store.now.limit) (with-rule r)) c.in_ok-rule.ensures.ok
-          (subst (λ (n : ℕ). HasLargerForm n (with-rule c.in_ok-rule.rule)) (c.in-Err.ensures.keeps.limit ∙ c.seeded-to.ensures.most ∙ c.most_squares.ensures)
-          (larger-form c.args.columns c.args.rows (with-rule c.in_ok-rule.rule) c.seeded-to.result new c.seeded-to.ensures.stored
+          (subst (λ (n : ℕ). HasLargerForm n (with-rule c.in_ok-rule.rule))
+          (c.in-Err.ensures.keeps.limit ∙ ap (λ (s : Nodes). s.limit) c.reserve.ensures ∙ c.seeded-to.ensures.most ∙ c.most_squares.ensures)
+          (larger-form c.args.columns c.args.rows (with-rule c.in_ok-rule.rule) c.reserve.new.self new
+          (ap stored_squares c.reserve.ensures ∙ c.seeded-to.ensures.stored)
           (record { distinct = c.len.ensures.distinct; live = λ t there. (c.len.ensures.only t there).0 }) c.in-Err.ensures.adds
           (c.in-Err.ensures.needed (ap (λ (k : Kind). Err k) full.0)) full.1)),
     )
