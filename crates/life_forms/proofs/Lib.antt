@@ -14,5 +14,6 @@ pub mod TransposeFacts
 pub mod LeafFacts
 pub mod AreaFacts
 pub mod CornerFacts
+mod TurnedLeaves
 pub mod RefusalFacts
 pub mod ComparingFacts

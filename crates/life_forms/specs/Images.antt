@@ -1,11 +1,10 @@
 -- The texts of a pattern's images.
 use Rattle.std.specs.Prelude.{◌≡◌, ◌⊎◌, ℕ, ◌^◌, Bool, true, false, List, ℤ, pos, neg_ℤ, ◌+ℤ◌, ◌≤ℤ◌, ◌<ℤ◌}
-use Rattle.life_base.specs.Tree.{Tree, quad, is_blank_tree}
+use Rattle.life_base.specs.Tree.{Tree, is_blank_tree}
 use Rattle.life_base.specs.declared.bounds.Bounds.{Bounds}
 use Rattle.life_canon.specs.Lesser.{IsUpTo}
 use Rattle.life_canon.specs.Listing.{canon_text}
 use Rattle.life_canon.specs.Universe.{Universe, square}
-use Rattle.life_quad.specs.Turning.{one_of_four, side_of, turned_half}
 use Rattle.life_forms.specs.Turns.{Turn, image, turn_of}
 use Rattle.life_forms.specs.Forms.{IsMoved, IsTurned}
 use Rattle.life_forms.specs.Needed.{HasLargerForm}
@@ -58,12 +57,3 @@ leaf_start true low high = high +ℤ neg_ℤ (pos 7)
 pub record IsCornerLeaf (u : Universe) (box : Bounds) (columns rows : Bool) (t : Tree) : Type 0 where
   pub at : t ≡ square u.cell 3 (leaf_start columns box.left box.right) (leaf_start rows box.top box.bottom)
   pub live : is_blank_tree t ≡ false
-
--- four quarters in the places to which a turn brings them
-abbrev pub placed_quarters : Turn → Tree → Tree → Tree → Tree → Tree
-placed_quarters turn nw ne sw se =
-    quad
-    (one_of_four (side_of turn false false) (turned_half turn false false) nw ne sw se)
-    (one_of_four (side_of turn true false) (turned_half turn true false) nw ne sw se)
-    (one_of_four (side_of turn false true) (turned_half turn false true) nw ne sw se)
-    (one_of_four (side_of turn true true) (turned_half turn true true) nw ne sw se)

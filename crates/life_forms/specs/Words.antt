@@ -11,7 +11,7 @@ pub use Rattle.life_canon.specs.Lesser.{IsLesserText, IsUpTo}
 pub use Rattle.life_canon.specs.Texts.{IsOrdered}
 pub use Rattle.life_canon.specs.Universe.{Universe, is_life, square_universe, least_level}
 pub use Rattle.life_forms.specs.Forms.{IsShift, IsTurnedShift, IsMoved, IsInPlace}
-pub use Rattle.life_forms.specs.Images.{AreSmall, IsCornerLeaf, IsImageText, IsLeastOfTwo, IsLesserOfTwo, IsLowerBound, IsMiddling, IsTurnedText, leaf_start, placed_quarters}
+pub use Rattle.life_forms.specs.Images.{AreSmall, IsCornerLeaf, IsImageText, IsLeastOfTwo, IsLesserOfTwo, IsLowerBound, IsMiddling, IsTurnedText, leaf_start}
 pub use Rattle.life_forms.specs.Laws.{TurnsAreEight, TurnsAreClosed, TurnsHaveInverses, ImagesStayOnPlane, ImagesKeepShifts, ShiftsHaveOneSize, TurnsHaveOneSize, MovedFormsExist, MovedFormsAreOnPlane, MovedFormsTellShifts, MovedFormsAreFixed, MovedTextsTellShifts, MovedTextsTellFiles, TurnedTextsTellFiles, MovedTextsAreFiles, TurnedTextsAreFiles, FilesHaveForms, ForFaithfulTexts, TurnedFormsExist, TurnedFormsAreOnPlane, TurnedTextsTellTurns, TurnedFormsAreFixed}
 pub use Rattle.life_forms.specs.Needed.{HasLargeForm, HasLargeImage, HasLargerForm, IsMovedRoot, RefusesTurning, SomeOfMovedForm, SomeOfMovedRoot}
 pub use Rattle.life_forms.specs.Turns.{image, opposite_coordinate, turn_of}
@@ -20,8 +20,8 @@ pub use Rattle.life_mc.specs.Writing.{header_lines_text, node_text}
 pub use Rattle.life_mc.specs.declared.line.Line.TheVariants.{Leaf}
 pub use Rattle.life_quad.specs.Cells.{IsBoundingBoxOfTree as IsSquareBox}
 pub use Rattle.life_quad.specs.Keeping.{AddsOnly, IsShortageKind}
-pub use Rattle.life_quad.specs.Store.{stored_squares}
-pub use Rattle.life_slide.specs.Pieces.{IsNearMiddle, leaf_square}
+pub use Rattle.life_quad.specs.Store.{eight, stored_squares}
+pub use Rattle.life_slide.specs.Pieces.{IsNearMiddle}
 pub use Rattle.life_base.specs.Tree.{is_blank_tree}
 pub use Rattle.life_canon.specs.Listing.{rows_of, square_text}
 pub use Rattle.life_quad.specs.Turning.{turned_tree}

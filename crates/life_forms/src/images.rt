@@ -3,7 +3,7 @@
 ghost use Rattle.std.specs.Prelude.{◌≡◌, ◌^◌, ℕ, List, true, false, not, min, IfOk, IfErr, IfSome, MatchOption, OnOk};
 ghost use Rattle.life_forms.specs.Words.{MAX_LEVEL, Memory, fault_of, content, is_blank_tree, square_text, turn_of, turned_tree, IsImageText, IsTrimmed, IsSquareBox, universe_in, IsLeastOfTwo, IsLesserOfTwo, IsLesserText, IsLowerBound, IsUpTo, AreSmall, IsTurnedText, HasLargeImage, RefusesTurning};
 
-use crate::lower_bounds::{above_texts, lower_bound};
+use crate::lower_bounds::{above_texts, front_of, lower_bound};
 use crate::order::is_up_to;
 use crate::patterns::corner_form;
 use life_base::{Bounds, Fault};
@@ -198,10 +198,11 @@ pub fn turned_text(alloc: Global, store: &Shared, pattern: &Pattern) -> Result<V
     ensures fault { IfErr result (RefusesTurning store.now pattern.now) }
 {
     let found = bounds(alloc, store, pattern.root)?;
-    let nw = lower_bound(alloc, store, pattern, &found, false, false);
-    let ne = lower_bound(alloc, store, pattern, &found, true, false);
-    let sw = lower_bound(alloc, store, pattern, &found, false, true);
-    let se = lower_bound(alloc, store, pattern, &found, true, true);
+    let front = front_of(alloc, pattern)?;
+    let nw = lower_bound(alloc, store, pattern, &front, &found, false, false);
+    let ne = lower_bound(alloc, store, pattern, &front, &found, true, false);
+    let sw = lower_bound(alloc, store, pattern, &front, &found, false, true);
+    let se = lower_bound(alloc, store, pattern, &front, &found, true, true);
     let east_of_north = is_less(&ne, &nw);
     let east_of_south = is_less(&se, &sw);
     let north = if east_of_north { &ne } else { &nw };

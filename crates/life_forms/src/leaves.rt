@@ -1,59 +1,59 @@
 //! Leaves, turned.
 
-ghost use Rattle.std.specs.Prelude.{◌≡◌, ℕ};
-ghost use Rattle.life_forms.specs.Words.{Tree, leaf_square, placed_quarters, quad, rows_of, turned_tree};
+ghost use Rattle.std.specs.Prelude.{◌≡◌, false};
+ghost use Rattle.life_forms.specs.Words.{eight, rows_of, turned_tree, turn_of};
 
-use life_lanes::by_rows;
-use life_quad::{Turn, turned_cells};
-use life_slide::LeafCells;
+use life_lanes::{by_rows, exchange};
+use life_quad::Turn;
 
-/// The quarters of a leaf in the places to which a turn brings them, each as it is.
-fn placed(turn: Turn, leaf: LeafCells) -> LeafCells
-    ensures { (image : ℕ → Tree) → quad (image result.nw) (image result.ne) (image result.sw)
-        (image result.se) ≡ placed_quarters turn (image leaf.nw) (image leaf.ne) (image leaf.sw)
-        (image leaf.se) }
+/// The cells of a leaf with columns counted from the other side, if they are to be: in each square the western quarters are exchanged with the eastern ones.
+fn with_columns(counted: bool, cells: u64) -> u64
+    ensures { eight result ≡ turned_tree (turn_of false counted false) (eight cells) }
 {
-    let LeafCells { nw, ne, sw, se } = leaf;
-    match (turn.exchange, turn.columns, turn.rows) {
-        (false, false, false) => leaf,
-        (false, true, false) => four(ne, nw, se, sw),
-        (false, false, true) => four(sw, se, nw, ne),
-        (false, true, true) => four(se, sw, ne, nw),
-        (true, false, false) => four(nw, sw, ne, se),
-        (true, true, false) => four(ne, se, nw, sw),
-        (true, false, true) => four(sw, nw, se, ne),
-        (true, true, true) => four(se, ne, sw, nw),
+    if !counted {
+        return cells;
     }
+    let halves = exchange(cells, 0x0000_FFFF_0000_FFFF, 16);
+    let quarters = exchange(halves, 0x0F0F_0F0F_0F0F_0F0F, 4);
+    exchange(quarters, 0x5555_5555_5555_5555, 1)
 }
 
-/// The leaf with these quarters.
-fn four(nw: u16, ne: u16, sw: u16, se: u16) -> LeafCells
-    ensures nw { result.nw ≡ nw }
-    ensures ne { result.ne ≡ ne }
-    ensures sw { result.sw ≡ sw }
-    ensures se { result.se ≡ se }
+/// The same with rows: the northern quarters with the southern ones.
+fn with_rows(counted: bool, cells: u64) -> u64
+    ensures { eight result ≡ turned_tree (turn_of false false counted) (eight cells) }
 {
-    LeafCells { nw, ne, sw, se }
+    if !counted {
+        return cells;
+    }
+    let halves = exchange(cells, 0x0000_0000_FFFF_FFFF, 32);
+    let quarters = exchange(halves, 0x00FF_00FF_00FF_00FF, 8);
+    exchange(quarters, 0x3333_3333_3333_3333, 2)
 }
 
-/// A leaf, turned.
-pub(crate) fn turned_leaf(turn: Turn, leaf: LeafCells) -> LeafCells
-    ensures { leaf_square result ≡ turned_tree turn (leaf_square leaf) }
+/// The cells of a leaf with columns and rows exchanged, if they are to be: the north-eastern quarters with the south-western ones.
+fn with_exchange(exchanged: bool, cells: u64) -> u64
+    ensures { eight result ≡ turned_tree (turn_of exchanged false false) (eight cells) }
 {
-    let LeafCells { nw, ne, sw, se } = placed(turn, leaf);
-    four(
-        turned_cells(turn, nw),
-        turned_cells(turn, ne),
-        turned_cells(turn, sw),
-        turned_cells(turn, se),
-    )
+    if !exchanged {
+        return cells;
+    }
+    let halves = exchange(cells, 0x0000_0000_FFFF_0000, 16);
+    let quarters = exchange(halves, 0x00F0_00F0_00F0_00F0, 4);
+    exchange(quarters, 0x2222_2222_2222_2222, 1)
+}
+
+/// The cells of a leaf, turned, as `Squares::leaf` takes them.
+pub(crate) fn turned_leaf(turn: Turn, cells: u64) -> u64
+    ensures { eight result ≡ turned_tree turn (eight cells) }
+{
+    let columns = with_columns(turn.columns, cells);
+    let rows = with_rows(turn.rows, columns);
+    with_exchange(turn.exchange, rows)
 }
 
 /// The eight rows of a leaf as bytes, the western cell the highest bit.
-pub(crate) fn leaf_rows(leaf: LeafCells) -> [u8; 8]
-    ensures { result ≡ rows_of (leaf_square leaf) }
+pub(crate) fn leaf_rows(cells: u64) -> [u8; 8]
+    ensures { result ≡ rows_of (eight cells) }
 {
-    let north = u64::from(leaf.nw) * 0x1_0000 + u64::from(leaf.ne);
-    let south = u64::from(leaf.sw) * 0x1_0000 + u64::from(leaf.se);
-    by_rows(north * 0x1_0000_0000 + south).to_be_bytes()
+    by_rows(cells).to_be_bytes()
 }

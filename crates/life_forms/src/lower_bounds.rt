@@ -1,7 +1,7 @@
 //! Texts that the texts of images are no less than, found without the images.
 
-ghost use Rattle.std.specs.Prelude.{◌≡◌, ◌^◌, [], ◌∷◌, ◌++◌, true, false, min, pos, ◌+ℤ◌, ◌≤ℤ◌, ◌<ℤ◌, IfSome, IfOk, IfErr, MatchOption};
-ghost use Rattle.life_forms.specs.Words.{MAX_LEVEL, IsMemory, IsTrimmed, IsOrdered, IsSquareBox, IsUpTo, content, universe_in, is_blank_tree, is_life, IsCornerLeaf, IsLowerBound, IsMiddling, Leaf, header_lines_text, leaf_square, leaf_start, node_text, rows_of, square_text, turned_tree, turn_of};
+ghost use Rattle.std.specs.Prelude.{◌≡◌, ◌^◌, ℕ, [], ◌∷◌, ◌++◌, true, false, min, pos, ◌+ℤ◌, ◌≤ℤ◌, ◌<ℤ◌, IfSome, IfOk, IfErr, MatchOption};
+ghost use Rattle.life_forms.specs.Words.{MAX_LEVEL, Rule, IsMemory, IsTrimmed, IsOrdered, IsSquareBox, IsUpTo, content, universe_in, is_blank_tree, is_life, IsCornerLeaf, IsLowerBound, IsMiddling, Leaf, header_lines_text, eight, leaf_start, node_text, rows_of, square_text, turned_tree, turn_of};
 
 use crate::leaves::{leaf_rows, turned_leaf};
 use crate::order::is_up_to;
@@ -11,7 +11,7 @@ use life_canon::Pattern;
 use life_canon::laws::squares_are_centred;
 use life_mc::{Line, append_front, append_line};
 use life_quad::{Shared, Turn};
-use life_slide::{LeafCells, leaf_at};
+use life_slide::leaf_at;
 use std::alloc::Global;
 
 /// A form of two states whose root is of level 13 at most has no more different squares than this: 16 of level 1, 65,536 of level 2, and 1,398,101
@@ -21,8 +21,11 @@ const SQUARES_OF_LEVEL_13: u64 = 1_463_653;
 /// A text has capacity for so many bytes at once: that of a small pattern needs no more.
 const FIRST_BYTES: usize = 1 << 10;
 
-/// The same for a text of one leaf. The header lines have fewer than 64 bytes for most rules, and the text needs 105 more before it is known to end.
-const LEAF_BYTES: usize = 1 << 8;
+/// Header lines have capacity for so many bytes at once: those of most rules need no more.
+const FRONT_BYTES: usize = 1 << 6;
+
+/// The longest line of a leaf, and its line feed, have so many bytes at most.
+const LEAF_BYTES: usize = 105;
 
 /// No text begins with this byte or a greater one.
 const ABOVE_TEXTS: u8 = 255;
@@ -83,17 +86,17 @@ fn corner_leaf(
     found: &Bounds,
     columns: bool,
     rows: bool,
-) -> Option<LeafCells>
+) -> Option<u64>
     requires trimmed { IsTrimmed store.now pattern.now }
     requires bounds { IsSquareBox (content store.now pattern.now.root) found.now }
     requires life { is_life pattern.now.rule ≡ true }
     ensures { IfSome result (λ leaf. IsCornerLeaf (universe_in store.now pattern.now)
-        found.now columns rows (leaf_square leaf)) }
+        found.now columns rows (eight leaf)) }
 {
     let x = leaf_start(columns, found.left, found.right);
     let y = leaf_start(rows, found.top, found.bottom);
     let leaf = leaf_at(store, pattern.root, x, y)?;
-    if leaf.is_blank() {
+    if leaf == 0 {
         return None;
     }
     Some(leaf)
@@ -121,34 +124,45 @@ fn lesser_of(first: Vec<u8>, second: Vec<u8>) -> Vec<u8>
     }
 }
 
-/// The header lines of a pattern's text, and the line of a leaf.
-fn leaf_text(alloc: Global, pattern: &Pattern, leaf: LeafCells) -> Result<Vec<u8>, Kind>
-    ensures { IfOk result (λ text. text.items
-        ≡ header_lines_text pattern.now.rule pattern.now.generation
-        ++ node_text (Leaf (rows_of (leaf_square leaf)))) }
+/// The header lines of a pattern's text.
+pub(crate) fn front_of(alloc: Global, pattern: &Pattern) -> Result<Vec<u8>, Kind>
+    ensures text { IfOk result (λ text. text.items
+        ≡ header_lines_text pattern.now.rule pattern.now.generation) }
+    ensures memory { IfErr result IsMemory }
 {
-    let mut text = Vec::with_capacity(alloc, LEAF_BYTES)?;
+    let mut text = Vec::with_capacity(alloc, FRONT_BYTES)?;
     append_front(&mut text, &pattern.rule, pattern.generation)?;
+    Ok(text)
+}
+
+/// The header lines, and the line of a leaf.
+fn leaf_text(alloc: Global, front: &[u8], leaf: u64) -> Result<Vec<u8>, Kind>
+    ensures { IfOk result (λ text. text.items
+        ≡ front.now ++ node_text (Leaf (rows_of (eight leaf)))) }
+{
+    let mut text = Vec::with_capacity(alloc, front.len() + LEAF_BYTES)?;
+    text.extend_from_slice(front)?;
     append_line(&mut text, &Line::Leaf(leaf_rows(leaf)))?;
     Ok(text)
 }
 
-/// The lesser of the texts of a leaf, turned by two turns.
+/// The lesser of the texts of a leaf, turned by two turns, behind the header lines of a B/S rule.
 fn lesser_leaf_text(
     alloc: Global,
-    pattern: &Pattern,
-    leaf: LeafCells,
+    front: &[u8],
+    leaf: u64,
     columns: bool,
     rows: bool,
 ) -> Result<Vec<u8>, Kind>
-    requires life { is_life pattern.now.rule ≡ true }
-    requires live { is_blank_tree (leaf_square leaf) ≡ false }
-    ensures first { IfOk result (λ text. IsUpTo text.items
-        (square_text pattern.now.rule pattern.now.generation
-        (turned_tree (turn_of false columns rows) (leaf_square leaf)))) }
-    ensures second { IfOk result (λ text. IsUpTo text.items
-        (square_text pattern.now.rule pattern.now.generation
-        (turned_tree (turn_of true columns rows) (leaf_square leaf)))) }
+    requires live { is_blank_tree (eight leaf) ≡ false }
+    ensures first { IfOk result (λ text. (rule : Rule) (generation : ℕ) → is_life rule ≡ true
+        → front.now ≡ header_lines_text rule generation
+        → IsUpTo text.items (square_text rule generation
+        (turned_tree (turn_of false columns rows) (eight leaf)))) }
+    ensures second { IfOk result (λ text. (rule : Rule) (generation : ℕ) → is_life rule ≡ true
+        → front.now ≡ header_lines_text rule generation
+        → IsUpTo text.items (square_text rule generation
+        (turned_tree (turn_of true columns rows) (eight leaf)))) }
 {
     let turn = Turn {
         exchange: false,
@@ -160,23 +174,25 @@ fn lesser_leaf_text(
         columns,
         rows,
     };
-    let first = leaf_text(alloc, pattern, turned_leaf(turn, leaf))?;
-    let second = leaf_text(alloc, pattern, turned_leaf(exchanged, leaf))?;
+    let first = leaf_text(alloc, front, turned_leaf(turn, leaf))?;
+    let second = leaf_text(alloc, front, turned_leaf(exchanged, leaf))?;
     Ok(lesser_of(first, second))
 }
 
-/// A text that those of two images of a pattern, moved, are no less than, if one is found: with columns and rows counted from the other side or not, and with
+/// A text that those of two images of a pattern, moved, are no less than, if one is found, where `front` is the header lines of each: with columns and rows counted from the other side or not, and with
 /// both exchanged. It is that of the first leaf of the one or the other image. Where there is one, neither image has more
 /// squares than a form may have.
 pub(crate) fn lower_bound(
     alloc: Global,
     store: &Shared,
     pattern: &Pattern,
+    front: &[u8],
     found: &Option<Bounds>,
     columns: bool,
     rows: bool,
 ) -> Option<Vec<u8>>
     requires trimmed { IsTrimmed store.now pattern.now }
+    requires front { front.now ≡ header_lines_text pattern.now.rule pattern.now.generation }
     requires bounds { MatchOption found.now
         (is_blank_tree (content store.now pattern.now.root) ≡ true)
         (IsSquareBox (content store.now pattern.now.root)) }
@@ -186,7 +202,7 @@ pub(crate) fn lower_bound(
     let Some(found) = found else {
         return None;
     };
-    lower_bound_in(alloc, store, pattern, found, columns, rows)
+    lower_bound_in(alloc, store, pattern, front, found, columns, rows)
 }
 
 /// The same of a pattern with this box.
@@ -194,11 +210,13 @@ fn lower_bound_in(
     alloc: Global,
     store: &Shared,
     pattern: &Pattern,
+    front: &[u8],
     found: &Bounds,
     columns: bool,
     rows: bool,
 ) -> Option<Vec<u8>>
     requires trimmed { IsTrimmed store.now pattern.now }
+    requires front { front.now ≡ header_lines_text pattern.now.rule pattern.now.generation }
     requires bounds { IsSquareBox (content store.now pattern.now.root) found.now }
     ensures { IfSome result (λ text. IsLowerBound MAX_LEVEL (min (2 ^ 21) store.now.limit)
         (universe_in store.now pattern.now) columns rows text.items) }
@@ -211,7 +229,7 @@ fn lower_bound_in(
         return None;
     }
     let leaf = corner_leaf(store, pattern, found, columns, rows)?;
-    match lesser_leaf_text(alloc, pattern, leaf, columns, rows) {
+    match lesser_leaf_text(alloc, front, leaf, columns, rows) {
         Ok(text) => Some(text),
         Err(_) => None,
     }

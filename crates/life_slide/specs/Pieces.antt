@@ -3,14 +3,12 @@ use Rattle.std.specs.Prelude.{◌≡◌, ℕ, ◌+◌, ◌-◌, ◌%◌, ◌^◌
 use Rattle.life_base.specs.Tree.{Tree, quad, tree_cell}
 use Rattle.life_base.specs.declared.cell.TheConstants.{MAX_LEVEL}
 use Rattle.life_quad.specs.Moves.{trimmed_square}
-use Rattle.life_quad.specs.Store.{four}
 use Rattle.life_quad.specs.declared.id.Id.{Id}
 use Rattle.life_quad.specs.declared.moves.Quarters.{Quarters}
 use Rattle.life_block.specs.Needed.{square_from}
 use Rattle.life_block.specs.Pieces.{IsPiece, step_ahead}
 use Rattle.life_slide.specs.declared.grid.Three.{Three}
 use Rattle.life_slide.specs.declared.grid.Four.{Four}
-use Rattle.life_slide.specs.declared.leaf.LeafCells.{LeafCells}
 
 -- three rows of three squares
 abbrev pub NineSquares : Type 0
@@ -135,7 +133,3 @@ side_start true low high k = (high +ℤ pos 1) +ℤ neg_ℤ (pos (2 ^ k))
 -- the same plane, trimmed, but not below this level
 abbrev pub root_from : Tree → ℤ → ℤ → ℕ → Tree
 root_from t columns rows least = trimmed_square (plane_from t columns rows) least
-
--- the square of level 3 with these cells
-abbrev pub leaf_square : LeafCells → Tree
-leaf_square leaf = quad (four leaf.nw) (four leaf.ne) (four leaf.sw) (four leaf.se)

@@ -1,8 +1,8 @@
 //! A square of the plane of a square.
 ghost use Rattle.std.specs.Prelude.{◌≡◌, ◌≢◌, ℕ, ℤ, pos, neg_ℤ, ◌+ℤ◌, ◌<ℤ◌, suc, ◌+◌, ◌-◌, ◌^◌, ◌<◌, ◌≤◌, true, false, IfOk, IfErr, IfSome, OnErr};
-ghost use Rattle.life_slide.specs.Words.{MAX_LEVEL, SomePart, depth, tree_cell, HasBlockAt, InBlock, IsPiece, IsOfLevel, leaf_square, own_square_at, in_corner, IsNearMiddle, AddsOnly, KeepsStore, IsShortageIn};
+ghost use Rattle.life_slide.specs.Words.{MAX_LEVEL, SomePart, depth, tree_cell, HasBlockAt, InBlock, IsPiece, IsOfLevel, eight, own_square_at, in_corner, IsNearMiddle, AddsOnly, KeepsStore, IsShortageIn};
 
-use crate::leaf::{LeafCells, leaf_of_block};
+use crate::leaf::leaf_of_block;
 use crate::margins::half_side;
 use crate::slide::{Offset, slid, window};
 use life_base::{Kind, MAX_LEVEL};
@@ -104,16 +104,16 @@ pub fn square_at<S: SharedSquares, T: Squares>(
     slid(alloc, from, to, offset, level, &block)
 }
 
-/// The cells of the square of level 3 of the plane of a square's cells that begins in the column x and the row y, where the store gives the cells of the
-/// squares of level 2. No square is made.
-pub fn leaf_at<S: Squares>(squares: &S, id: Id, x: i64, y: i64) -> Option<LeafCells>
+/// The cells of the square of level 3 of the plane of a square's cells that begins in the column x and the row y, as `Squares::leaf` takes them, where the
+/// store gives those of the squares of level 3. No square is made.
+pub fn leaf_at<S: Squares>(squares: &S, id: Id, x: i64, y: i64) -> Option<u64>
     requires known { S.knows squares.now id }
     requires high { 3 ≤ depth (S.content squares.now id) }
     requires column { IsNearMiddle (depth (S.content squares.now id)) x }
     requires row { IsNearMiddle (depth (S.content squares.now id)) y }
     ensures { IfSome result
-        (λ leaf. leaf_square leaf ≡ own_square_at (S.content squares.now id) 3 x y) }
+        (λ leaf. eight leaf ≡ own_square_at (S.content squares.now id) 3 x y) }
 {
     let (offset, block) = block_at(squares, id, LEAF, x, y);
-    leaf_of_block(squares, offset, &block)
+    leaf_of_block(squares, offset, LEAF, &block)
 }

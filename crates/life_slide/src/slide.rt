@@ -3,7 +3,7 @@ ghost use Rattle.std.specs.Prelude.{◌≡◌, ℕ, ℤ, ◌+◌, ◌^◌, ◌%�
 ghost use Rattle.life_slide.specs.Words.{MAX_LEVEL, SomeOfBlock, SomeOfNineSquares, RemembersSlides, IsPiece, IsOfLevel, InBlock, AllOfNine, IsBlock, AreNinePieces, HasBlockAt, step_ahead, AreViews, AddsOnly, KeepsStore, IsShortageIn};
 
 use crate::grid::{Nine, are_all, eastern, quarters, western};
-use crate::leaf::leaf_cells;
+use crate::leaf::{leaf_cells, leaf_of_block};
 use crate::remembered::{Answers, recalled, remember};
 use crate::seen::{Views, seen};
 use life_base::{Kind, MAX_LEVEL};
@@ -112,6 +112,9 @@ fn slid_of_seen<S: Squares, T: Squares>(
     }
     if let Some(cells) = leaf_cells(from, offset, level, block) {
         return to.small(cells);
+    }
+    if let Some(cells) = leaf_of_block(from, offset, level, block) {
+        return to.leaf(cells);
     }
     slid_by_quarters(from, to, answers, views, offset, level, block)
 }

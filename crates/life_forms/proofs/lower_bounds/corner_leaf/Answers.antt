@@ -3,6 +3,7 @@ use Rattle.std.proofs.lemmas.Int.{ints}
 use Rattle.life_block.specs.Needed.{square_from}
 use Rattle.life_base.specs.Tree.{depth, tree_cell}
 use Rattle.life_quad.proofs.LawLemmas.{known_squares_are_full}
+use Rattle.life_quad.proofs.LeafCells.{eight_not_blank}
 use Rattle.life_canon.specs.Store.{content}
 use Rattle.life_slide.specs.Pieces.{IsNearMiddle}
 use Rattle.life_slide.proofs.MovedLemmas.{bottom-read, left-read, right-read, top-read}
@@ -80,5 +81,5 @@ returns c =
     let cell = tree_cell (content c.args.store.now c.args.pattern.now.root) in
     record {
       at = c.in_ok-leaf.ensures ∙ (λ i. square_from cell 3 (column-at d i) (row-at d i)) ∙ square-same cell 3 _ _;
-      live = sym c.is_blank.ensures ∙ c.if-is_blank.false;
+      live = eight_not_blank c.in_ok-leaf.leaf (omega arith) (omega (arith, c.if-leaf-eq0.false));
     }

@@ -1,17 +1,13 @@
-use Rattle.std.proofs.Common.{◌≡◌, ◌≤◌, ℕ, Bool, true, false, min, Option, Some, None, IfSome, refl, sym, ◌+◌, ◌∙◌, subst, subst₂, arith, true≢false}
+use Rattle.std.proofs.Common.{◌≡◌, ◌≤◌, ℕ, true, min, refl, sym, ◌+◌, ◌∙◌, subst, arith, true≢false}
 use Rattle.life_base.specs.declared.rule.Rule.{Rule}
 use Rattle.life_base.specs.declared.rule.Rule.TheVariants.{Life, Named}
 use Rattle.life_mc.specs.Macrocell.{largest_state}
 use Rattle.life_mc.specs.Squares.{HasStatesUpTo}
 use Rattle.life_canon.specs.Universe.{is_life}
-use Rattle.life_quad.specs.Turning.{turned_tree}
 use Rattle.life_quad.proofs.LawLemmas.{known_squares_are_full}
-use Rattle.life_canon.specs.Lesser.{IsUpTo}
-use Rattle.life_canon.specs.Listing.{square_text}
 use Rattle.life_canon.specs.Store.{content, universe_in}
-use Rattle.life_slide.specs.Pieces.{leaf_square}
+use Rattle.life_quad.specs.Store.{eight}
 use Rattle.life_slide.proofs.MovedLemmas.{cell-below}
-use Rattle.life_forms.specs.Turns.{turn_of}
 use Rattle.life_forms.proofs.AreaFacts.{most_parts}
 use Rattle.life_forms.proofs.CornerFacts.{bound-of-leaf, life-low}
 use Rattle.life_forms.proofs.PatternFacts.{cell-up-to}
@@ -45,5 +41,6 @@ returns-in-Ok c =
     bound-of-leaf c.squares_are_centred.ensures u life (life-low u.rule life) (cell-below t known.0)
     (λ x y. cell-up-to 1 t (subst (λ (m : ℕ). HasStatesUpTo m t) (life-states u.rule life) c.requires.trimmed.states) x y)
     (outside-blank t known.1) c.args.found.now
-    (box-of-square t c.args.found.now c.requires.bounds) middling c.args.columns c.args.rows most enough (leaf_square c.in_ok-leaf.leaf)
-    c.in_ok-leaf.ensures c.in-Ok.text.items c.in-Ok.ensures.first c.in-Ok.ensures.second
+    (box-of-square t c.args.found.now c.requires.bounds) middling c.args.columns c.args.rows most enough (eight c.in_ok-leaf.leaf)
+    c.in_ok-leaf.ensures c.in-Ok.text.items (c.in-Ok.ensures.first u.rule u.generation life c.requires.front)
+    (c.in-Ok.ensures.second u.rule u.generation life c.requires.front)

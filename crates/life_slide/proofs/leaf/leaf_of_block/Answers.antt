@@ -1,17 +1,11 @@
-use Rattle.std.proofs.Common.{◌≡◌, Option, Some, None, IfSome, ◌∙◌, arith, refl, ◌≤◌}
+use Rattle.std.proofs.Common.{◌∙◌, arith, refl, ◌%◌}
 use Rattle.life_block.specs.Needed.{square_from}
-use Rattle.life_slide.proofs.SlideLemmas.{begins}
+use Rattle.life_slide.proofs.LeafLemmas.{leaf-of_bits}
 use Rattle.life_slide.proofs.leaf.leaf_of_block.Goals as goal
 
-weaker : {A : Type 0} (o : Option A) (P Q : A → Type 0) → ((a : A) → P a → Q a) → IfSome o P → IfSome o Q
-weaker (Some a) P Q f p = f a p
-weaker None P Q f p = tt
-
-pub returns : goal.returns
-returns g c =
-    weaker c.leaf_of_nine.result _ _
-    (λ leaf is cells x y h.
-    is cells _ _ (c.quarters-nine.ensures.pieces cells x y h)
-    ∙ (λ i. square_from cells 3 (begins c.digit.result c.args.offset.columns 2 3 x c.digit.ensures refl i)
-    (begins c.digit-2.result c.args.offset.rows 2 3 y c.digit-2.ensures refl i)))
-    c.leaf_of_nine.ensures
+pub returns-clause-cells : goal.returns-clause-cells
+returns-clause-cells g c cells x y h =
+    let west = c.rows_south-west.ensures cells x y (c.in_ok-nw.ensures cells _ _ h.nw) (c.in_ok-sw.ensures cells _ _ h.sw) in
+    let east = c.rows_south-east.ensures cells _ y (c.in_ok-ne.ensures cells _ _ h.ne) (c.in_ok-se.ensures cells _ _ h.se) in
+    let rows = c.columns_east.ensures cells _ _ west east in
+    leaf-of_bits cells _ _ c.by_quarters.result (omega arith) (λ r i lr li. c.by_quarters.ensures r i lr li ∙ rows r i lr li)

@@ -13,4 +13,4 @@ returns g c =
     let cells = tree_cell (g.S.Squares.content c.args.squares.now c.args.id) in
     let column = b.column ∙ to_z-of_z c.ranges.x in
     let row = b.row ∙ to_z-of_z c.ranges.y in
-    weaker c.leaf_of_block.result _ _ (λ leaf is. is cells b.west b.north b.are ∙ (λ i. square_from cells 3 (column i) (row i))) c.leaf_of_block.ensures
+    weaker c.leaf_of_block.result _ _ (λ leaf is. is cells b.west b.north b.are ∙ (λ i. square_from cells 3 (column i) (row i))) c.leaf_of_block.ensures.cells

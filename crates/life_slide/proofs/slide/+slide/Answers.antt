@@ -3,7 +3,7 @@ use Rattle.std.proofs.lemmas.Result.{IfOk-weaker, on_err_weaker}
 use Rattle.life_base.specs.Tree.{Tree, point, depth}
 use Rattle.life_base.proofs.Results.{on_err_any, on_err_both, if_ok_two}
 use Rattle.life_quad.specs.Refused.{SomePart}
-use Rattle.life_quad.specs.Store.{four}
+use Rattle.life_quad.specs.Store.{eight, four}
 use Rattle.life_quad.proofs.KeepingLemmas.{keeps-then, adds-as}
 use Rattle.life_sweep.proofs.NeedLemmas.{adds-more}
 use Rattle.life_block.specs.Needed.{square_from}
@@ -17,7 +17,7 @@ use Rattle.life_slide.proofs.NeedLemmas.{nine-of, of_north_east, of_north_west, 
 use Rattle.life_slide.proofs.SlideLemmas.{ahead-none, begins, block-eastern, block-western, recalled-at, recalled-slid, rest-less, Remembers-kept, Remembers-more, slid-blank}
 use Rattle.life_slide.proofs.slide.+slide.Given.{Over}
 use Rattle.life_slide.proofs.slide.+slide.Goals as goal
-use Rattle.life_slide.proofs.slide.+slide.Goals.{slid_of_seen-After-small, slid_by_quarters-After-quarters-nine, slid_by_quarters-After-remember, slid_of_nine-After-join}
+use Rattle.life_slide.proofs.slide.+slide.Goals.{slid_of_seen-After-leaf, slid_of_seen-After-small, slid_by_quarters-After-quarters-nine, slid_by_quarters-After-remember, slid_of_nine-After-join}
 
 -- ---- without the squares that aren't seen
 
@@ -124,6 +124,49 @@ pub slid_of_seen-returns-in-Some-leaf_cells-clause-adds : goal.slid_of_seen-retu
 slid_of_seen-returns-in-Some-leaf_cells-clause-adds g m c =
     adds-as _ c.small.ensures.adds
     (λ P some cells x y h. subst (SomePart P) (leaf-is g m (goal.at.slid_of_seen-returns-in-Some-leaf_cells-clause-adds g m c).After-small cells x y h) some)
+
+-- so is one of level 3
+eight-is : (g : Over) (m : ℕ) (c : slid_of_seen-After-leaf g m) (cells : ℤ → ℤ → ℕ) (x y : ℤ)
+    → IsBlock (g.S.Squares.content c.args.from.now) cells (2 ^ c.args.level) x y c.args.block.now
+    → eight c.in-Some-leaf_of_block.cells ≡ square_from cells c.args.level (step_ahead x (c.args.offset.columns % 2 ^ c.args.level))
+    (step_ahead y (c.args.offset.rows % 2 ^ c.args.level))
+eight-is g m c cells x y h =
+    let e = c.in-Some-leaf_of_block.ensures.level in
+    let content = g.S.Squares.content c.args.from.now in
+    let n = c.in-Some-leaf_of_block.cells in
+    let columns = c.args.offset.columns in
+    let rows = c.args.offset.rows in
+    subst (λ l. IsBlock content cells (2 ^ l) x y c.args.block.now → eight n
+    ≡ square_from cells l (step_ahead x (columns % 2 ^ l)) (step_ahead y (rows % 2 ^ l))) (sym e)
+    (λ p. c.in-Some-leaf_of_block.ensures.cells cells x y p) h
+
+pub slid_of_seen-returns-in-Some-leaf_of_block-clause-at : goal.slid_of_seen-returns-in-Some-leaf_of_block-clause-at
+slid_of_seen-returns-in-Some-leaf_of_block-clause-at g m c =
+    let e = c.in-Some-leaf_of_block.ensures.level in
+    if_ok_two c.leaf.result (λ r known is. record { known = known; level = ap depth is ∙ sym e }) c.leaf.ensures.known c.leaf.ensures.square
+
+pub slid_of_seen-returns-in-Some-leaf_of_block-clause-remembers : goal.slid_of_seen-returns-in-Some-leaf_of_block-clause-remembers
+slid_of_seen-returns-in-Some-leaf_of_block-clause-remembers g m c =
+    IfOk-weaker c.leaf.result _ _ (λ r known. Remembers-kept c.leaf.ensures.keeps c.requires.remembers) c.leaf.ensures.known
+
+pub slid_of_seen-returns-in-Some-leaf_of_block-clause-slid : goal.slid_of_seen-returns-in-Some-leaf_of_block-clause-slid
+slid_of_seen-returns-in-Some-leaf_of_block-clause-slid g m c =
+    IfOk-weaker c.leaf.result _ _
+    (λ r is cells x y h. is-piece cells c.args.level _ _ _
+    (is ∙ eight-is g m (goal.at.slid_of_seen-returns-in-Some-leaf_of_block-clause-slid g m c).After-leaf cells x y h))
+    c.leaf.ensures.square
+
+pub slid_of_seen-returns-in-Some-leaf_of_block-clause-needed : goal.slid_of_seen-returns-in-Some-leaf_of_block-clause-needed
+slid_of_seen-returns-in-Some-leaf_of_block-clause-needed g m c =
+    on_err_weaker c.leaf.result
+    (λ needed cells x y h. subst (SomePart (g.T.Squares.needs_node c.leaf.new.self))
+    (eight-is g m (goal.at.slid_of_seen-returns-in-Some-leaf_of_block-clause-needed g m c).After-leaf cells x y h) needed)
+    c.leaf.ensures.needed
+
+pub slid_of_seen-returns-in-Some-leaf_of_block-clause-adds : goal.slid_of_seen-returns-in-Some-leaf_of_block-clause-adds
+slid_of_seen-returns-in-Some-leaf_of_block-clause-adds g m c =
+    adds-as _ c.leaf.ensures.adds
+    (λ P some cells x y h. subst (SomePart P) (eight-is g m (goal.at.slid_of_seen-returns-in-Some-leaf_of_block-clause-adds g m c).After-leaf cells x y h) some)
 
 -- ---- by quarters
 
