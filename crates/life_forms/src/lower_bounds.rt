@@ -146,7 +146,7 @@ fn leaf_text(alloc: Global, front: &[u8], leaf: u64) -> Result<Vec<u8>, Kind>
     Ok(text)
 }
 
-/// The lesser of the texts of a leaf, turned by two turns, behind the header lines of a B/S rule.
+/// The lesser of the texts of a leaf, turned by two turns, after the header lines of a B/S rule.
 fn lesser_leaf_text(
     alloc: Global,
     front: &[u8],
