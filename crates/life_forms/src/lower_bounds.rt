@@ -24,7 +24,7 @@ const FIRST_BYTES: usize = 1 << 10;
 /// Header lines have capacity for so many bytes at once: those of most rules need no more.
 const FRONT_BYTES: usize = 1 << 6;
 
-/// The longest line of a leaf, and its line feed, have so many bytes at most.
+/// `append_line` needs capacity for so many bytes, whatever line it writes.
 const LEAF_BYTES: usize = 105;
 
 /// No text begins with this byte or a greater one.
@@ -179,9 +179,9 @@ fn lesser_leaf_text(
     Ok(lesser_of(first, second))
 }
 
-/// A text that those of two images of a pattern, moved, are no less than, if one is found, where `front` is the header lines of each: with columns and rows counted from the other side or not, and with
-/// both exchanged. It is that of the first leaf of the one or the other image. Where there is one, neither image has more
-/// squares than a form may have.
+/// A text that those of two images of a pattern, moved, are no less than, if one is found: with columns and rows counted from the other side or not, and with
+/// both exchanged. It is that of the first leaf of the one or the other image, after the header lines `front`, which all have. Where there is one, neither
+/// image has more squares than a form may have.
 pub(crate) fn lower_bound(
     alloc: Global,
     store: &Shared,
