@@ -1,15 +1,17 @@
 -- Facts about rows of cells, one below the other and below strips.
-use Rattle.std.proofs.Common.{◌≡◌, ℕ, zero, suc, ◌+◌, ◌-◌, ◌*◌, ◌/◌, ◌%◌, ◌^◌, ◌≤◌, ◌<◌, inl, inr, Bool, true, false, ◌&&◌, nat_lt, nat_le, if◌then◌else◌, List, [], ◌∷◌, ◌++◌, length, get_or, All, refl, sym, ◌∙◌, ap, subst, arith, pow_pos}
-use Rattle.std.proofs.lemmas.Bool.{cases_lt}
+use Rattle.std.proofs.Common.{◌≡◌, ℕ, zero, suc, ◌+◌, ◌-◌, ◌*◌, ◌/◌, ◌%◌, ◌^◌, ◌≤◌, ◌<◌, ◌==◌, inl, inr, Bool, true, false, ◌&&◌, nat_lt, nat_le, if◌then◌else◌, List, [], ◌∷◌, ◌++◌, length, get_or, All, refl, sym, ◌∙◌, ap, subst, arith, pow_pos}
+use Rattle.std.proofs.lemmas.Bool.{cases_eq, cases_lt}
 use Rattle.std.proofs.lemmas.List.Elements.{All-tail}
 use Rattle.std.proofs.lemmas.Nat.{div-mul-add}
 use Rattle.life_base.specs.Tree.{Tree, state_at}
 use Rattle.life_quad.specs.declared.id.Id.{Id}
 use Rattle.life_quad.specs.Keeping.{KeepsSquares}
 use Rattle.life_quad.specs.Span.{is_in_span}
+use Rattle.life_strip.specs.declared.blocks.Block.{Block}
 use Rattle.life_strip.specs.declared.row.Row.{Row}
+use Rattle.life_strip.specs.declared.spans.Span.{Span}
 use Rattle.life_strip.specs.declared.spans.Strip.{Strip}
-use Rattle.life_strip.specs.Blocks.{AreBlocksBefore, AreRowBlocks, cell_in_blocks}
+use Rattle.life_strip.specs.Blocks.{AreBlocksBefore, AreRowBlocks, IsBlockBefore, IsRowBlock, cell_in_blocks}
 use Rattle.life_strip.specs.Picture.{IsSoundStrip, height, picture, state_in_strip}
 use Rattle.life_strip.specs.Row.{FillsRow, IsRow, IsRowBefore, row_state, rows_state, state_with_rows}
 use Rattle.life_strip.specs.Strip.{AreBefore, AreWithin, IsStrip, Rise, square_at}
@@ -227,6 +229,63 @@ with-filled content strips rows old new column len state states i j = by (nat_lt
         ap (λ b. if b then picture content strips i j else rows_state content (rows ++ new ∷ []) i (j - height strips)) e
         ∙ rows-filled content rows old new column len state states i (j - height strips)
         ∙ sym ((λ k. if same k then state else (if e k then picture content strips i j else rows_state content (rows ++ old ∷ []) i (j - height strips))))
+
+-- another row below the others
+pub with-replaced : (content : Id → Tree) (strips : List Strip) (rows : List Row) (old new : Row) (i j : ℕ)
+    → state_with_rows content strips (rows ++ new ∷ []) i j
+    ≡ (if j == height strips + length rows then row_state content new i else state_with_rows content strips (rows ++ old ∷ []) i j)
+with-replaced content strips rows old new i j =
+    let n = height strips + length rows in
+    let other = state_with_rows content strips (rows ++ old ∷ []) i j in
+    elim (cases_lt j n) [
+      | inl above ↦
+          (let out : (j == n) ≡ false = grind (arith, above) in
+          with-above content strips rows new i j above ∙ sym (with-above content strips rows old i j above)
+          ∙ sym (ap (λ b. if b then row_state content new i else other) out))
+      | inr from ↦
+          (let over : nat_lt j n ≡ false = grind (arith, from) in
+          let last = λ (row : Row). with-push content strips rows row i j
+          ∙ ap (λ b. if b then state_with_rows content strips rows i j else rows_state content (row ∷ []) i (j - n)) over in
+          elim (cases_eq j n) [
+            | inl same ↦
+                (let there : (j == n) ≡ true = grind (arith, same) in
+                let first : j - n ≡ 0 = omega (arith, same) in
+                last new ∙ ap (rows_state content (new ∷ []) i) first ∙ sym (ap (λ b. if b then row_state content new i else other) there))
+            | inr differ ↦
+                (let out : (j == n) ≡ false = grind (arith, differ) in
+                let beyond : 1 ≤ j - n = omega (arith, from, differ) in
+                last new ∙ rows-beyond content (new ∷ []) i (j - n) beyond ∙ sym (rows-beyond content (old ∷ []) i (j - n) beyond) ∙ sym (last old)
+                ∙ sym (ap (λ b. if b then row_state content new i else other) out))
+          ])
+    ]
+
+-- a row with no cell from the western edge on has no block and no span
+pub row-none : (knows : Id → Type 0) (content : Id → Tree) (row : Row) → IsRow knows content row → IsRowBefore 0 row
+    → (row.blocks.items ≡ []) × (row.spans.items ≡ [])
+row-none knows content row is before =
+    (no-blocks row.blocks.items is.blocks before.blocks, no-spans row.spans.items before.spans)
+  where
+    never : (b : Block) → IsRowBlock b → ¬ IsBlockBefore 0 b
+    never b is (inl over) = let some = is.some in omega (arith, over, some)
+    never b is (inr h) = let some = h.0 in omega (arith, some)
+
+    no-blocks : (blocks : List Block) → AreRowBlocks blocks → AreBlocksBefore 0 blocks → blocks ≡ []
+    no-blocks [] are none = refl
+    no-blocks (b ∷ rest) are none = absurd (never b (are.each 0 b (omega arith)) (none 0 b (omega arith)))
+
+    no-spans : (spans : List Span) → AreBefore 0 spans → spans ≡ []
+    no-spans [] none = refl
+    no-spans (s ∷ rest) none = absurd (let first = none 0 s (omega arith) in omega (arith, first.0, first.1))
+
+-- a row of blocks alone
+pub row-of : (knows : Id → Type 0) (content : Id → Tree) (row : Row) → AreRowBlocks row.blocks.items → row.spans.items ≡ [] → IsRow knows content row
+row-of knows content row blocks spans = record {
+  blocks = blocks;
+  squares = subst (IsStrip knows content 0) (sym spans) (λ c id at. absurd cc);
+  within = subst (AreWithin 0) (sym spans) (λ k d lt. absurd (omega (arith, lt)));
+  rises = subst Rise (sym spans) (λ i j d lt within. absurd (omega (arith, within)));
+  one = inr spans;
+}
 
 -- a strip with the cells of the rows, below strips that are kept
 pub with-strip : {knows knows' : Id → Type 0} {old new : Id → Tree} → Keeps knows knows' old new → (strips : List Strip) (s : Strip) (rows : List Row)

@@ -1,4 +1,4 @@
--- The plane as far as it is filled. Only private contracts speak of it, and `IsFilling` below the public ones.
+-- The plane as far as it is filled. The contracts of `RowBuilder` speak of it, and those of `Builder` only by `IsFilling`.
 use Rattle.std.specs.Prelude.{◌≡◌, ℕ, ◌^◌, ◌<◌, ◌&&◌, if◌then◌else◌, ℤ, pos, neg_ℤ, ◌+ℤ◌, ◌≤ℤ◌, unsigned_abs, int_lt, int_le, []}
 use Rattle.life_base.specs.declared.cell.TheConstants.{MAX_LEVEL}
 use Rattle.life_base.specs.declared.cell.Run.{Run}

@@ -20,6 +20,7 @@ pub use Rattle.life_strip.specs.Picture.{AreFalling, AreStacked, height, IsLowes
 pub use Rattle.life_strip.specs.Pile.{HasClosedRows, IsPile, pile_height, pile_state, pile_state_with, SomeOfPile}
 pub use Rattle.life_strip.specs.Plane.{AddsRun, BeginsRow, cell_so_far, IsFilled, IsFree, IsUnfilled, state_so_far}
 pub use Rattle.life_strip.specs.Row.{FillsRow, IsRow, IsRowBefore, row_state, rows_state, WidensRow}
+pub use Rattle.life_strip.specs.RowWords.{AreRowWords, cell_in_words, IsFilledAbove}
 pub use Rattle.life_strip.specs.Strip.{AreBefore, AreWithin, EndsAfter, FilledTo, goes_to, HaveColumns, id_at, id_or, IsAt, IsExtended}
 pub use Rattle.life_strip.specs.Strip.{AreOnlyColumns, ArePieces, HasSpan, IsOnly, IsPaired, IsPast, IsStrip, IsWalk, quad_at, Rise, square_at, square_in, with_squares}
 pub use Rattle.life_strip.specs.declared.spans.Span.{Span as SpanValue}

@@ -1,7 +1,8 @@
 //! A row of cells of the states 0 and 1, 64 columns at a time.
-ghost use Rattle.std.specs.Prelude.{◌≡◌, ℕ, ◌+◌, ◌-◌, ◌*◌, ◌/◌, ◌%◌, ◌^◌, ◌<◌, ◌≤◌, IfOk, IfErr, OnOk};
-ghost use Rattle.life_strip.specs.Words.{Tree, point, AddsCells, AreBefore, AreRowBlocks, AreBlocksBefore, AreWithin, FilledTo, IsRowBlock, IsBlockBefore, IsMemory, IsStrip, Rise, cell_in_blocks, cell_in_word, square_at};
+ghost use Rattle.std.specs.Prelude.{◌≡◌, ℕ, ◌+◌, ◌-◌, ◌*◌, ◌/◌, ◌%◌, ◌^◌, ◌<◌, ◌≤◌, [], IfOk, IfErr, OnOk};
+ghost use Rattle.life_strip.specs.Words.{Tree, point, AddsCells, AreBefore, AreRowBlocks, AreBlocksBefore, AreRowWords, AreWithin, FilledTo, IsRowBlock, IsBlockBefore, IsMemory, IsStrip, Rise, cell_in_blocks, cell_in_word, cell_in_words, square_at};
 
+use crate::row_builder::RowWord;
 use crate::spans::{Span, extend};
 use crate::spare::Spare;
 use life_base::{Kind, MAX_LEVEL};
@@ -146,6 +147,27 @@ pub(crate) fn add_cells(blocks: &mut Vec<Block>, start: u64, end: u64) -> Result
     } else {
         add_across(blocks, start, end)
     }
+}
+
+// The blocks of the words of a row, in a vector that has none yet. It takes memory once at most, and none if the vector has the capacity.
+pub(crate) fn blocks_of_words(blocks: Vec<Block>, words: &[RowWord]) -> Result<Vec<Block>, Kind>
+    requires none { blocks.items ≡ [] }
+    requires words { AreRowWords words.now }
+    ensures blocks { IfOk result (λ r. AreRowBlocks r.items) }
+    ensures cells { IfOk result
+        (λ r. (c : ℕ) → cell_in_blocks r.items c ≡ cell_in_words words.now c) }
+    ensures refusals { IfErr result IsMemory }
+{
+    let mut all = blocks;
+    all.reserve(words.len())?;
+    for word in words {
+        all.push_reserved(Block {
+            start: word.place,
+            end: word.place + 1,
+            cells: word.cells,
+        });
+    }
+    Ok(all)
 }
 
 // The cells of a block as spans, east of the others.

@@ -1,10 +1,12 @@
 //! The plane as far as it is filled, row by row.
-ghost use Rattle.std.specs.Prelude.{◌≡◌, ℤ, pos, neg_ℤ, nat_abs, ◌+ℤ◌, ◌<ℤ◌, ◌≤ℤ◌, ◌+◌, ◌^◌, ◌<◌, ◌≤◌, ◌++◌, length, IfOk, OnOk};
-ghost use Rattle.life_strip.specs.Words.{depth, tree_cell, Grows, IsRunOnPlane, half_plane, SomeSquare, IsFilled, IsUnfilled, IsFree, AddsRun, BeginsRow, EndsInCell, IsSouthLevel, SomeAboutMiddle, state_so_far, cell_so_far, AreNext, IsFilling, vec_len};
+ghost use Rattle.std.specs.Prelude.{◌≡◌, ℕ, ℤ, pos, neg_ℤ, nat_abs, ◌+ℤ◌, ◌<ℤ◌, ◌≤ℤ◌, ◌==◌, ◌+◌, ◌^◌, ◌<◌, ◌≤◌, ◌++◌, if◌then◌else◌, length, IfOk, OnOk};
+ghost use Rattle.life_strip.specs.Words.{depth, tree_cell, Grows, IsRunOnPlane, half_plane, SomeSquare, IsFilled, IsUnfilled, IsFree, AddsRun, BeginsRow, EndsInCell, IsSouthLevel, SomeAboutMiddle, state_so_far, cell_so_far, AreNext, AreRowWords, IsFilledAbove, IsFilling, cell_in_words, vec_len};
 
+use crate::blocks::blocks_of_words;
 use crate::open_blocks::OpenBlocks;
 use crate::pile::Pile;
 use crate::row::Row;
+use crate::row_builder::RowWord;
 use crate::run_log::RunLog;
 use life_base::{Kind, MAX_LEVEL, Run};
 use life_quad::{Id, Squares};
@@ -120,6 +122,31 @@ impl Plane {
         let spare = &mut self.pile.spare;
         self.row
             .add(squares, spare, column, column + run.len, run.state)
+    }
+
+    // Gives a row its cells, which are those of words from west to east. No row from it on was given.
+    pub(crate) fn add_words<S: Squares>(
+        &mut self,
+        squares: &mut S,
+        row: u64,
+        words: &[RowWord],
+    ) -> Result<(), Kind>
+        requires filled { IsFilledAbove (S.knows squares.old) (S.content squares.old) row self.old }
+        requires inside { row < 2 ^ MAX_LEVEL }
+        requires words { AreRowWords words.now }
+        ensures filled { OnOk result
+            (IsFilledAbove (S.knows squares.new) (S.content squares.new) (row + 1) self.new) }
+        ensures cells { OnOk result
+            ((i j : ℕ) → state_so_far (S.content squares.new) self.new i j
+            ≡ (if j == row then cell_in_words words.now i
+            else state_so_far (S.content squares.old) self.old i j)) }
+        ensures grows { Grows S.Squares squares.old squares.new result
+            (λ P. SomeSquare P row (state_so_far (S.content squares.old) self.old)) }
+    {
+        self.go_to_row(squares, row)?;
+        let empty = mem::replace(&mut self.row.blocks, Vec::new(self.pile.alloc));
+        self.row.blocks = blocks_of_words(empty, words)?;
+        Ok(())
     }
 
     // Gives the cells of the first runs their state: of those that are in the row that was begun, which has a block, each within one block. It
