@@ -6,7 +6,7 @@ use crate::grid::Three;
 use life_base::{LifeRule, Near};
 
 /// A word of cells amid those of their eight neighbours: bit i of each is the neighbour of bit i of the one in the middle.
-pub(crate) type NineWords = Three<Three<u64>>;
+pub type NineWords = Three<Three<u64>>;
 
 /// A number of 0 to 15 for each place.
 #[derive(Clone, Copy)]
@@ -108,7 +108,7 @@ impl BitCounts {
 }
 
 /// The next states of the cells of a word under a B/S rule.
-pub(crate) fn next_word(words: &NineWords, rule: &LifeRule) -> u64
+pub fn next_word(words: &NineWords, rule: &LifeRule) -> u64
     ensures { (i : ℕ) → i < 64 → bit_at result i
         ≡ next_by_count rule.now.sets (bit_at words.now.here.here i)
         (count_of 1 (counted_in rule.now.near words.now i)) }

@@ -6,10 +6,13 @@ use life_quad::{Id, Quarters, Squares, divide};
 
 /// Three values side by side, from west to east or from north to south.
 #[derive(Clone, Copy)]
-pub(crate) struct Three<T> {
-    pub(crate) before: T,
-    pub(crate) here: T,
-    pub(crate) after: T,
+pub struct Three<T> {
+    /// The western or northern one.
+    pub before: T,
+    /// The one in the middle.
+    pub here: T,
+    /// The eastern or southern one.
+    pub after: T,
 }
 
 /// Four values side by side, from west to east or from north to south.

@@ -19,5 +19,7 @@ mod remembered;
 mod words;
 
 pub use blocks::next_life_square;
+pub use counts::{NineWords, next_word};
 pub use generation::next_life_generation;
+pub use grid::Three;
 pub use law_generation::next_law_generation;

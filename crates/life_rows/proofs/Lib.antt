@@ -1,0 +1,5 @@
+pub mod NextRowLemmas
+pub mod PutLemmas
+pub mod RowWordLemmas
+mod AroundLemmas
+mod ThreeRowsLemmas

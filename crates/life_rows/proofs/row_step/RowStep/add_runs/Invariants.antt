@@ -1,0 +1,13 @@
+use Rattle.std.proofs.Common.{◌≡◌, ◌++◌, drop}
+use Rattle.life_rows.specs.Stepping.{IsBetweenRows, IsThreeRows}
+use Rattle.life_strip.specs.Given.{AreNext}
+use Rattle.life_rows.proofs.row_step.RowStep.add_runs.Given as goal
+
+abbrev pub invariant-loop-run : goal.invariant-loop-run
+invariant-loop-run g l = record {
+  rows : IsThreeRows (g.S.Squares.knows l.squares) (g.S.Squares.content l.squares) l.self-inside.rows;
+  between : IsBetweenRows l.self-inside.rows;
+  next : AreNext l.self-inside.rows.log.runs (drop l.run-index l.runs);
+  left : l.self-inside.rows.log.runs ++ drop l.run-index l.runs ≡ l.fn.self.runs ++ l.runs;
+  rule : l.self-inside.rows.rule ≡ l.fn.self.rule;
+}

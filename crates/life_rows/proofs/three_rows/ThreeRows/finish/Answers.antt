@@ -1,0 +1,26 @@
+use Rattle.std.proofs.Common.{◌≡◌, ◌+◌, ◌-◌, ◌∙◌, Option, Result, Ok, Err, IfOk, IfSome, ℕ, List, sym, subst, arith}
+use Rattle.std.specs.Result.{result_ok}
+use Rattle.life_base.specs.declared.cell.Run.{Run}
+use Rattle.life_rows.specs.Stepping.{AreCellsTo}
+use Rattle.life_rows.proofs.ThreeRowsLemmas.{rows-all}
+use Rattle.life_strip.specs.Given.{state_by}
+use Rattle.life_sweep.specs.Generation.{next_life}
+use Rattle.life_rows.proofs.three_rows.ThreeRows.finish.Goals as goal
+
+some-by : {T E : Type 0} {P Q : T → Type 0} (r : Result T E) (o : Option T) → o ≡ result_ok r → IfOk r P → ((x : T) → P x → Q x) → IfSome o Q
+some-by {Q = Q} (Ok x) o e p f = subst (λ z. IfSome z Q) (sym e) (f x p)
+some-by {Q = Q} (Err x) o e p f = subst (λ z. IfSome z Q) (sym e) tt
+
+pub returns-clause-cells : goal.returns-clause-cells
+returns-clause-cells g c =
+    let s = c.loop.rows in
+    let i = c.loop.invariant in
+    let first = c.args.self in
+    let row : first.north_row + 2 ≡ s.north_row - 1 = (let at = i.row in omega (arith, at)) in
+    let cells : AreCellsTo (s.north_row - 1) (state_by s.log.runs) =
+    subst (λ (n : ℕ). AreCellsTo n (state_by s.log.runs)) row
+    (subst (λ (runs : List Run). AreCellsTo (first.north_row + 2) (state_by runs)) (sym i.runs) c.requires.rows.cells) in
+    let all = rows-all (g.S.Squares.knows c.loop.squares) (g.S.Squares.content c.loop.squares) s.rule s.builder s.north.items s.here.items s.south.items
+    s.north_row s.left s.log.runs i.rows cells (let at = i.row in omega (arith, at)) in
+    some-by c.finish.result c.ok.result c.ok.ensures.value c.finish.ensures.cells
+    (λ id h x y. h x y ∙ all x y ∙ (λ k. next_life (i.rule k) (state_by (i.runs k)) x y))

@@ -1,0 +1,3 @@
+pub mod RowCells
+pub mod Stepping
+pub mod Words
