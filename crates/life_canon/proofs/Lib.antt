@@ -1,6 +1,6 @@
 mod TreeWords
-mod Trees
-mod ListFacts
+pub mod Trees
+pub mod ListFacts
 mod Walk
 mod LineWords
 mod LineFacts
@@ -22,14 +22,14 @@ mod Unions
 mod FeedFacts
 mod FrontFacts
 mod RefusedFronts
-mod BuildFacts
+pub mod BuildFacts
 pub mod RowFacts
 mod RunFacts
 mod GrowFacts
 mod WaitingFacts
 mod NeedFacts
 mod OnlyFacts
-mod PatternFacts
+pub mod PatternFacts
 pub mod Fits
 mod RefusalKinds
 mod Standing

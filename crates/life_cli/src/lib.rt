@@ -6,6 +6,7 @@ mod jobs;
 mod origins;
 mod reports;
 mod steps;
+mod whole_files;
 
 pub use command_line::{
     Form, Job, Origin, Plan, Target, Task, TaskPlan, Usage, plan, plans, request,

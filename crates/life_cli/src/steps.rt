@@ -1,19 +1,18 @@
 //! The work of the jobs that step a pattern.
 
-ghost use Rattle.std.specs.Prelude.{◌≡◌, ◌⊎◌, ◌^◌, IfOk, IfErr, IsErrAnd};
-ghost use Rattle.life_cli.specs.Words.{source_run, ReadAll, fault_of, IsStepped, IsSteppedBy, InputRefuses, OfTable, ComesOf, RefusesLifeStep, RefusesStepBy, HasTable, HasNoTable, HasTextByTable, HasNoTextByTable};
+ghost use Rattle.std.specs.Prelude.{◌≡◌, ◌⊎◌, IfOk, IfErr, IsErrAnd};
+ghost use Rattle.life_cli.specs.Words.{source_run, IsStepped, IsSteppedBy, OfTable, ComesOf, RefusesLifeStep, RefusesStepBy, HasTable, HasNoTable, HasTextByTable, HasNoTextByTable};
 
-use life_base::{Fault, Kind, Source, read_within};
+use crate::whole_files::{is_read_whole, next_of_whole, read_whole};
+use life_base::{Fault, Kind, Source};
 use life_quad::Shared;
 use life_step::{next_by_rule, next_by_table};
 use life_table::{Table, read_table_seeded};
 use pattern_sources::{MOST_SQUARES, Refusal, Seeds, pattern_of};
 use std::alloc::Global;
 
-/// The most bytes of a rule table.
-const LONGEST_TABLE: u64 = 1 << 30;
-
-/// The text of the next generation of a source's pattern, under its B/S rule.
+/// The text of the next generation of a source's pattern, under its B/S rule. A source of some thousand to some million bytes is read whole, because its
+/// pattern can be stepped row by row then.
 pub(crate) fn next_of<A: Source>(
     alloc: Global,
     seeds: &Seeds,
@@ -23,6 +22,9 @@ pub(crate) fn next_of<A: Source>(
     ensures { ComesOf (λ text. text.items) IsStepped RefusesLifeStep
         (source_run A.remaining A.failures first.old first.new) result }
 {
+    if is_read_whole(first.expected()) {
+        return next_of_whole(alloc, seeds, first);
+    }
     let mut store = Shared::seeded(alloc, seeds.squares, MOST_SQUARES);
     let pattern = pattern_of(alloc, &mut store, first)?;
     let text = next_by_rule(alloc, &mut store, pattern);
@@ -48,20 +50,6 @@ fn next_by<A: Source>(
     // As in `pattern_of`.
     let _ = store.len();
     text
-}
-
-/// The bytes of a source, read to its end.
-fn read_whole<R: Source>(alloc: Global, reader: &mut R) -> Result<Vec<u8>, Fault>
-    requires { R.failures reader.old ≡ 0 }
-    ensures ok { IfOk result
-        (λ bytes. ReadAll (2 ^ 30) (R.remaining reader.old) (R.remaining reader.new) bytes.items) }
-    ensures err { IfErr result (λ fault. InputRefuses
-        (source_run R.remaining R.failures reader.old reader.new) fault
-        ⊎ (fault ≡ fault_of Kind.Memory)) }
-    ensures told { R.failures reader.new ≡ 1
-        → IsErrAnd result (λ fault. fault.kind ≡ Kind.ReadFault) }
-{
-    Ok(read_within(alloc, reader, LONGEST_TABLE)?)
 }
 
 /// The rule table of a source.

@@ -1,10 +1,9 @@
 -- The square that has a property, of those that a step needs.
-use Rattle.std.proofs.Common.{◌≡◌, ℕ, ℤ, List, refl}
+use Rattle.std.proofs.Common.{ℕ, ℤ, List}
 use Rattle.life_base.specs.Sets.{OuterTotalistic}
 use Rattle.life_base.specs.Tree.{Tree}
 use Rattle.life_base.specs.declared.rule.Rule.{Rule}
 use Rattle.life_base.specs.declared.rule.Rule.TheVariants.{Life, Named}
-use Rattle.life_quad.specs.Refused.{TrimmedTo}
 use Rattle.life_table.specs.Meaning.{Answer}
 use Rattle.life_table.specs.declared.table.Table.{Table}
 use Rattle.life_sweep.specs.Refused.{SomeNext, above_cell, of_plane}

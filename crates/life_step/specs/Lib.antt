@@ -1,3 +1,4 @@
 pub mod Stepped
 pub mod Refusals
+pub mod ByRows
 pub mod Words

@@ -10,5 +10,6 @@ pub use Rattle.life_mc.specs.Macrocell.{largest_state}
 pub use Rattle.life_quad.specs.Keeping.{AddsOnly}
 pub use Rattle.life_quad.specs.Refused.{TrimmedTo}
 pub use Rattle.life_quad.specs.Store.{stored_squares}
+pub use Rattle.life_step.specs.ByRows.{IsNextOfFile, KeepsRows}
 pub use Rattle.life_step.specs.Refusals.{LacksForLife, LacksForStep, LacksForStepBy, LacksForTable, LifeRefusal, RefusesFile, RefusesPattern, SomeByRule, SomeByTable, SomeOfStep, SomeOfStepBy, TableRefusal}
 pub use Rattle.life_step.specs.Stepped.{IsStepped, IsSteppedBy, IsTextWith}

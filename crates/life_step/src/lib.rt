@@ -6,6 +6,8 @@
 //! lacks; a neighbourhood to which the table gives two states; a cell outside the plane that would not become 0.
 #![tactic(auto)]
 
+mod by_rows;
 mod steps;
 
+pub use by_rows::next_by_rows;
 pub use steps::{next_by_rule, next_by_table, step_life, step_table};

@@ -1,0 +1,14 @@
+use Rattle.std.proofs.Common.{◌≡◌, ◌++◌, map, false}
+use Rattle.life_base.specs.Text.{lines_of, numbered_from}
+use Rattle.life_base.proofs.NumberedLines.{texts, numbered}
+use Rattle.life_step.specs.ByRows.{KeepsRows}
+use Rattle.life_step.proofs.by_rows.next_square.Given as goal
+
+abbrev pub invariant-loop-line : goal.invariant-loop-line
+invariant-loop-line l = record {
+  all : map numbered l.yielded ++ l.line-iterator ≡ numbered_from 1 (lines_of l.bytes);
+  taken : l.reader.lines ≡ texts (map numbered l.yielded);
+  fresh : l.reader.refused ≡ false;
+  rule : l.step.rule ≡ l.rule;
+  rows : KeepsRows l.store l.reader.lines l.step;
+}
