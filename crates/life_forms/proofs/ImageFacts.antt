@@ -38,7 +38,7 @@ one-of-squares cell n x y true false = refl
 one-of-squares cell n x y false true = refl
 one-of-squares cell n x y true true = refl
 
-one-of-turned : (t : Turn) (u v : Bool) (a b c d : Tree)
+pub one-of-turned : (t : Turn) (u v : Bool) (a b c d : Tree)
     → one_of_four u v (turned_tree t a) (turned_tree t b) (turned_tree t c) (turned_tree t d) ≡ turned_tree t (one_of_four u v a b c d)
 one-of-turned t false false a b c d = refl
 one-of-turned t true false a b c d = refl

@@ -34,29 +34,29 @@ first-live : (a b c d : Bool) → a ≡ false → (a && b && c && d) ≡ false
 first-live false b c d e = refl
 first-live true b c d e = absurd (true≢false e)
 
-last-live : (a b c d : Bool) → d ≡ false → (a && b && c && d) ≡ false
+pub last-live : (a b c d : Bool) → d ≡ false → (a && b && c && d) ≡ false
 last-live a b c true e = absurd (true≢false e)
 last-live false b c false e = refl
 last-live true false c false e = refl
 last-live true true false false e = refl
 last-live true true true false e = refl
 
-is-big : (t : Tree) → is_blank_tree t ≡ false → 3 ≤ depth t → is_small 3 t ≡ false
+pub is-big : (t : Tree) → is_blank_tree t ≡ false → 3 ≤ depth t → is_small 3 t ≡ false
 is-big t live high = grind (arith, nat_tests, live)
 
 low-is-small : (t : Tree) → depth t ≡ 2 → is_small 3 t ≡ true
 low-is-small t low = grind (arith, nat_tests, low)
 
-blank-is-small : (t : Tree) → is_blank_tree t ≡ true → is_small 3 t ≡ true
+pub blank-is-small : (t : Tree) → is_blank_tree t ≡ true → is_small 3 t ≡ true
 blank-is-small t e = rw e refl
 
 -- such a square has no walk
-no-walk : (t : Tree) → is_small 3 t ≡ true → walk t 3 ≡ []
+pub no-walk : (t : Tree) → is_small 3 t ≡ true → walk t 3 ≡ []
 no-walk (point s) e = refl
 no-walk (quad a b c d) e = rw e refl
 
 -- another one has those of its quarters, and then itself
-full-walk : (a b c d : Tree) → is_small 3 (quad a b c d) ≡ false
+pub full-walk : (a b c d : Tree) → is_small 3 (quad a b c d) ≡ false
     → walk (quad a b c d) 3 ≡ walk a 3 ++ (walk b 3 ++ (walk c 3 ++ (walk d 3 ++ quad a b c d ∷ [])))
 full-walk a b c d e = rw e refl
 
@@ -67,7 +67,7 @@ pub record Begins (f t : Tree) : Type 0 where
   pub is : walk t 3 ≡ f ∷ rest
 
 -- a square of level 3 is all of its own walk
-leaf-walk : (a b c d : Tree) → depth a ≡ 2 → depth b ≡ 2 → depth c ≡ 2 → depth d ≡ 2 → is_blank_tree (quad a b c d) ≡ false
+pub leaf-walk : (a b c d : Tree) → depth a ≡ 2 → depth b ≡ 2 → depth c ≡ 2 → depth d ≡ 2 → is_blank_tree (quad a b c d) ≡ false
     → walk (quad a b c d) 3 ≡ quad a b c d ∷ []
 leaf-walk a b c d ea eb ec ed live =
     let none = λ (t : Tree) (e : depth t ≡ 2). no-walk t (low-is-small t e) in
@@ -131,13 +131,28 @@ first-begins cell x y live (suc k) h = by (cases_lt k 3) (λ l. first-begins cel
         let d = pos (2 ^ k) in
         quarter-begins (square cell 3 x y) (square cell k x y) (square cell k (x +ℤ d) y) (square cell k x (y +ℤ d)) (square cell k (x +ℤ d) (y +ℤ d)) (below l)
 
+pub no-cells : (cell : ℤ → ℤ → ℕ) (k : ℕ) (x y : ℤ)
+    → ((u v : ℤ) → x ≤ℤ u → u <ℤ step_ahead x (2 ^ k) → y ≤ℤ v → v <ℤ step_ahead y (2 ^ k) → cell u v ≡ 0)
+    → blank k ≡ square cell k x y
+no-cells cell k x y zeros =
+    piece-is cell k x y (blank k) (full-blank k) (depth-blank k) (blank-of_zero cell k x y (record { zero_at = zeros })) ∙ square-same cell k x y
+
 blank-square : (cell : ℤ → ℤ → ℕ) (k : ℕ) (x y : ℤ)
     → ((u v : ℤ) → x ≤ℤ u → u <ℤ step_ahead x (2 ^ k) → y ≤ℤ v → v <ℤ step_ahead y (2 ^ k) → cell u v ≡ 0)
     → is_blank_tree (square cell k x y) ≡ true
-blank-square cell k x y zeros =
-    subst (λ (t : Tree). is_blank_tree t ≡ true)
-    (piece-is cell k x y (blank k) (full-blank k) (depth-blank k) (blank-of_zero cell k x y (record { zero_at = zeros })) ∙ square-same cell k x y)
-    (is_blank-blank k)
+blank-square cell k x y zeros = subst (λ (t : Tree). is_blank_tree t ≡ true) (no-cells cell k x y zeros) (is_blank-blank k)
+
+-- the square about (0, 0) of such cells has one quarter that isn't blank
+pub corner-alone : (cell : ℤ → ℤ → ℕ) → ((x y : ℤ) → cell x y ≢ 0 → (pos 0 ≤ℤ x) × (pos 0 ≤ℤ y)) → (j : ℕ)
+    → centred_square cell (suc j) ≡ quad (blank j) (blank j) (blank j) (square cell j (pos 0) (pos 0))
+unfolding square corner centred_square
+corner-alone cell inside j =
+    let c = neg_ℤ (pos (2 ^ j)) in
+    let back : c +ℤ pos (2 ^ j) ≡ pos 0 = omega (arith, ints) in
+    let nw = no-cells cell j c c (λ u v w e n s. zero_unless _ (λ some. let a = (inside u v some).0 in omega (arith, ints, a, e, back))) in
+    let ne = no-cells cell j (c +ℤ pos (2 ^ j)) c (λ u v w e n s. zero_unless _ (λ some. let a = (inside u v some).1 in omega (arith, ints, a, s, back))) in
+    let sw = no-cells cell j c (c +ℤ pos (2 ^ j)) (λ u v w e n s. zero_unless _ (λ some. let a = (inside u v some).0 in omega (arith, ints, a, e, back))) in
+    λ i. quad (sym nw i) (sym ne i) (sym sw i) (square cell j (back i) (back i))
 
 -- the square about (0, 0) of cells that lie east and south of it begins with the leaf that begins there
 corner-begins : (cell : ℤ → ℤ → ℕ) → ((x y : ℤ) → cell x y ≢ 0 → (pos 0 ≤ℤ x) × (pos 0 ≤ℤ y)) → is_blank_tree (square cell 3 (pos 0) (pos 0)) ≡ false
@@ -180,7 +195,7 @@ unfolding listed_squares
 list-alone f is = ap (with_all []) is
 
 -- the text of a square whose list begins with a leaf begins with the leaf's line
-leaf-line : (rule : Rule) → is_life rule ≡ true → (all : List Tree) (f : Tree) → depth f ≡ 3 → line_of rule all f ≡ Leaf (rows_of f)
+pub leaf-line : (rule : Rule) → is_life rule ≡ true → (all : List Tree) (f : Tree) → depth f ≡ 3 → line_of rule all f ≡ Leaf (rows_of f)
 leaf-line rule life all f level = rw life rw level refl
 
 module _ (rule : Rule) (life : is_life rule ≡ true) (low : least_level rule ≡ 3) (generation : ℕ) (f : Tree) (level : depth f ≡ 3) where
@@ -215,16 +230,19 @@ text-of-leaf rule life low generation a b c d ea eb ec ed live =
 
 -- ---- the root of a pattern in the corner (0, 0)
 
--- the cells lie in a square of 2^12 columns and rows at (0, 0), and one of them behind its first four columns or rows
-pub record IsAtCorner (cell : ℤ → ℤ → ℕ) : Type 0 where
+-- the cells lie in a square of 2^k columns and rows at (0, 0)
+pub record IsAtCorner (cell : ℤ → ℤ → ℕ) (k : ℕ) : Type 0 where
   pub states : (x y : ℤ) → cell x y < 256
-  pub inside : (x y : ℤ) → cell x y ≢ 0 → (pos 0 ≤ℤ x) × (x <ℤ pos (2 ^ 12)) × (pos 0 ≤ℤ y) × (y <ℤ pos (2 ^ 12))
+  pub inside : (x y : ℤ) → cell x y ≢ 0 → (pos 0 ≤ℤ x) × (x <ℤ pos (2 ^ k)) × (pos 0 ≤ℤ y) × (y <ℤ pos (2 ^ k))
+
+-- one of them is behind so many columns or rows
+pub record HasFarCell (cell : ℤ → ℤ → ℕ) (n : ℕ) : Type 0 where
   pub column : ℤ
   pub row : ℤ
   pub some : cell column row ≢ 0
-  pub far : (pos 4 ≤ℤ column) ⊎ (pos 4 ≤ℤ row)
+  pub far : (pos n ≤ℤ column) ⊎ (pos n ≤ℤ row)
 
-module _ (cell : ℤ → ℤ → ℕ) (at : IsAtCorner cell) where
+module _ (cell : ℤ → ℤ → ℕ) (k : ℕ) (from_two : 2 ≤ k) (to_twelve : k ≤ 12) (at : IsAtCorner cell k) where
   abbrev plane : Tree
   plane = centred_square cell MAX_LEVEL
 
@@ -237,8 +255,8 @@ module _ (cell : ℤ → ℤ → ℕ) (at : IsAtCorner cell) where
   deep-plane : depth plane ≡ 62
   deep-plane = depth-centred cell at.states
 
-  plane-side : 2 ^ 12 ≤ 2 ^ 61
-  plane-side = pow_mono {i = 12} {j = 61} (lit≤ tt)
+  plane-side : 2 ^ k ≤ 2 ^ 61
+  plane-side = pow_mono {i = k} {j = 61} (omega (arith, to_twelve))
 
   on-plane : IsBlankOutside MAX_LEVEL cell
   on-plane x y out = zero_unless _ (λ some.
@@ -258,37 +276,38 @@ module _ (cell : ℤ → ℤ → ℕ) (at : IsAtCorner cell) where
   pub full-root : IsFull root
   full-root = (trimmed_is_fixed plane 3 whole-plane (lit≤ tt)).0
 
-  from : 3 ≤ depth root
+  pub from : 3 ≤ depth root
   from = (trimming_stops plane 3 whole-plane (lit≤ tt)).0 (let d = deep-plane in omega (arith, d))
 
-  not-low : depth root ≤ 3 → (pos 4 ≤ℤ at.column) ⊎ (pos 4 ≤ℤ at.row) → ⊥
-  not-low low far =
-      let here = cells_lie_inside root at.column at.row (λ e. at.some (sym (cells _ _) ∙ e)) in
-      let less : half_side root ≤ 2 ^ 2 = pow_mono {i = depth root - 1} {j = 2} (omega (arith, low)) in
+  not-low : (j : ℕ) → HasFarCell cell (2 ^ j) → depth root ≤ suc j → ⊥
+  not-low j has low =
+      let here = cells_lie_inside root has.column has.row (λ e. has.some (sym (cells _ _) ∙ e)) in
+      let less : half_side root ≤ 2 ^ j = pow_mono {i = depth root - 1} {j = j} (omega (arith, low)) in
       let e = here.1 in
       let s = here.3 in
-      elim far [
+      elim has.far [
         | inl c ↦ omega (arith, ints, less, e, c)
         | inr r ↦ omega (arith, ints, less, s, r)
       ]
 
-  higher : 3 < depth root
-  higher = by (cases_lt 3 (depth root))
+  pub higher : (j : ℕ) → HasFarCell cell (2 ^ j) → suc j < depth root
+  higher j has = by (cases_lt (suc j) (depth root))
     where
-      by : (3 < depth root) ⊎ (depth root ≤ 3) → 3 < depth root
+      by : (suc j < depth root) ⊎ (depth root ≤ suc j) → suc j < depth root
       by (inl l) = l
-      by (inr l) = absurd (not-low l at.far)
+      by (inr l) = absurd (not-low j has l)
 
-  pub lower : depth root ≤ 13
+  pub lower : depth root ≤ suc k
   lower =
-      let c = neg_ℤ (pos (2 ^ 12)) in
-      let small = square_from cell 13 c c in
-      let deep : depth small ≡ 13 = depth-square cell 13 c c in
+      let c = neg_ℤ (pos (2 ^ k)) in
+      let small = square_from cell (suc k) c c in
+      let deep : depth small ≡ suc k = depth-square cell (suc k) c c in
       let d = deep-plane in
       subst (λ (n : ℕ). depth root ≤ n) deep
-      (trimmed_is_lowest small plane 3 (full-square cell at.states 13 c c) whole-plane (lit≤ tt) (omega (arith, deep)) (omega (arith, d))
+      (trimmed_is_lowest small plane 3 (full-square cell at.states (suc k) c c) whole-plane (lit≤ tt) (omega (arith, deep, from_two))
+      (omega (arith, d))
       (λ x y.
-      centre-cells cell at.states 12
+      centre-cells cell at.states k
       (λ u v apart. zero_unless _ (λ some.
       let i = at.inside u v some in
       let w = i.0 in
@@ -301,8 +320,18 @@ module _ (cell : ℤ → ℤ → ℕ) (at : IsAtCorner cell) where
   -- it is the square of its cells about (0, 0)
   root-is : SquaresAreCentred → centred_square cell (depth root) ≡ root
   root-is centre =
-      let high = higher in
+      let high = from in
       (λ i. centred_square (λ x y. sym (cells x y) i) (depth root)) ∙ (centre root full-root (omega (arith, high))).0
+
+  -- so where its level is known
+  pub root-at : SquaresAreCentred → depth root ≡ suc k → root ≡ quad (blank k) (blank k) (blank k) (square cell k (pos 0) (pos 0))
+  root-at centre level =
+      sym (root-is centre) ∙ ap (centred_square cell) level ∙ corner-alone cell (λ x y some. let i = at.inside x y some in (i.0, i.2)) k
+
+  -- or about (0, 0)
+  pub root-about : SquaresAreCentred → depth root ≡ 3 → root ≡ square cell 3 (neg_ℤ (pos 4)) (neg_ℤ (pos 4))
+  unfolding corner centred_square
+  root-about centre level = sym (root-is centre) ∙ ap (centred_square cell) level
 
   -- its states are those of its cells
   pub root-states : SquaresAreCentred → (most : ℕ) → ((x y : ℤ) → cell x y ≤ most) → HasStatesUpTo most root
@@ -310,9 +339,9 @@ module _ (cell : ℤ → ℤ → ℕ) (at : IsAtCorner cell) where
   root-states centre most states = subst (HasStatesUpTo most) (root-is centre) (square-up-to most cell states (depth root) _ _)
 
   -- it begins with the leaf at (0, 0)
-  pub root-begins : SquaresAreCentred → is_blank_tree (square cell 3 (pos 0) (pos 0)) ≡ false → Begins (square cell 3 (pos 0) (pos 0)) root
-  root-begins centre live =
-      let high = higher in
+  pub root-begins : SquaresAreCentred → HasFarCell cell 4 → is_blank_tree (square cell 3 (pos 0) (pos 0)) ≡ false → Begins (square cell 3 (pos 0) (pos 0)) root
+  root-begins centre far live =
+      let high = higher 2 far in
       let level : suc (depth root - 1) ≡ depth root = omega (arith, high) in
       subst (Begins (square cell 3 (pos 0) (pos 0))) (ap (centred_square cell) level ∙ root-is centre)
       (corner-begins cell (λ x y some. let i = at.inside x y some in (i.0, i.2)) live (depth root - 1) (omega (arith, high)))

@@ -12,8 +12,11 @@ pub mod MovedFacts
 pub mod TextFacts
 pub mod TransposeFacts
 pub mod LeafFacts
+pub mod LeafNumbers
+pub mod CornerTexts
 pub mod AreaFacts
 pub mod CornerFacts
+pub mod SmallCorners
 mod TurnedLeaves
 pub mod RefusalFacts
 pub mod ComparingFacts

@@ -387,7 +387,7 @@ moved-form-at top u box least a b columns rows = record {
       (in-place-at top _ _ _ _ one.left one.right columns, in-place-at top _ _ _ _ one.top one.bottom rows);
 }
 
-moved-exists : (top : ℕ) (u : Universe) → IsBlankOutside top u.cell → IsBlank u ⊎ HasBox u → (v : Universe) × IsMoved top u v
+pub moved-exists : (top : ℕ) (u : Universe) → IsBlankOutside top u.cell → IsBlank u ⊎ HasBox u → (v : Universe) × IsMoved top u v
 moved-exists top u outside (inl blank) = (
   u,
   record {

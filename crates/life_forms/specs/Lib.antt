@@ -5,3 +5,4 @@ pub mod Cells
 pub mod Needed
 pub mod Images
 pub mod Words
+pub mod Corners

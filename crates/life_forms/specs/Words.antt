@@ -10,6 +10,7 @@ pub use Rattle.life_canon.specs.Store.{IsTrimmed, universe_in, IsKnown, content}
 pub use Rattle.life_canon.specs.Lesser.{IsLesserText, IsUpTo}
 pub use Rattle.life_canon.specs.Texts.{IsOrdered}
 pub use Rattle.life_canon.specs.Universe.{Universe, is_life, square_universe, least_level}
+pub use Rattle.life_forms.specs.Corners.{HasSidesUpTo, IsCorner, IsLesserOfThree, IsNearPlane, IsSquareAt, block_tree, corner_root, corner_tree, leaf_line, seated, square_start, with_leaf}
 pub use Rattle.life_forms.specs.Forms.{IsShift, IsTurnedShift, IsMoved, IsInPlace}
 pub use Rattle.life_forms.specs.Images.{AreSmall, IsCornerLeaf, IsImageText, IsLeastOfTwo, IsLesserOfTwo, IsLowerBound, IsMiddling, IsTurnedText, leaf_start}
 pub use Rattle.life_forms.specs.Laws.{TurnsAreEight, TurnsAreClosed, TurnsHaveInverses, ImagesStayOnPlane, ImagesKeepShifts, ShiftsHaveOneSize, TurnsHaveOneSize, MovedFormsExist, MovedFormsAreOnPlane, MovedFormsTellShifts, MovedFormsAreFixed, MovedTextsTellShifts, MovedTextsTellFiles, TurnedTextsTellFiles, MovedTextsAreFiles, TurnedTextsAreFiles, FilesHaveForms, ForFaithfulTexts, TurnedFormsExist, TurnedFormsAreOnPlane, TurnedTextsTellTurns, TurnedFormsAreFixed}
@@ -23,5 +24,7 @@ pub use Rattle.life_quad.specs.Keeping.{AddsOnly, IsShortageKind}
 pub use Rattle.life_quad.specs.Store.{eight, stored_squares}
 pub use Rattle.life_slide.specs.Pieces.{IsNearMiddle}
 pub use Rattle.life_base.specs.Tree.{is_blank_tree}
-pub use Rattle.life_canon.specs.Listing.{rows_of, square_text}
+pub use Rattle.life_canon.specs.Listing.{number_of_quarter, place, rows_of, square_text}
+pub use Rattle.life_canon.specs.Universe.{square}
+pub use Rattle.life_quad.specs.Turning.{one_of_four, side_of, turned_half}
 pub use Rattle.life_quad.specs.Turning.{turned_tree}

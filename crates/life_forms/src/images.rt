@@ -1,8 +1,9 @@
 //! Texts of a pattern's images.
 
 ghost use Rattle.std.specs.Prelude.{◌≡◌, ◌^◌, ℕ, List, true, false, not, min, IfOk, IfErr, IfSome, MatchOption, OnOk};
-ghost use Rattle.life_forms.specs.Words.{MAX_LEVEL, Memory, fault_of, content, is_blank_tree, square_text, turn_of, turned_tree, IsImageText, IsTrimmed, IsSquareBox, universe_in, IsLeastOfTwo, IsLesserOfTwo, IsLesserText, IsLowerBound, IsUpTo, AreSmall, IsTurnedText, HasLargeImage, RefusesTurning};
+ghost use Rattle.life_forms.specs.Words.{MAX_LEVEL, Memory, fault_of, content, header_lines_text, is_blank_tree, IsCorner, square_text, turn_of, turned_tree, IsImageText, IsTrimmed, IsSquareBox, universe_in, IsLeastOfTwo, IsLesserOfTwo, IsLesserText, IsLowerBound, IsUpTo, AreSmall, IsTurnedText, HasLargeImage, RefusesTurning};
 
+use crate::corners::{Corner, corner_of, lesser_text_of_corner};
 use crate::lower_bounds::{above_texts, front_of, lower_bound};
 use crate::order::is_up_to;
 use crate::patterns::corner_form;
@@ -42,7 +43,7 @@ fn lesser_corner_text(
 
 /// The lesser of a text and of those of two images of a pattern, moved: with columns and rows counted from the other side or not, and with both exchanged.
 /// Both are made by walks over the same squares. `found` is the bounding box of the pattern.
-fn lesser_image_text(
+fn lesser_form_text(
     alloc: Global,
     store: &Shared,
     pattern: &Pattern,
@@ -75,16 +76,77 @@ fn lesser_image_text(
     lesser_turned_text(alloc, &form, &moved, exchanged, lesser)
 }
 
+/// The same of a pattern with these cells from a corner of its box on, without a form.
+fn lesser_small_text(
+    alloc: Global,
+    store: &Shared,
+    pattern: &Pattern,
+    front: &[u8],
+    corner: Corner,
+    columns: bool,
+    rows: bool,
+    best: Vec<u8>,
+) -> Result<Vec<u8>, Fault>
+    requires trimmed { IsTrimmed store.now pattern.now }
+    requires front { front.now ≡ header_lines_text pattern.now.rule pattern.now.generation }
+    requires corner { IsCorner (min (2 ^ 21) store.now.limit) (universe_in store.now pattern.now)
+        columns rows corner }
+    ensures text { IfOk result (λ text. IsLesserOfTwo MAX_LEVEL
+        (universe_in store.now pattern.now) columns rows best.items text.items) }
+    ensures image { OnOk result ((text : List ℕ) × IsImageText MAX_LEVEL
+        (universe_in store.now pattern.now) (turn_of false columns rows) text) }
+    ensures small { OnOk result (AreSmall (min (2 ^ 21) store.now.limit)
+        (universe_in store.now pattern.now) columns rows) }
+    ensures fault { IfErr result (RefusesTurning store.now pattern.now) }
+{
+    let text = lesser_text_of_corner(alloc, front, corner, columns, rows, best)?;
+    Ok(text)
+}
+
+/// The same of any pattern. No form is made of a small one.
+fn lesser_image_text(
+    alloc: Global,
+    store: &Shared,
+    pattern: &Pattern,
+    front: &[u8],
+    found: &Option<Bounds>,
+    columns: bool,
+    rows: bool,
+    best: Vec<u8>,
+) -> Result<Vec<u8>, Fault>
+    requires trimmed { IsTrimmed store.now pattern.now }
+    requires front { front.now ≡ header_lines_text pattern.now.rule pattern.now.generation }
+    requires bounds { MatchOption found.now
+        (is_blank_tree (content store.now pattern.now.root) ≡ true)
+        (IsSquareBox (content store.now pattern.now.root)) }
+    ensures text { IfOk result (λ text. IsLesserOfTwo MAX_LEVEL
+        (universe_in store.now pattern.now) columns rows best.items text.items) }
+    ensures image { OnOk result ((text : List ℕ) × IsImageText MAX_LEVEL
+        (universe_in store.now pattern.now) (turn_of false columns rows) text) }
+    ensures small { OnOk result (AreSmall (min (2 ^ 21) store.now.limit)
+        (universe_in store.now pattern.now) columns rows) }
+    ensures fault { IfErr result (RefusesTurning store.now pattern.now) }
+{
+    match corner_of(store, pattern, found, columns, rows) {
+        Some(corner) => lesser_small_text(
+            alloc, store, pattern, front, corner, columns, rows, best,
+        ),
+        None => lesser_form_text(alloc, store, pattern, found, columns, rows, best),
+    }
+}
+
 /// The lesser of the texts of two images of a pattern, moved, as above.
 fn image_text(
     alloc: Global,
     store: &Shared,
     pattern: &Pattern,
+    front: &[u8],
     found: &Option<Bounds>,
     columns: bool,
     rows: bool,
 ) -> Result<Vec<u8>, Fault>
     requires trimmed { IsTrimmed store.now pattern.now }
+    requires front { front.now ≡ header_lines_text pattern.now.rule pattern.now.generation }
     requires bounds { MatchOption found.now
         (is_blank_tree (content store.now pattern.now.root) ≡ true)
         (IsSquareBox (content store.now pattern.now.root)) }
@@ -95,7 +157,7 @@ fn image_text(
     ensures fault { IfErr result (RefusesTurning store.now pattern.now) }
 {
     let above = above_texts(alloc)?;
-    lesser_image_text(alloc, store, pattern, found, columns, rows, above)
+    lesser_image_text(alloc, store, pattern, front, found, columns, rows, above)
 }
 
 /// The same as `lesser_image_text`, where the two texts may have a lower bound: if the text is no greater than that, no form is made.
@@ -103,6 +165,7 @@ fn bounded_image_text(
     alloc: Global,
     store: &Shared,
     pattern: &Pattern,
+    front: &[u8],
     found: &Option<Bounds>,
     columns: bool,
     rows: bool,
@@ -110,6 +173,7 @@ fn bounded_image_text(
     best: Vec<u8>,
 ) -> Result<Vec<u8>, Fault>
     requires trimmed { IsTrimmed store.now pattern.now }
+    requires front { front.now ≡ header_lines_text pattern.now.rule pattern.now.generation }
     requires bounds { MatchOption found.now
         (is_blank_tree (content store.now pattern.now.root) ≡ true)
         (IsSquareBox (content store.now pattern.now.root)) }
@@ -127,7 +191,7 @@ fn bounded_image_text(
             return Ok(best);
         }
     }
-    lesser_image_text(alloc, store, pattern, found, columns, rows, best)
+    lesser_image_text(alloc, store, pattern, front, found, columns, rows, best)
 }
 
 /// The least text of the eight images, moved, where the first two are those with columns and rows counted from these sides, and the other texts may have
@@ -136,6 +200,7 @@ fn least_text_from(
     alloc: Global,
     store: &Shared,
     pattern: &Pattern,
+    front: &[u8],
     found: &Option<Bounds>,
     columns: bool,
     rows: bool,
@@ -144,6 +209,7 @@ fn least_text_from(
     fourth: &Option<Vec<u8>>,
 ) -> Result<Vec<u8>, Fault>
     requires trimmed { IsTrimmed store.now pattern.now }
+    requires front { front.now ≡ header_lines_text pattern.now.rule pattern.now.generation }
     requires bounds { MatchOption found.now
         (is_blank_tree (content store.now pattern.now.root) ≡ true)
         (IsSquareBox (content store.now pattern.now.root)) }
@@ -161,10 +227,16 @@ fn least_text_from(
     ensures small { OnOk result (¬ HasLargeImage store.now pattern.now) }
     ensures fault { IfErr result (RefusesTurning store.now pattern.now) }
 {
-    let least = image_text(alloc, store, pattern, found, columns, rows)?;
-    let two = bounded_image_text(alloc, store, pattern, found, !columns, rows, second, least)?;
-    let three = bounded_image_text(alloc, store, pattern, found, !columns, !rows, third, two)?;
-    bounded_image_text(alloc, store, pattern, found, columns, !rows, fourth, three)
+    let least = image_text(alloc, store, pattern, front, found, columns, rows)?;
+    let two = bounded_image_text(
+        alloc, store, pattern, front, found, !columns, rows, second, least,
+    )?;
+    let three = bounded_image_text(
+        alloc, store, pattern, front, found, !columns, !rows, third, two,
+    )?;
+    bounded_image_text(
+        alloc, store, pattern, front, found, columns, !rows, fourth, three,
+    )
 }
 
 /// The bytes of a text, or none.
@@ -209,16 +281,16 @@ pub fn turned_text(alloc: Global, store: &Shared, pattern: &Pattern) -> Result<V
     let south = if east_of_south { &se } else { &sw };
     match (is_less(south, north), east_of_north, east_of_south) {
         (false, false, _) => least_text_from(
-            alloc, store, pattern, &found, false, false, &ne, &se, &sw,
+            alloc, store, pattern, &front, &found, false, false, &ne, &se, &sw,
         ),
         (false, true, _) => least_text_from(
-            alloc, store, pattern, &found, true, false, &nw, &sw, &se,
+            alloc, store, pattern, &front, &found, true, false, &nw, &sw, &se,
         ),
         (true, _, false) => least_text_from(
-            alloc, store, pattern, &found, false, true, &se, &ne, &nw,
+            alloc, store, pattern, &front, &found, false, true, &se, &ne, &nw,
         ),
         (true, _, true) => least_text_from(
-            alloc, store, pattern, &found, true, true, &sw, &nw, &ne,
+            alloc, store, pattern, &front, &found, true, true, &sw, &nw, &ne,
         ),
     }
 }

@@ -2,6 +2,7 @@
 #![tactic(auto)]
 
 mod compare;
+mod corners;
 mod images;
 pub mod laws;
 mod leaves;

@@ -1,7 +1,7 @@
 //! Texts that the texts of images are no less than, found without the images.
 
 ghost use Rattle.std.specs.Prelude.{◌≡◌, ◌^◌, ℕ, [], ◌∷◌, ◌++◌, true, false, min, pos, ◌+ℤ◌, ◌≤ℤ◌, ◌<ℤ◌, IfSome, IfOk, IfErr, MatchOption};
-ghost use Rattle.life_forms.specs.Words.{MAX_LEVEL, Rule, IsMemory, IsTrimmed, IsOrdered, IsSquareBox, IsUpTo, content, universe_in, is_blank_tree, is_life, IsCornerLeaf, IsLowerBound, IsMiddling, Leaf, header_lines_text, eight, leaf_start, node_text, rows_of, square_text, turned_tree, turn_of};
+ghost use Rattle.life_forms.specs.Words.{MAX_LEVEL, Rule, IsMemory, IsTrimmed, IsOrdered, IsSquareBox, IsLesserText, IsUpTo, content, universe_in, is_blank_tree, is_life, IsCornerLeaf, IsLowerBound, IsMiddling, Leaf, header_lines_text, eight, leaf_start, node_text, rows_of, square_text, turned_tree, turn_of};
 
 use crate::leaves::{leaf_rows, turned_leaf};
 use crate::order::is_up_to;
@@ -16,7 +16,7 @@ use std::alloc::Global;
 
 /// A form of two states whose root is of level 13 at most has no more different squares than this: 16 of level 1, 65,536 of level 2, and 1,398,101
 /// above them.
-const SQUARES_OF_LEVEL_13: u64 = 1_463_653;
+pub(crate) const SQUARES_OF_LEVEL_13: u64 = 1_463_653;
 
 /// A text has capacity for so many bytes at once: that of a small pattern needs no more.
 const FIRST_BYTES: usize = 1 << 10;
@@ -62,7 +62,7 @@ fn is_middling(found: &Bounds) -> bool
 }
 
 /// Whether a rule is a B/S rule.
-fn is_life(rule: &Rule) -> bool
+pub(crate) fn is_life(rule: &Rule) -> bool
     ensures { result ≡ is_life rule.now }
 {
     match rule {
@@ -113,9 +113,8 @@ pub(crate) fn above_texts(alloc: Global) -> Result<Vec<u8>, Kind>
 }
 
 /// The lesser of two texts, byte by byte.
-fn lesser_of(first: Vec<u8>, second: Vec<u8>) -> Vec<u8>
-    ensures first { IsUpTo result.items first.items }
-    ensures second { IsUpTo result.items second.items }
+pub(crate) fn lesser_of(first: Vec<u8>, second: Vec<u8>) -> Vec<u8>
+    ensures { IsLesserText first.items second.items result.items }
 {
     if is_up_to(&first, &second) {
         first
@@ -136,9 +135,10 @@ pub(crate) fn front_of(alloc: Global, pattern: &Pattern) -> Result<Vec<u8>, Kind
 }
 
 /// The header lines, and the line of a leaf.
-fn leaf_text(alloc: Global, front: &[u8], leaf: u64) -> Result<Vec<u8>, Kind>
-    ensures { IfOk result (λ text. text.items
+pub(crate) fn leaf_text(alloc: Global, front: &[u8], leaf: u64) -> Result<Vec<u8>, Kind>
+    ensures text { IfOk result (λ text. text.items
         ≡ front.now ++ node_text (Leaf (rows_of (eight leaf)))) }
+    ensures memory { IfErr result IsMemory }
 {
     let mut text = Vec::with_capacity(alloc, front.len() + LEAF_BYTES)?;
     text.extend_from_slice(front)?;

@@ -29,12 +29,12 @@ pub returns-clause-first : goal.returns-clause-first
 returns-clause-first c rule generation life front =
     subst (IsUpTo c.lesser_of.result.items)
     (text-is rule generation life (turn_of false c.args.columns c.args.rows) c.args.leaf c.turned_leaf.result c.in_ok-first.first.items c.requires.live
-    c.turned_leaf.ensures (c.in_ok-first.ensures ∙ ap (λ l. l ++ node_text (Leaf (rows_of (eight c.turned_leaf.result)))) front))
+    c.turned_leaf.ensures (c.in_ok-first.ensures.text ∙ ap (λ l. l ++ node_text (Leaf (rows_of (eight c.turned_leaf.result)))) front))
     c.lesser_of.ensures.first
 
 pub returns-clause-second : goal.returns-clause-second
 returns-clause-second c rule generation life front =
     subst (IsUpTo c.lesser_of.result.items)
     (text-is rule generation life (turn_of true c.args.columns c.args.rows) c.args.leaf c.turned_leaf-2.result c.in_ok-second.second.items c.requires.live
-    c.turned_leaf-2.ensures (c.in_ok-second.ensures ∙ ap (λ l. l ++ node_text (Leaf (rows_of (eight c.turned_leaf-2.result)))) front))
+    c.turned_leaf-2.ensures (c.in_ok-second.ensures.text ∙ ap (λ l. l ++ node_text (Leaf (rows_of (eight c.turned_leaf-2.result)))) front))
     c.lesser_of.ensures.second

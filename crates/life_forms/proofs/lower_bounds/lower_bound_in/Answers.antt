@@ -1,4 +1,4 @@
-use Rattle.std.proofs.Common.{◌≡◌, ◌≤◌, ℕ, true, min, refl, sym, ◌+◌, ◌∙◌, subst, arith, true≢false}
+use Rattle.std.proofs.Common.{◌≡◌, ◌≤◌, ℕ, true, min, refl, sym, ◌+◌, ◌∙◌, subst, arith, true≢false, lit≤}
 use Rattle.life_base.specs.declared.rule.Rule.{Rule}
 use Rattle.life_base.specs.declared.rule.Rule.TheVariants.{Life, Named}
 use Rattle.life_mc.specs.Macrocell.{largest_state}
@@ -41,6 +41,7 @@ returns-in-Ok c =
     bound-of-leaf c.squares_are_centred.ensures u life (life-low u.rule life) (cell-below t known.0)
     (λ x y. cell-up-to 1 t (subst (λ (m : ℕ). HasStatesUpTo m t) (life-states u.rule life) c.requires.trimmed.states) x y)
     (outside-blank t known.1) c.args.found.now
-    (box-of-square t c.args.found.now c.requires.bounds) middling c.args.columns c.args.rows most enough (eight c.in_ok-leaf.leaf)
+    (box-of-square t c.args.found.now c.requires.bounds) 12 (lit≤ tt) (lit≤ tt) (record { wide = middling.wide; tall = middling.tall })
+    middling.far c.args.columns c.args.rows most enough (eight c.in_ok-leaf.leaf)
     c.in_ok-leaf.ensures c.in-Ok.text.items (c.in-Ok.ensures.first u.rule u.generation life c.requires.front)
     (c.in-Ok.ensures.second u.rule u.generation life c.requires.front)

@@ -9,7 +9,7 @@ use Rattle.life_forms.specs.Turns.{turn_of}
 use Rattle.life_forms.proofs.RefusalFacts.{refused-form}
 use Rattle.life_forms.proofs.TextFacts.{lesser-of-two}
 use Rattle.life_forms.proofs.TransposeFacts.{corner-text, small-both}
-use Rattle.life_forms.proofs.images.lesser_image_text.Goals as goal
+use Rattle.life_forms.proofs.images.lesser_form_text.Goals as goal
 
 pub returns-clause-text : goal.returns-clause-text
 returns-clause-text c =

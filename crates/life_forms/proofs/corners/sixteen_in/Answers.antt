@@ -1,0 +1,7 @@
+use Rattle.life_forms.proofs.SmallCorners.{sixteen-corner}
+use Rattle.life_forms.proofs.corners.sixteen_in.Goals as goal
+
+pub returns : goal.returns
+returns c =
+    sixteen-corner c.squares_are_centred.ensures c.args.store.now c.args.pattern.now c.requires.trimmed c.requires.life c.args.found.now c.requires.bounds _
+    c.requires.enough c.requires.short c.requires.long c.args.columns c.args.rows c.in_ok-block.block c.in_ok-block.ensures
