@@ -65,6 +65,7 @@ GIVEN = {
     "row.rle": spread_row(),
     "seven.mc": b"[M2] (golly 4.2)\n#R B3/S23\n" + SEVEN,
     "leaves.mc": many_leaves(),
+    "long.rle": b"#C\n" * 1400 + FILES["line.rle"],
     "child.mc": b"[M2]\n#R B3/S23\n....*$$$$$$$$\n4 0 0 0 9\n",
 }
 TWO_CELLS = b"[M2]\n#R WireWorld\n#G 7\n1 1 25 0 0"
@@ -82,6 +83,7 @@ PROGRAM_RUNS = [
     Run("convert FILE --to rle", ["convert", "pair.mc", "--to", "rle"], Answer(0, PAIR_RLE)),
     Run("convert FILE --to mc", ["convert", "pair.rle", "--to", "mc"], Answer(0, PAIR_TEXT)),
     Run("step FILE", ["step", "line.rle"], Answer(0, LINE_STEPPED)),
+    Run("step FILE row by row", ["step", "long.rle"], Answer(0, LINE_STEPPED)),
     Run("step FILE --table RULE", ["step", "spread.rle", "--table", "spread.rule"], Answer(0, SPREAD_STEPPED)),
     Run("canon of 2 MiB", ["canon", "leaves.mc"], Answer(0, LIFE + b"....*$$$$$$$$\n")),
     Run("canon -", ["canon", "-"], Answer(0, canonical(b"WireWorld", 7) + b"1 1 25 0 0\n"), TWO_CELLS),

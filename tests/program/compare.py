@@ -38,6 +38,8 @@ LARGE = 2**19
 KINDS = """NoHeader BadHeader BadRule BoundedGrid UnsupportedRule BirthOnZero BadNumber TooLarge BadItem ZeroCount StateRange OutOfPlane LateHeader
 SecondHeader BadNode BadLevel BadChild BadLeaf Timeline LineTooLong NoRuleLine NoTable BadDescriptor UnsupportedNeighborhood UnsupportedSymmetry
 BadVariable BadTransition UnboundOutput NotQuiet RuleMismatch NeedsTable Ambiguous TooManyCells GenerationTooLarge StateBeyondTable""".split()
+# Comments of 4 KB. With them before it an RLE file is read whole, and stepped row by row if that can be done.
+COMMENTS = b"#C\n" * 1400
 # How many cases there are from one line that says how far it is to the next.
 STRIDE = 10000
 # A folder in memory, where there is one.
@@ -124,6 +126,11 @@ def has_slow_form(file):
     return not isinstance(file.reading, commands.Fault) and MOST_TURNED < file.reading.plane.population
 
 
+def can_be_longer(case, file):
+    """Whether comments may stand before the file without another answer: it is in RLE, and isn't refused."""
+    return not isinstance(file.reading, commands.Fault) and not case.pattern.startswith(b"[M2]")
+
+
 def wanted_answers(case):
     """The runs of a case: the words behind the program's name, and what the reader answers."""
     file, other = commands.File(case.pattern), commands.File(case.other)
@@ -135,6 +142,8 @@ def wanted_answers(case):
         if not is_slow(file):
             yield ["convert", name, "--to", "rle"], commands.convert_to_rle(file)
             yield ["step", name], commands.step(file)
+            if can_be_longer(case, file):
+                yield ["step", "longer"], commands.step(file)
     if case.table is not None and not is_slow(file):
         yield ["step", name, "--table", "table"], commands.step(file, commands.File(case.table))
     if case.respelling is not None:
@@ -187,6 +196,8 @@ def compared(judged, case):
             judged.put(name, data)
     problems, answers, text = [], collections.Counter(), None
     for words, wanted in wanted_answers(case):
+        if "longer" in words:
+            judged.put("longer", COMMENTS + case.pattern)
         got = judged.answer(words, "pattern")
         if got != wanted:
             problems.append(told(case, words, got, wanted))
