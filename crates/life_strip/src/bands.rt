@@ -36,25 +36,29 @@ fn push_square<S: Squares>(
     extend(spans, columns.start, columns.end, id)
 }
 
-// Four squares of level 2 side by side, east of the others.
+// Some of four squares of level 2 side by side, east of the others.
 #[inline(always)]
-fn push_four<S: Squares>(
+fn push_some<S: Squares>(
     squares: &mut S,
     spans: &mut Vec<Span>,
     cells: u64,
     column: u64,
+    some: Range<u64>,
 ) -> Result<(), Kind>
-    requires { column ≤ 2 ^ MAX_LEVEL }
+    requires order { some.start ≤ some.end }
+    requires within { some.end ≤ 4 }
+    requires column { column ≤ 2 ^ MAX_LEVEL }
     ensures filled { OnOk result ((want : ℕ → Tree)
-        → FilledTo (S.knows squares.old) (S.content squares.old) 2 want spans.old.items column
+        → FilledTo (S.knows squares.old) (S.content squares.old) 2 want spans.old.items
+        (column + some.start)
         → ((i : ℕ) → i < 4 → want (column + i) ≡ four (cells_among_four cells i))
         → FilledTo (S.knows squares.new) (S.content squares.new) 2 want spans.new.items
-        (column + 4)) }
+        (column + some.end)) }
     ensures grows { Grows S.Squares squares.old squares.new result
         (λ P. (i : ℕ) × (i < 4) × SomePart P (four (cells_among_four cells i))) }
 {
-    let mut square: u64 = 0;
-    while square < 4 {
+    let mut square = some.start;
+    while square < some.end {
         let start = column + square;
         push_square(squares, spans, cells_of(cells, square), start..start + 1)?;
         square += 1;
@@ -90,11 +94,14 @@ fn push_block<S: Squares>(
         return push_square(squares, spans, cells_of(cells, 0), start..16 * next);
     }
     let last = blank_from(upper, lower);
-    let mut part = blank_to(upper, lower) / 4;
-    while 4 * part < last {
+    let mut square = blank_to(upper, lower);
+    while square < last {
+        let part = square / 4;
+        let end = last.min(4 * part + 4);
         let cells = four_squares(upper, lower, part);
-        push_four(squares, spans, cells, start + 4 * part)?;
-        part += 1;
+        let some = square % 4..end - 4 * part;
+        push_some(squares, spans, cells, start + 4 * part, some)?;
+        square = end;
     }
     Ok(())
 }

@@ -63,6 +63,9 @@ struct Walk {
 // How many squares of a strip are joined at once at most.
 const BATCH: usize = 32;
 
+// How many spans two strips have at least whose squares are joined in batches.
+const LEAST_BATCH: usize = 12;
+
 // The place of a strip in a column, where the spans before the index end before it and the span there, if there is one, ends after it.
 #[inline(always)]
 fn place_at(spans: &[Span], index: usize, column: u64, blank: Id) -> StripPlace
@@ -471,7 +474,23 @@ fn pair_in_batches<S: Squares>(
     Ok(spans)
 }
 
-// The strip of the next level whose squares have two squares of the upper strip above two of the lower. A short strip isn't worth a batch.
+// How many columns there are from the first span to the last one.
+fn width(spans: &[Span]) -> u64 {
+    match spans.first() {
+        Some(span) => covered(spans).saturating_sub(span.start),
+        None => 0,
+    }
+}
+
+// Whether the squares of two strips are joined in batches. Short strips aren't worth it. If most columns have a square, most joins make a new one, and it only
+// takes time to look for all of them first, as long as the cache holds the store.
+fn pays_in_batches(spare: &Spare, upper: &[Span], lower: &[Span]) -> bool {
+    let spans = upper.len() + lower.len();
+    let is_dense = spans as u64 >= width(upper).max(width(lower));
+    LEAST_BATCH <= spans && !(is_dense && spare.has_few())
+}
+
+// The strip of the next level whose squares have two squares of the upper strip above two of the lower.
 pub(crate) fn pair<S: Squares>(
     squares: &mut S,
     spare: &mut Spare,
@@ -496,9 +515,10 @@ pub(crate) fn pair<S: Squares>(
         (λ P. SomeColumn P (level + 1)
         (quad_at (S.content squares.old) level upper.now lower.now)) }
 {
-    if upper.len() + lower.len() >= BATCH {
+    if pays_in_batches(spare, upper, lower) {
         pair_in_batches(squares, spare, level, upper, lower)
     } else {
+        spare.count_joined(upper.len());
         pair_one_by_one(squares, spare, level, upper, lower)
     }
 }

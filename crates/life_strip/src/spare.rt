@@ -14,12 +14,17 @@ const MOST_ROOM: usize = 256;
 // For how many items a new vector has capacity at least.
 const LEAST_ROOM: usize = 8;
 
+// Of so many squares that were joined one by one, the processor's cache holds those that are stored.
+const FEW_SQUARES: usize = 0x1_0000;
+
 // Vectors whose items are of no more use. Short rows and strips come one after the other, and each would ask the allocator for a vector of its own.
 #[derive(Drop)]
 pub(crate) struct Spare {
     alloc: Global,
     spans: Vec<Vec<Span>>,
     blocks: Vec<Vec<Block>>,
+    // How many squares were joined one by one, as far as they are counted.
+    joined: usize,
 }
 
 // A vector without items, with capacity for so many: one that waits, if it has it.
@@ -58,7 +63,18 @@ impl Spare {
             alloc,
             spans: Vec::new(alloc),
             blocks: Vec::new(alloc),
+            joined: 0,
         }
+    }
+
+    // Counts squares that are joined one by one.
+    pub(crate) fn count_joined(&mut self, squares: usize) {
+        self.joined = self.joined.saturating_add(squares);
+    }
+
+    // Whether few squares were joined one by one so far.
+    pub(crate) fn has_few(&self) -> bool {
+        self.joined < FEW_SQUARES
     }
 
     // A vector without spans, with capacity for so many.

@@ -1,4 +1,4 @@
-use Rattle.std.proofs.Common.{◌≡◌, ℕ, ◌+◌, ◌*◌, ◌/◌, ◌%◌, ◌<◌, ◌≤◌, arith, sym, ◌∙◌, ap, subst}
+use Rattle.std.proofs.Common.{◌≡◌, ℕ, ◌+◌, ◌-◌, ◌*◌, ◌/◌, ◌%◌, ◌<◌, ◌≤◌, arith, sym, ◌∙◌, ap, subst}
 use Rattle.std.proofs.lemmas.Result.{on_ok_weaker}
 use Rattle.life_base.specs.Tree.{Tree}
 use Rattle.life_quad.specs.Refused.{SomePart}
@@ -46,65 +46,71 @@ returns-then-block-next-clause-grows g c =
     let first = first-square c.args.upper c.args.lower c.four_squares-cells.result c.cells_of.result c.four_squares-cells.ensures c.cells_of.ensures in
     grows-as _ c.push_square.ensures.grows (λ P n. (0, omega arith, subst (SomePart P) first n))
 
-pub loop-part-init : goal.loop-part-init
-loop-part-init g c =
-    let r = c.blank_to-part.ensures in
-    let part = c.blank_to-part.result / 4 in
+pub loop-square-init : goal.loop-square-init
+loop-square-init g c =
+    let r = c.blank_to-square.ensures in
+    let square = c.blank_to-square.result in
     record {
       filled = λ want p squares.
           filled-skip (g.S.Squares.knows c.args.squares.now) (g.S.Squares.content c.args.squares.now) 2 want c.args.spans.now.items (16 * c.args.block)
-          (16 * c.args.block + 4 * part) p (omega arith)
-          (λ x le lt. blank-columns want c.args.upper c.args.lower c.args.block 0 (4 * part) (omega (arith, r.within)) squares
-          (λ i from before. r.blank i (omega (arith, before))) x (omega (arith, le)) lt);
+          (16 * c.args.block + square) p (omega arith)
+          (λ x le lt. blank-columns want c.args.upper c.args.lower c.args.block 0 square r.within squares
+          (λ i from before. r.blank i before) x (omega (arith, le)) lt);
       keeps = keeps-same c.args.squares.now;
-      within = omega (arith, r.within);
+      within = r.within;
       adds = adds-none _ c.args.squares.now;
     }
 
-pub loop-part-preserved : goal.loop-part-preserved
-loop-part-preserved g c =
-    let inv = c.loop-part.invariant in
-    let h = c.in_ok-push_four.ensures in
+pub loop-square-preserved : goal.loop-square-preserved
+loop-square-preserved g c =
+    let inv = c.loop-square.invariant in
+    let h = c.in_ok-push_some.ensures in
     let block = c.args.block in
-    let part = c.loop-part.part in
-    let within : part < 4 = omega (arith, c.loop-part-test.true, c.blank_from-last.ensures.within) in
-    let are = c.four_squares-cells-in-loop-part.ensures in
-    let next : 16 * block + 4 * part + 4 ≡ 16 * block + 4 * (part + 1) = omega arith in
+    let square = c.loop-square.square in
+    let part = square / 4 in
+    let last = c.blank_from-last.ensures.within in
+    let within : part < 4 = omega (arith, c.loop-square-test.true, last) in
+    let are = c.four_squares-cells-in-loop-square.ensures in
+    let end = c.min-end.ensures in
+    let first : 16 * block + square ≡ 16 * block + 4 * part + square % 4 = omega arith in
+    let next : 16 * block + 4 * part + (c.min-end.result - 4 * part) ≡ 16 * block + c.min-end.result =
+    omega (arith, end, c.loop-square-test.true) in
     record {
       filled = λ want p squares.
-          subst (FilledTo (g.S.Squares.knows c.push_four.new.squares) (g.S.Squares.content c.push_four.new.squares) 2 want c.push_four.new.spans.items) next
-          (h.filled want (inv.filled want p squares)
+          subst (FilledTo (g.S.Squares.knows c.push_some.new.squares) (g.S.Squares.content c.push_some.new.squares) 2 want c.push_some.new.spans.items) next
+          (h.filled want (subst (FilledTo (g.S.Squares.knows c.loop-square.squares) (g.S.Squares.content c.loop-square.squares) 2 want
+          c.loop-square.spans.items) first (inv.filled want p squares))
           (λ i lt. let place : 16 * block + 4 * part + i ≡ 16 * block + (4 * part + i) = omega arith in
           ap want place ∙ squares (4 * part + i) (omega (arith, within, lt)) ∙ sym (are i lt)));
       keeps = keeps-then inv.keeps h.grows.keeps;
-      within = omega (arith, within);
+      within = omega (arith, end, last);
       adds = adds-then _ inv.adds h.grows.adds (λ P k. k)
-          (one-of c.args.upper c.args.lower part c.four_squares-cells-in-loop-part.result within are);
+          (one-of c.args.upper c.args.lower part c.four_squares-cells-in-loop-square.result within are);
     }
 
 pub returns-clause-filled : goal.returns-clause-filled
 returns-clause-filled g c want p squares =
-    let inv = c.loop-part.invariant in
+    let inv = c.loop-square.invariant in
     let block = c.args.block in
-    let part = c.loop-part.part in
+    let square = c.loop-square.square in
     let next : 16 * block + 16 ≡ 16 * c.args.next = omega (arith, c.requires.beyond, c.if-block-next.false) in
-    let behind = c.loop-part-test.false in
+    let behind = c.loop-square-test.false in
     let one = by-one want c.args.upper c.args.lower block c.args.next c.requires.beyond squares in
-    subst (FilledTo (g.S.Squares.knows c.loop-part.squares) (g.S.Squares.content c.loop-part.squares) 2 want c.loop-part.spans.items) next
-    (filled-skip (g.S.Squares.knows c.loop-part.squares) (g.S.Squares.content c.loop-part.squares) 2 want c.loop-part.spans.items (16 * block + 4 * part)
+    subst (FilledTo (g.S.Squares.knows c.loop-square.squares) (g.S.Squares.content c.loop-square.squares) 2 want c.loop-square.spans.items) next
+    (filled-skip (g.S.Squares.knows c.loop-square.squares) (g.S.Squares.content c.loop-square.squares) 2 want c.loop-square.spans.items (16 * block + square)
     (16 * block + 16) (inv.filled want p one) (omega (arith, inv.within))
-    (λ x le lt. blank-columns want c.args.upper c.args.lower block (4 * part) 16 (omega arith) one
+    (λ x le lt. blank-columns want c.args.upper c.args.lower block square 16 (omega arith) one
     (λ i from before. c.blank_from-last.ensures.blank i (omega (arith, behind, from)) before) x le lt))
 
-pub returns-in_err-push_four-clause-grows : goal.returns-in_err-push_four-clause-grows
-returns-in_err-push_four-clause-grows g c =
-    let inv = c.loop-part.invariant in
-    let part = c.loop-part.part in
-    let within : part < 4 = omega (arith, c.loop-part-test.true, c.blank_from-last.ensures.within) in
+pub returns-in_err-push_some-clause-grows : goal.returns-in_err-push_some-clause-grows
+returns-in_err-push_some-clause-grows g c =
+    let inv = c.loop-square.invariant in
+    let part = c.loop-square.square / 4 in
+    let within : part < 4 = omega (arith, c.loop-square-test.true, c.blank_from-last.ensures.within) in
     let M = λ (P : Tree → Type 0). (i : ℕ) × (i < 16) × SomePart P (square_of_words c.args.upper c.args.lower i) in
-    grows-err M (grows-behind M inv.keeps inv.adds c.in_err-push_four.ensures.grows
-    (one-of c.args.upper c.args.lower part c.four_squares-cells-in-loop-part.result within c.four_squares-cells-in-loop-part.ensures))
+    grows-err M (grows-behind M inv.keeps inv.adds c.in_err-push_some.ensures.grows
+    (one-of c.args.upper c.args.lower part c.four_squares-cells-in-loop-square.result within c.four_squares-cells-in-loop-square.ensures))
     c.from_residual.ensures.1 (λ P n. n)
 
 pub returns-clause-grows : goal.returns-clause-grows
-returns-clause-grows g c = let inv = c.loop-part.invariant in grows-still _ inv.keeps inv.adds tt
+returns-clause-grows g c = let inv = c.loop-square.invariant in grows-still _ inv.keeps inv.adds tt
