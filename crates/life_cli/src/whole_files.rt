@@ -13,10 +13,10 @@ use std::alloc::Global;
 /// The most bytes of a file that is read whole.
 const LONGEST_FILE: u64 = 1 << 30;
 
-/// The size in bytes from which on a file is read whole. A smaller one takes hardly any time in either way.
+/// The least size in bytes of a file that is read whole. A smaller file takes hardly any time either way.
 const LEAST_BYTES: u64 = 1 << 12;
 
-/// The size in bytes from which on a file is no longer read whole, because it would take so much memory.
+/// The least size in bytes of a file that would take too much memory if it were read whole.
 const TOO_MANY_BYTES: u64 = 1 << 24;
 
 /// Whether a file of about so many bytes is read whole, so that it can be stepped row by row.

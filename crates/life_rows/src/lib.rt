@@ -7,7 +7,6 @@
 mod next_row;
 mod row_cells;
 mod row_step;
-mod run_log;
 mod three_rows;
 
 pub use row_step::RowStep;

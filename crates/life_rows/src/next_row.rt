@@ -23,7 +23,7 @@ fn has_cells(at: RowPlaces) -> bool
     west | here != 0
 }
 
-// The first place from one on that has a word in one of three rows, or beside it.
+// The first place at or after `place` that has a word in one of three rows, or is next to a place that has one.
 #[inline(always)]
 fn place_to_visit(
     north: &[RowWord],

@@ -4,7 +4,7 @@ ghost use Rattle.life_rows.specs.Words.{AddsWord, AreWestOf, AreColumns, AreInne
 
 use life_base::{Kind, MAX_LEVEL};
 use life_block::Three;
-use life_strip::RowWord;
+use life_strip::{RowWord, bits_of_columns};
 
 // The place of the next word where none is left.
 pub(crate) const NEVER: u64 = u64::MAX;
@@ -20,16 +20,6 @@ pub(crate) struct RowPlace {
     pub(crate) passed: usize,
 }
 
-// The bits of so many columns of a word from one of them on.
-#[inline(always)]
-fn column_bits(from: u64, count: u64) -> u64
-    requires some { 0 < count }
-    requires within { from + count ≤ 64 }
-    ensures { result ≡ 2 ^ (64 - from) - 2 ^ (64 - (from + count)) }
-{
-    (u64::MAX << (64 - count)) >> from
-}
-
 // Puts cells into columns of one word, east of the others.
 #[inline(always)]
 fn push_piece(words: &mut Vec<RowWord>, start: u64, end: u64) -> Result<(), Kind>
@@ -42,7 +32,7 @@ fn push_piece(words: &mut Vec<RowWord>, start: u64, end: u64) -> Result<(), Kind
     ensures refusals { IfErr result IsMemory }
 {
     let place = start / 64;
-    let cells = column_bits(start % 64, end - start);
+    let cells = bits_of_columns(start % 64, end - start);
     if let Some(last) = words.last_mut() {
         if last.place == place {
             last.cells |= cells;

@@ -1,21 +1,17 @@
 //! The last three rows of a pattern that comes row by row, and the rows of its next generation before them.
-ghost use Rattle.std.specs.Prelude.{◌≡◌, ℤ, ℕ, pos, neg_ℤ, [], ◌∷◌, ◌++◌, ◌==◌, ◌+◌, ◌-◌, ◌^◌, ◌<◌, ◌≤◌, ◌+ℤ◌, ◌<ℤ◌, ◌≤ℤ◌, if◌then◌else◌, IsTrue, IfSome};
+ghost use Rattle.std.specs.Prelude.{◌≡◌, ℤ, ℕ, pos, [], ◌∷◌, ◌++◌, ◌==◌, ◌+◌, ◌-◌, ◌^◌, ◌<◌, ◌≤◌, ◌+ℤ◌, if◌then◌else◌, IsTrue, IfSome};
 ghost use Rattle.life_rows.specs.Words.{depth, tree_cell, AreInner, AreRowWords, cell_in_words, half_plane, IsBetweenRows, IsFilledAbove, IsNextRunStart, IsRunOnPlane, IsThreeRows, next_life, run_cells, state_by, state_so_far};
 
 use crate::next_row::next_row;
 use crate::row_cells::push_cells;
-use crate::run_log::RunLog;
 use life_base::{LifeRule, MAX_LEVEL, Run};
 use life_quad::{Id, Squares};
-use life_strip::{RowBuilder, RowWord};
+use life_strip::{RowBuilder, RowWord, RunLog, offset};
 use std::alloc::Global;
 use std::mem;
 
 // A pattern may have so many cells.
 const MOST_CELLS: u64 = 1 << 20;
-
-// Half of the side of the plane: the column and the row of the cell (0, 0).
-const HALF_PLANE: i64 = 1 << (MAX_LEVEL - 1);
 
 // The row north of the southernmost one.
 const LAST_ROW: u64 = (1 << MAX_LEVEL) - 2;
@@ -38,16 +34,6 @@ pub(crate) struct ThreeRows {
     // How many cells may still come.
     left: u64,
     pub(crate) log: RunLog,
-}
-
-// The column or the row of a coordinate, counted from the edge of the plane.
-#[inline(always)]
-fn offset(x: i64) -> u64
-    requires low { neg_ℤ (pos half_plane) ≤ℤ x }
-    requires high { x <ℤ pos half_plane }
-    ensures { pos result ≡ (x +ℤ pos half_plane) }
-{
-    (x + HALF_PLANE) as u64
 }
 
 // Whether no word of a row is at the western or the eastern edge of the plane.

@@ -17,9 +17,9 @@ pub(crate) struct Block {
     pub(crate) cells: u64,
 }
 
-// The bits of so many columns of a block from one of them on.
+/// The bits of `count` columns of a word of 64 columns, beginning with column `from`. The westernmost column, 0, is the highest bit.
 #[inline(always)]
-pub(crate) fn bits_of(from: u64, count: u64) -> u64
+pub fn bits_of_columns(from: u64, count: u64) -> u64
     requires some { 0 < count }
     requires within { from + count ≤ 64 }
     ensures { result ≡ 2 ^ (64 - from) - 2 ^ (64 - (from + count)) }
@@ -41,7 +41,7 @@ pub(crate) fn block_of(start: u64, len: u64) -> Block
     Block {
         start: block,
         end: block + 1,
-        cells: bits_of(start % 64, len),
+        cells: bits_of_columns(start % 64, len),
     }
 }
 
@@ -57,7 +57,7 @@ fn add_within(blocks: &mut Vec<Block>, start: u64, end: u64) -> Result<(), Kind>
     ensures refusals { IfErr result IsMemory }
 {
     let block = start / 64;
-    let cells = bits_of(start % 64, end - start);
+    let cells = bits_of_columns(start % 64, end - start);
     if let Some(last) = blocks.last_mut() {
         if last.start == block {
             last.cells += cells;

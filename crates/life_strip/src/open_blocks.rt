@@ -2,7 +2,7 @@
 ghost use Rattle.std.specs.Prelude.{◌≡◌, ℕ, ℤ, pos, neg_ℤ, ◌+ℤ◌, ◌≤ℤ◌, ◌+◌, ◌*◌, ◌%◌, ◌/◌, ◌^◌, ◌<◌, ◌≤◌, [], ◌∷◌, ◌++◌, false, IsTrue, IfSome};
 ghost use Rattle.life_strip.specs.Words.{AddsCells, AreBlocksBefore, AreOpen, AreRowBlocks, blocks_of, half_plane, vec_capacity, vec_len};
 
-use crate::blocks::{Block, bits_of, block_of};
+use crate::blocks::{Block, bits_of_columns, block_of};
 use crate::plane::{coordinate, offset};
 use life_base::MAX_LEVEL;
 
@@ -72,7 +72,7 @@ impl OpenBlocks {
     {
         let from = (x - self.west) as u64;
         if from + len <= 64 {
-            self.last.cells += bits_of(from, len);
+            self.last.cells += bits_of_columns(from, len);
             return true;
         }
         self.begin_block(offset(x), len)

@@ -32,9 +32,9 @@ pub(crate) struct Plane {
     row: Row,
 }
 
-// The column or the row of a coordinate, counted from the edge of the plane.
+/// The column of a coordinate `x`, counted from the western edge of the plane, or the row of a coordinate `y`, counted from the northern edge.
 #[inline(always)]
-pub(crate) fn offset(x: i64) -> u64
+pub fn offset(x: i64) -> u64
     requires low { neg_ℤ (pos half_plane) ≤ℤ x }
     requires high { x <ℤ pos half_plane }
     ensures { pos result ≡ (x +ℤ pos half_plane) }

@@ -6,10 +6,10 @@ ghost use Rattle.life_strip.specs.Words.{ftrue, RunValue};
 use life_base::Run;
 use std::marker::Model;
 
-// The runs so far. Code can neither read nor compare them; they exist in contracts and proofs alone.
+/// The runs so far. Code can neither read nor compare them; they exist in contracts and proofs alone.
 #[derive(Drop)]
-pub(crate) struct RunLog {
-    pub(crate) ghost runs: { List RunValue },
+pub struct RunLog {
+    pub ghost runs: { List RunValue },
 }
 
 impl Model for RunLog {
@@ -17,15 +17,15 @@ impl Model for RunLog {
 }
 
 impl RunLog {
-    // No run.
-    pub(crate) fn new() -> RunLog
+    /// No run.
+    pub fn new() -> RunLog
         ensures { result.runs ≡ [] }
     {
         RunLog {}
     }
 
-    // The runs so far, and one more.
-    pub(crate) fn then(&self, run: &Run) -> RunLog
+    /// The runs so far, and one more.
+    pub fn then(&self, run: &Run) -> RunLog
         ensures { result.runs ≡ self.now.runs ++ run.now ∷ [] }
     {
         RunLog {}

@@ -16,18 +16,18 @@ returns-then-last-place-clause-puts c =
     let some = c.in-Some.ensures.variant.0 refl in
     let r = c.requires in
     let last = c.in-Some.last.now in
-    let cells = c.column_bits-cells.result in
+    let cells = c.bits_of_columns-cells.result in
     puts-more words.items c.args.start c.args.end r.words r.before r.some r.one r.within (words.len - 1) last
     (omega (arith, words.ok, some)) c.in-Some.ensures.value c.if-last-place.true
     (record { place = last.place; cells = bit_or last.cells cells }) refl
-    (λ i. bit_at_or last.cells cells i ∙ ap (λ z. max (bit_at last.cells i) (bit_at z i)) c.column_bits-cells.ensures)
+    (λ i. bit_at_or last.cells cells i ∙ ap (λ z. max (bit_at last.cells i) (bit_at z i)) c.bits_of_columns-cells.ensures)
 
 pub returns-clause-puts : goal.returns-clause-puts
 returns-clause-puts c =
     let vec = c.args.words.now in
     let words = vec.items in
     let r = c.requires in
-    let new : RowWord = record { place = c.args.start / 64; cells = c.column_bits-cells.result } in
+    let new : RowWord = record { place = c.args.start / 64; cells = c.bits_of_columns-cells.result } in
     let kept : c.match-last_mut.words.items ≡ words =
     elim c.match-last_mut.branch [
       | in-Some+else-last-place w ↦ ap (λ s. s.items) w.words-is ∙ ap (set words (vec.len - 1)) w.in-Some.ensures.value
@@ -45,4 +45,4 @@ returns-clause-puts c =
       | in_default w ↦ false≢true (w.in_default.ensures.variant.1 (omega (arith, vec.ok, some)))
     ] in
     subst (λ z. PutsCells words z c.args.start c.args.end) (sym (c.in_ok-push.ensures.items ∙ ap (λ z. z ++ new ∷ []) kept))
-    (puts-new words c.args.start c.args.end r.words r.before r.some r.one r.within new refl c.column_bits-cells.ensures other)
+    (puts-new words c.args.start c.args.end r.words r.before r.some r.one r.within new refl c.bits_of_columns-cells.ensures other)

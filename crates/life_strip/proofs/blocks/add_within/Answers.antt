@@ -14,7 +14,7 @@ overflow_add-last c =
     let r = c.requires in
     let fits = adds-fits blocks.items c.args.start c.args.end r.blocks r.before r.some r.one r.within (blocks.len - 1) c.in-Some.last.now
     (omega (arith, blocks.ok, some)) c.in-Some.ensures.value c.if-last-block.true (search rules) in
-    omega (arith, fits, c.bits_of-cells.ensures)
+    omega (arith, fits, c.bits_of_columns-cells.ensures)
 
 pub returns-then-last-block-clause-adds : goal.returns-then-last-block-clause-adds
 returns-then-last-block-clause-adds c =
@@ -24,14 +24,15 @@ returns-then-last-block-clause-adds c =
     let last = c.in-Some.last.now in
     adds-more blocks.items c.args.start c.args.end r.blocks r.before r.some r.one r.within (blocks.len - 1) last
     (omega (arith, blocks.ok, some)) c.in-Some.ensures.value c.if-last-block.true
-    (record { start = last.start; end = last.end; cells = last.cells + c.bits_of-cells.result }) refl refl (ap (λ z. last.cells + z) c.bits_of-cells.ensures)
+    (record { start = last.start; end = last.end; cells = last.cells + c.bits_of_columns-cells.result }) refl refl
+    (ap (λ z. last.cells + z) c.bits_of_columns-cells.ensures)
 
 pub returns-clause-adds : goal.returns-clause-adds
 returns-clause-adds c =
     let vec = c.args.blocks.now in
     let blocks = vec.items in
     let r = c.requires in
-    let new : Block = record { start = c.args.start / 64; end = c.args.start / 64 + 1; cells = c.bits_of-cells.result } in
+    let new : Block = record { start = c.args.start / 64; end = c.args.start / 64 + 1; cells = c.bits_of_columns-cells.result } in
     let kept : c.match-last_mut.blocks.items ≡ blocks =
     elim c.match-last_mut.branch [
       | in-Some+else-last-block w ↦ ap (λ s. s.items) w.blocks-is ∙ ap (set blocks (vec.len - 1)) w.in-Some.ensures.value
@@ -49,4 +50,4 @@ returns-clause-adds c =
       | in_default w ↦ false≢true (w.in_default.ensures.variant.1 (omega (arith, vec.ok, some)))
     ] in
     subst (λ z. AddsCells blocks z c.args.start c.args.end) (sym (c.in_ok-push.ensures.items ∙ ap (λ z. z ++ new ∷ []) kept))
-    (adds-new blocks c.args.start c.args.end r.blocks r.before r.some r.one r.within new refl (omega arith) c.bits_of-cells.ensures other)
+    (adds-new blocks c.args.start c.args.end r.blocks r.before r.some r.one r.within new refl (omega arith) c.bits_of_columns-cells.ensures other)
