@@ -4,22 +4,25 @@
 #   make library   builds the proved library for C in out/library: static, shared, and a pkg-config file
 #   make page      builds the page and the module for browsers in out/page from the library that make library has proved
 #   make packages  builds the packages of a release in out/packages, from what make, make library and make page have proved and built
-#   make test      the merge gate, and every other check: the next three also
+#   make test      the gate: every proof from scratch, every must-fail edit, and every other check, also the next three
 #   make test_page the page and the module in headless browsers and in Node, compared with ./golly_canon
 #   make test_packages  the packages of a release, each installed and used in a place of its own
 #   make test_collection   a collection on a cluster of this machine, by the library of make library
 #   make quick     builds the same program without proving it, runs it on FILE=.. and keeps nothing
-#   make plants    tries the mutants that the gate leaves out, before a release
+#   make check     checks what changed since the last time, over kept work: crates, the edits of changed files, and documents. It is no gate
+#   make plants    tries the must-fail edits that the gate leaves out, before a release
+#   make lint      lists lemmas that say the same, and words that the speller doesn't know
 #   make fuzz      compares the program with the independent reader on CASES=.. random files by SEED=..
 #   make fuzz_library  the same of the library for C, its streams too, which takes half the time
-#   make times     runs `rt ci`, and says how much processor time it took for each crate, its tests and its edits
+#   make times     runs the gate's proofs, edits and tests, and says how much processor time it took for each crate, its tests and its edits
 #   make bench     times the program beside plain C by gcc and by clang, and a program OTHER=.. (with SMALL=1 on smaller inputs, within five minutes)
 #   make instructions   counts the instructions of both on the smaller inputs, which other work on the machine does not change
 #   make install   puts in place what make and make library have built, and proves nothing: the two below
 #   make install_program  puts ./golly_canon into $(DESTDIR)$(PREFIX)/bin, its man page into $(DESTDIR)$(MANDIR), and its completions into
 #                  $(DESTDIR)$(PREFIX)/share
 #   make install_library  puts the header into $(DESTDIR)$(PREFIX)/include, the library into $(DESTDIR)$(LIBDIR), the Python module into
-#                  $(DESTDIR)$(PYTHONDIR), and collection.py into $(DESTDIR)$(PREFIX)/share/golly_canon
+#                  $(DESTDIR)$(PYTHONDIR), and collection.py into $(DESTDIR)$(PREFIX)/share/golly_canon, which is also the command
+#                  golly_canon_collection in $(DESTDIR)$(PREFIX)/bin
 #   make uninstall removes what make install put there, with the same PREFIX, LIBDIR, MANDIR, PYTHONDIR and DESTDIR
 #   make help      prints these lines
 #   make clean     removes what was built; the proofs' work in crates/*/out stays
@@ -77,7 +80,15 @@ test_collection: library_is_built
 	@PYTHONPATH="$(CURDIR)/python" python3 -B tests/library/collection.py
 
 plants:
-	@RT="$(RT)" sh scripts/plants
+	@RT="$(RT)" python3 -B scripts/gate more
+
+check:
+	@RT="$(RT)" python3 -B scripts/gate changed
+	@RT="$(RT)" python3 -B tests/all documents
+
+lint:
+	@python3 -B scripts/lemmas --check
+	@python3 -B scripts/spelling --check
 
 fuzz: golly_canon
 	@python3 -B tests/program/compare.py ./golly_canon --cases "$(CASES)" --seed "$(SEED)"
@@ -125,7 +136,7 @@ uninstall: folders_are_absolute
 	rm -f "$(DESTDIR)$(PREFIX)/bin/golly_canon" "$(DESTDIR)$(MANDIR)/man1/golly_canon.1" "$(SHARE)/bash-completion/completions/golly_canon"
 	rm -f "$(SHARE)/zsh/site-functions/_golly_canon" "$(SHARE)/fish/vendor_completions.d/golly_canon.fish"
 	rm -f "$(DESTDIR)$(PREFIX)/include/golly_canon.h" "$(DESTDIR)$(LIBDIR)/pkgconfig/golly_canon.pc" "$(DESTDIR)$(LIBDIR)"/libgolly_canon.*
-	rm -f "$(DESTDIR)$(PYTHONDIR)/golly_canon.py" "$(SHARE)/golly_canon/collection.py"
+	rm -f "$(DESTDIR)$(PYTHONDIR)/golly_canon.py" "$(SHARE)/golly_canon/collection.py" "$(DESTDIR)$(PREFIX)/bin/golly_canon_collection"
 
 help:
 	@sed -n 's/^#  //p' Makefile
@@ -138,5 +149,5 @@ distclean: clean
 
 FORCE:
 
-.PHONY: all library page packages quick test test_page test_packages test_collection plants fuzz fuzz_library times bench instructions install program_is_built library_is_built folders_are_absolute \
+.PHONY: all library page packages quick check lint test test_page test_packages test_collection plants fuzz fuzz_library times bench instructions install program_is_built library_is_built folders_are_absolute \
     install_program install_library uninstall help clean distclean FORCE

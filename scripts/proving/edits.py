@@ -1,0 +1,217 @@
+"""Must-fail edits, many of them in one check.
+
+A must-fail edit is a deliberate bug: the prover has to refuse the crate with it. `rt ci` tries them one after the other, each in a copy of the crate. But the
+prover judges each function by itself. Its proof rests on its own body and on the contracts of the functions that it calls, and an edit changes no contract. So
+edits of different functions can be in one copy, which one check (a round) tries, over the work that the proof of the crate has left.
+
+What makes a refusal count:
+
+1. An edit is refused if the prover says that a function which it changes fails *by itself*: it isn't proved, and not because it calls another function that
+   isn't; or it names a goal of this function that nothing proved; or a file of this function's own proof has an error.
+2. If that function only waits for another one, the round says nothing of the edit, and a later round tries it again.
+3. The control: in each round every function that no edit changes has to be proved, or to wait for another one. If such a function fails by itself, nothing
+   that this round said counts. Its edits are tried again in two halves, and in the end one by one by the toolchain's rule, `must_fail` of `rt`.
+4. An edit whose function is still proved is tried alone, also by the toolchain's rule. Only that rule says that an edit isn't refused.
+
+An edit that changes no function of `src/` is tried alone from the beginning."""
+
+import contextlib
+import json
+import os
+import re
+import shutil
+import tempfile
+
+from proving import source, toolchain
+
+rt = toolchain.load()
+
+# What the prover says of a function: its name, and whether it is proved.
+VERDICT = re.compile(r"^(?:fn|impl|struct|enum) (\S+?): (.*)$")
+# The verdicts that say that a function fails by itself.
+FAILS = re.compile(r"not proved|no proof|.*`search` did not prove .*")
+# An error in a proof file that only names what the edit took away.
+NAMES = re.compile(r".*(has no field|is not in scope|has no `|was not admitted)")
+ONLY_NAMES = "only because a proof file names what the edit took away, so this says little of the contract"
+
+
+def unpack(checked, folder):
+    """Puts the work that `rattle check -o` left in `checked` into a folder, in the form that `rattle check --incremental` takes."""
+    with open(f"{checked}/toolchain/checked.json", encoding="utf-8") as it:
+        parts = [json.loads(line) for line in it if line.strip()]
+    with open(f"{checked}/toolchain/checked.a", "rb") as archive:
+        for name, at, length in parts:
+            if "/" in name:
+                continue
+            archive.seek(at)
+            part = archive.read(length)
+            kernel = re.search(rb"--@ kernel (\S+)", part[:600])[1].decode().replace("/", "_")
+            os.makedirs(f"{folder}/{kernel}", exist_ok=True)
+            with open(f"{folder}/{kernel}/{name}.oantt", "wb") as it:
+                it.write(part)
+
+
+@contextlib.contextmanager
+def copy_of(kept):
+    """A copy of kept work, beside it, since a check adds to what it is given."""
+    with tempfile.TemporaryDirectory(dir=os.path.dirname(kept)) as place:
+        yield shutil.copytree(kept, f"{place}/kept")
+
+
+def name_of(function):
+    """The name that a function has in its source, where the prover gives its whole path. A closure belongs to the function around it."""
+    parts = function.split("::")
+    if "fn" in parts[:-1]:
+        parts = parts[: parts.index("fn") + 2]
+    return re.sub(r"\W.*", "", parts[-1])
+
+
+class Edit:
+    """An edit of a crate: its pairs of texts by file, the functions that it changes, and once it is decided whether it is refused, and what to say."""
+
+    def __init__(self, path, crate, groups):
+        self.path, self.folder = path, crate.folder
+        self.label = f"must-fail {crate.name}/{os.path.basename(path)}"
+        self.pairs, self.functions, self.refused, self.said = [], set(), None, ""
+        self.had_company = False  # whether a round that refused another edit had this one too
+        _, problem = rt.read_edit(path, crate.folder)
+        if problem:
+            self.decide(False, f"BAD EDIT: {problem}")
+            return
+        self.read()
+        for group in groups:
+            if group & self.functions:
+                self.functions |= group
+
+    def read(self):
+        texts, name, old = {}, None, None
+        with open(self.path, encoding="utf-8") as it:
+            lines = it.read().split("\n")
+        for line in lines:
+            if line.startswith("file: "):
+                name = line.removeprefix("file: ").strip()
+            elif line.startswith("old: "):
+                old = line.removeprefix("old: ")
+            elif line.startswith("new:"):
+                new = line.removeprefix("new:").removeprefix(" ")
+                text = self.text_of(name, texts)
+                if name.startswith("src/"):
+                    self.functions |= source.changed_functions(text, old, new)
+                texts[name] = text.replace(old, new)
+                self.pairs.append((name, old, new))
+
+    def text_of(self, name, texts):
+        if name in texts:
+            return texts[name]
+        with open(f"{self.folder}/{name}", encoding="utf-8") as it:
+            return it.read()
+
+    def applied(self, texts):
+        """The texts of changed files with this edit too, or None if an edit before it changed the same place."""
+        texts = dict(texts)
+        for name, old, new in self.pairs:
+            text = self.text_of(name, texts)
+            if text.count(old) != 1:
+                return None
+            texts[name] = text.replace(old, new)
+        return texts
+
+    def decide(self, refused, said):
+        self.refused, self.said = refused, f"{self.label}: {said}"
+
+
+def own_errors(function, lines):
+    """The errors in the files of a function's own proof."""
+    *path, last = function.split("::")[1:]
+    inside = re.escape("".join(f"{it}/" for it in path)) + r"\+?" + re.escape(last)
+    return [it for it in lines if re.match(rf"(\./)?proofs/{inside}/[^/]*:\d+:\d+: error", it)]
+
+
+class Round:
+    """One check of a crate with several edits: those that it tries, those that are left for a later round, and what the prover says of each function."""
+
+    def __init__(self, crate, edits, kept, flags):
+        self.edits, self.left, self.changed, texts = [], [], set(), {}
+        for edit in edits:
+            more = None if edit.functions & self.changed else edit.applied(texts)
+            if more is None:
+                self.left.append(edit)
+            else:
+                texts, self.changed = more, self.changed | edit.functions
+                self.edits.append(edit)
+        with copy_of(kept) as copy:
+            ran = rt.checked(crate, texts, flags, copy)
+        self.lines = ran.stdout.rstrip("\n").split("\n")
+        self.verdicts = {it[1]: it[2] for it in map(VERDICT.match, self.lines) if it}
+        could_read = not any(rt.unread(it, texts) for it in self.lines) and not rt.rtlib.STALE.search(ran.stdout)
+        self.counts = could_read and self.has_verdict(ran.returncode) and not self.strays()
+
+    def has_verdict(self, status):
+        """Whether the prover came to an end. If no edit of the round is a bug, the crate is still proved."""
+        return (status, self.lines[-1].split(" ")[0]) in ((1, "logic=not-proved"), (0, "logic=proved"))
+
+    def fails(self, function):
+        """Whether a function fails by itself."""
+        verdict = self.verdicts[function]
+        return bool(FAILS.fullmatch(verdict)) or (not verdict.startswith("proved") and bool(own_errors(function, self.lines)))
+
+    def strays(self):
+        """The functions that fail by themselves though no edit changes them."""
+        return [it for it in self.verdicts if self.fails(it) and name_of(it) not in self.changed]
+
+    def judge(self, edit):
+        """Decides the edit if the prover refuses it. Otherwise returns whether its function waits, so that a later round may decide."""
+        mine = [it for it in self.verdicts if name_of(it) in edit.functions]
+        failing = [it for it in mine if self.fails(it)]
+        if failing:
+            errors = [error for it in failing for error in own_errors(it, self.lines)]
+            real = [it for it in errors if not NAMES.match(it)]
+            is_open = any("search" in self.verdicts[it] for it in failing)
+            why = (real or errors or [f"{failing[0]}: {self.verdicts[failing[0]]}"])[0][:160]
+            says_little = errors and not real and not is_open
+            edit.decide(True, f"refused, as it must be{f' ({ONLY_NAMES})' if says_little else ''}: {why}")
+            return False
+        return any(not self.verdicts[it].startswith("proved") for it in mine)
+
+
+class Trial:
+    """All edits of a crate, tried in rounds over the work in `kept`."""
+
+    def __init__(self, crate, paths, kept, flags):
+        groups = source.cycles(crate.folder)
+        self.crate, self.kept, self.flags = crate, kept, flags
+        self.edits = [Edit(it, crate, groups) for it in paths]
+        self.checks = 0
+
+    def run(self):
+        """Decides each edit."""
+        waiting = [[it for it in self.edits if it.refused is None and it.functions]]
+        while waiting:
+            edits = waiting.pop()
+            if edits:
+                waiting += self.round(edits)
+        for edit in self.edits:
+            if edit.refused is None:
+                self.alone(edit)
+        return self.edits
+
+    def round(self, edits):
+        """Tries edits together, and returns the lists to try after that."""
+        made = Round(self.crate, edits, self.kept, self.flags)
+        self.checks += 1
+        if not made.counts:
+            half = len(made.edits) // 2
+            return [made.left, made.edits[:half], made.edits[half:]] if half else [made.left]
+        waits = [it for it in made.edits if made.judge(it)]
+        some_refused = any(it.refused for it in made.edits)
+        for edit in made.edits:
+            edit.had_company = edit.had_company or some_refused
+        # (a round that decided nothing would say the same again)
+        again = waits if some_refused else []
+        return [[*made.left, *again]]
+
+    def alone(self, edit):
+        """Tries an edit by the toolchain's own rule."""
+        self.checks += 1
+        with copy_of(self.kept) as copy:
+            edit.refused, edit.said = rt.must_fail(self.crate, edit.path, self.flags, copy)

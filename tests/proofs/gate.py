@@ -1,0 +1,148 @@
+#!/usr/bin/env python3
+"""The gate itself, in a small repository of two crates: it passes what is right, and fails where its script loses an edit or a crate, refuses everything, or
+is interrupted. And what it checks again where something changed. The last line is 'N passed, M failed'.
+
+usage: tests/proofs/gate.py"""
+
+import os
+import re
+import signal
+import subprocess
+import sys
+import tempfile
+
+sys.dont_write_bytecode = True  # nothing is left in tests/
+sys.path.insert(0, os.path.dirname(os.path.dirname(os.path.abspath(__file__))))
+
+from shared import counting  # noqa: E402
+
+TOP = os.path.dirname(os.path.dirname(os.path.dirname(os.path.abspath(__file__))))
+GATE = os.path.join(TOP, "scripts", "gate")
+
+SMALL = """\
+//! Three functions.
+#![tactic(auto)]
+
+ghost use Rattle.std.specs.Prelude.{◌≡◌, ◌+◌};
+
+/// The number after this one.
+pub fn after(number: u32) -> u64
+    ensures { result ≡ number + 1 }
+{
+    u64::from(number) + 1
+}
+
+/// The sum of two numbers.
+pub fn sum(left: u32, right: u32) -> u64
+    ensures { result ≡ left + right }
+{
+    u64::from(left) + u64::from(right)
+}
+
+/// Ten.
+pub fn ten() -> u32
+    ensures { result ≡ 10 }
+{
+    10
+}
+"""
+HELLO = """\
+//! Prints ten.
+#![tactic(auto)]
+
+use small::ten;
+use std::rt::HostRuntime;
+
+fn main(rt: HostRuntime) -> std::io::Result<()> {
+    println!(rt; "{}", ten())?;
+    Ok(())
+}
+"""
+EDIT = "file: src/lib.rt\nold: {}\nnew: {}\n"
+FILES = {
+    "HANDLES": "Handles allowed: none.\n",
+    "crates.txt": "small:\nhello: small\n",
+    "crates/small/src/lib.rt": SMALL,
+    "crates/small/must-fail/after_is_two_more.edit": EDIT.format("    u64::from(number) + 1", "    u64::from(number) + 2"),
+    "crates/small/must-fail/sum_of_one_number.edit": EDIT.format("    u64::from(left) + u64::from(right)", "    u64::from(left) + u64::from(left)"),
+    "crates/hello/src/main.rt": HELLO,
+    "crates/hello/stdout": "10\n",
+    "tests/proofs/harmless/small/ten_in_hexadecimal.edit": EDIT.format("    10", "    0xA"),
+}
+
+# Runs scripts/gate with a change of its own code, which is the first argument.
+BROKEN = f"""
+import importlib.machinery, importlib.util, sys
+loader = importlib.machinery.SourceFileLoader("gate", {GATE!r})
+gate = importlib.util.module_from_spec(importlib.util.spec_from_loader("gate", loader))
+sys.modules["gate"] = gate
+loader.exec_module(gate)
+exec(sys.argv[1])
+sys.exit(gate.main(sys.argv[2:]))
+"""
+LOSES_AN_EDIT = "edits_of = gate.Gate.edits_of; gate.Gate.edits_of = lambda self, crate: edits_of(self, crate)[1:]"
+LOSES_A_CRATE = "crates_of = gate.rt.crates_of; gate.rt.crates_of = lambda root, aside: crates_of(root, aside)[:1]"
+REFUSES_ALL = "gate.trials.Round.judge = lambda self, edit: edit.decide(True, 'refused, as it must be')"
+
+
+def run(folder, *words):
+    """Runs a command on the small repository. Returns its status and what it said."""
+    how = {"cwd": folder, "env": {**os.environ, "TOP": folder}, "stdin": subprocess.DEVNULL, "stdout": subprocess.PIPE, "stderr": subprocess.STDOUT}
+    ran = subprocess.run([sys.executable, "-B", *words], text=True, errors="replace", check=False, **how)
+    return ran.returncode, ran.stdout
+
+
+def row(name, found, status, *wanted):
+    """Whether a run ended with a status, and said each of these."""
+    problems = [f"status {found[0]}, not {status}"] * (found[0] != status)
+    problems += [f"no {it!r} in {found[1][-1500:]!r}" for it in wanted if not re.search(it, found[1], re.M)]
+    counting.row(name, problems)
+
+
+def interrupted(folder):
+    """Runs the gate, and interrupts it as soon as a crate is proved."""
+    how = {"cwd": folder, "env": {**os.environ, "TOP": folder}, "stdin": subprocess.DEVNULL, "stdout": subprocess.PIPE, "stderr": subprocess.STDOUT}
+    said = []
+    with subprocess.Popen([sys.executable, "-B", GATE], text=True, errors="replace", **how) as gate:
+        for line in gate.stdout:
+            said.append(line)
+            if line.startswith("small is proved "):
+                gate.send_signal(signal.SIGINT)
+    return gate.returncode, "".join(said)
+
+
+def main():
+    with tempfile.TemporaryDirectory(prefix="small-gate-") as folder:
+        for name, text in FILES.items():
+            path = os.path.join(folder, name)
+            os.makedirs(os.path.dirname(path), exist_ok=True)
+            with open(path, "w", encoding="utf-8") as it:
+                it.write(text)
+        subprocess.run(["git", "init", "-q", folder], check=True)
+        os.chmod(folder, 0o755)
+        row("what is right passes", run(folder, GATE), 0, r"^small: 2 of 2 edits refused in 2 checks, and 1 harmless not refused ",
+            r"^hello is proved \(1 functions\) ", r"^rt: hello ran, and wrote what its file stdout has$", r"^\d+ passed, 0 failed$")
+        changed = os.path.join(folder, "crates/small/src/lib.rt")
+        row("nothing changed", run(folder, GATE, "changed"), 0, r"^0 functions, 0 edits refused; ", r"^0 passed, 0 failed$")
+        for name, text, is_seen in (("a comment of a crate", SMALL.replace("Ten.", "The number ten."), False),
+                                    ("what others see of a crate", SMALL.replace("result ≡ 10 }", "result ≡ 5 + 5 }"), True)):
+            with open(changed, "w", encoding="utf-8") as it:
+                it.write(text)
+            found = run(folder, GATE, "changed")
+            row(f"{name} changed", found, 0, r"^small is proved over kept work, in ", r"^small: 2 of 2 edits refused in ", r"^\d+ passed, 0 failed$")
+            counting.row(f"{name} changed: the crate above it", [] if ("hello is proved over kept work" in found[1]) == is_seen else [found[1][-900:]])
+        with open(changed, "w", encoding="utf-8") as it:
+            it.write(SMALL)
+        row("a script that loses an edit", run(folder, "-c", BROKEN, LOSES_AN_EDIT, "edits"), 1,
+            r"^FAILED  the edit small/after_is_two_more.edit isn't refused$", r"^\d+ passed, [1-9]\d* failed$")
+        row("a script that refuses everything", run(folder, "-c", BROKEN, REFUSES_ALL, "edits"), 1,
+            r"^FAILED  must-fail small/ten_in_hexadecimal.edit: this harmless edit has to be proved", r"^\d+ passed, [1-9]\d* failed$")
+        row("a script that loses a crate", run(folder, "-c", BROKEN, LOSES_A_CRATE), 1, r"^FAILED  the crate hello isn't proved$",
+            r"^FAILED  the program hello didn't run", r"^\d+ passed, [1-9]\d* failed$")
+        row("an interrupted run says what it saw", interrupted(folder), 1, r"^interrupted: until then 1 crates were proved and \d edits refused$",
+            r"^\d+ passed, [1-9]\d* failed$")
+    return counting.ended()
+
+
+if __name__ == "__main__":
+    sys.exit(main())
