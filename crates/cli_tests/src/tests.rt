@@ -29,6 +29,9 @@ const TWINS: &[u8] = b"[M2]\n....*$\n....*$\n4 0 0 1 2\n";
 
 const TWINS_IN_RLE: &[u8] = b"#CXRLE Pos=-4,0\nx = 9, y = 1, rule = 23/3\no7bo!\n";
 
+/// The two cells in another generation.
+const LATER_TWINS: &[u8] = b"#CXRLE Pos=-4,0 Gen=7\nx = 9, y = 1, rule = 23/3\no7bo!\n";
+
 const TWINS_TEXT: &[u8] = b"[M2] (canonical 1)\n#R B3/S23\n....*$$$$$$$$\n4 0 0 1 1\n";
 
 const TWINS_SHOWN: &[u8] = b"rule B3/S23\ngeneration 0\npopulation 2\nbox -4 0 9 1\nnodes 2\n";

@@ -1,4 +1,4 @@
-//! Tests of `life_mc`: its laws are called. Its worked files are rows of the crate `call_rows`.
+//! Tests of `life_mc`: its laws are called. Its worked files are rows of the crate `rows`.
 
 use life_mc::laws;
 

@@ -1,4 +1,4 @@
-//! Tests of `life_rle`: a file of many lines. What is read and written otherwise are rows of the crate `call_rows`.
+//! Tests of `life_rle`: a file of many lines. What is read and written otherwise are rows of the crate `rows`.
 
 use life_base::{Fault, Kind, Run, append};
 use life_rle::read_rle;

@@ -124,6 +124,3 @@ pub(crate) fn next_row(
     }
     Ok(())
 }
-
-#[cfg(test)]
-mod tests;

@@ -1,6 +1,6 @@
 mod StateFacts
 mod RefusalFacts
-mod StepFacts
+pub mod StepFacts
 mod RunCells
 mod RowFacts
 pub mod NeedFacts

@@ -91,6 +91,3 @@ pub fn next_by_rows(alloc: Global, store: &mut Shared, bytes: &[u8]) -> Option<V
     let after = generation.checked_add(1)?;
     text_of_square(alloc, store, rule, after, square).ok()
 }
-
-#[cfg(test)]
-mod tests;

@@ -10,4 +10,4 @@ mod by_rows;
 mod steps;
 
 pub use by_rows::next_by_rows;
-pub use steps::{next_by_rule, next_by_table, step_life, step_table};
+pub use steps::{next_by_rule, next_by_table, step_life, step_table, text_of_square};

@@ -38,7 +38,7 @@ fn generation_after(generation: u64) -> Result<u64, Fault>
 }
 
 /// The canonical text of the cells of a square, under this rule and in this generation.
-pub(crate) fn text_of_square(
+pub fn text_of_square(
     alloc: Global,
     store: &mut Shared,
     rule: Rule,

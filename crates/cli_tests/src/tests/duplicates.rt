@@ -1,8 +1,9 @@
 //! The names of files with equal keys, in groups.
 
 use super::devices::{assert_left, sink_with};
-use super::{EAST_GLIDER, GLIDER, LINE, TWINS, TWINS_IN_RLE};
-use file_keys::{write_duplicates, write_keys};
+use super::{EAST_GLIDER, GLIDER, LATER_TWINS, LINE, TWINS, TWINS_IN_RLE};
+use fault_sentences::Foreign;
+use file_keys::{OpenedFile, write_duplicates, write_keys};
 use life_base::Device;
 use life_cli::plans::Request;
 use life_cli::{Origin, Seeds, request};
@@ -21,8 +22,18 @@ fn bytes_of(origin: Origin<'_>) -> IoResult<&'static [u8]> {
         "line" => Ok(LINE),
         "twins" => Ok(TWINS),
         "twins.rle" => Ok(TWINS_IN_RLE),
+        "later" => Ok(LATER_TWINS),
         "bad" => Ok(b"x"),
+        "packed" => Ok(b"\x1f\x8b"),
         _ => Err(io::ErrorKind::NotFound.into()),
+    }
+}
+
+/// What an opener says of the file that has this name.
+fn foreign_of(origin: Origin<'_>) -> Option<Foreign> {
+    match origin {
+        Origin::File("packed") => Some(Foreign::Gzip),
+        _ => None,
     }
 }
 
@@ -47,7 +58,12 @@ pub(super) fn assert_run(
         panic!(rt; "no keys");
     };
     let seeds = Seeds::fixed();
-    let opener = |origin: Origin<'_>| Ok(Device::new(bytes_of(origin)?));
+    let opener = |origin: Origin<'_>| {
+        Ok(OpenedFile {
+            source: Device::new(bytes_of(origin)?),
+            foreign: foreign_of(origin),
+        })
+    };
     let mut out = sink_with(alloc, 1000, 7);
     let mut err = sink_with(alloc, 1000, 7);
     let status = match listing {
@@ -62,8 +78,15 @@ const ABSENT: &[u8] = b"absent: no such file\n";
 const BAD: &[u8] = b"bad: line 1: BadHeader: The header isn't x = .., y = .., rule = ..\n";
 
 /// Arguments with what is printed of the files that they name, what is reported, and the status.
-const GROUPS: [(&[&str], &[u8], &[u8], u8); 6] = [
+const GROUPS: [(&[&str], &[u8], &[u8], u8); 8] = [
     (&["p", "keys", "glider", "line", "east"], b"", b"", 1),
+    (&["p", "keys", "twins", "later"], b"", b"", 1),
+    (
+        &["p", "keys", "--ignore-generation", "twins", "line", "later"],
+        b"twins\nlater\n",
+        b"",
+        0,
+    ),
     (
         &["p", "keys", "--form", "moved", "glider", "line", "east"],
         b"glider\neast\n",

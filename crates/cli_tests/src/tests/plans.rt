@@ -232,114 +232,141 @@ fn requests(rt: HostRuntime) {
     }
 }
 
-/// Arguments of `keys` and `duplicates` with their form, their files, which of --zero, --recursive and --json (of `keys` alone) they have, and the list
-/// of further files. `keys` takes patterns as they lie, and `duplicates` in the moved form, where none is given.
-const FILES: [(&str, Form, &[&str], [bool; 3], Option<&str>); 16] = [
-    ("keys a", Form::Placed, &["a"], [false, false, false], None),
+/// Arguments of `keys` and `duplicates` with their form, their files, which of --zero, --recursive, --json (of `keys` alone) and --ignore-generation they have, and
+/// the list of further files. `keys` takes patterns as they lie, and `duplicates` in the moved form, where none is given.
+const FILES: [(&str, Form, &[&str], [bool; 4], Option<&str>); 19] = [
+    (
+        "keys a",
+        Form::Placed,
+        &["a"],
+        [false, false, false, false],
+        None,
+    ),
     (
         "keys -r b a",
         Form::Placed,
         &["b", "a"],
-        [false, true, false],
+        [false, true, false, false],
         None,
     ),
     (
         "keys a --form turned -",
         Form::Turned,
         &["a", "-"],
-        [false, false, false],
+        [false, false, false, false],
         None,
     ),
     (
         "keys --from l",
         Form::Placed,
         &[],
-        [false, false, false],
+        [false, false, false, false],
         Some("l"),
     ),
     (
         "keys a --zero",
         Form::Placed,
         &["a"],
-        [true, false, false],
+        [true, false, false, false],
         None,
     ),
     (
         "keys -r a",
         Form::Placed,
         &["a"],
-        [false, true, false],
+        [false, true, false, false],
         None,
     ),
     (
         "keys --json a",
         Form::Placed,
         &["a"],
-        [false, false, true],
+        [false, false, true, false],
         None,
     ),
     (
         "keys a --zero --json -r",
         Form::Placed,
         &["a"],
-        [true, true, true],
+        [true, true, true, false],
         None,
     ),
     (
         "keys --recursive --from l",
         Form::Placed,
         &[],
-        [false, true, false],
+        [false, true, false, false],
         Some("l"),
     ),
     (
         "duplicates a",
         Form::Moved,
         &["a"],
-        [false, false, false],
+        [false, false, false, false],
         None,
     ),
     (
         "duplicates --zero a -- -r",
         Form::Moved,
         &["a", "-r"],
-        [true, false, false],
+        [true, false, false, false],
         None,
     ),
     (
         "duplicates --form=placed a b a",
         Form::Placed,
         &["a", "b", "a"],
-        [false, false, false],
+        [false, false, false, false],
         None,
     ),
     (
         "duplicates --from -",
         Form::Moved,
         &[],
-        [false, false, false],
+        [false, false, false, false],
         Some("-"),
     ),
     (
         "duplicates -- a -r",
         Form::Moved,
         &["a", "-r"],
-        [false, false, false],
+        [false, false, false, false],
         None,
     ),
     (
         "duplicates a -r",
         Form::Moved,
         &["a"],
-        [false, true, false],
+        [false, true, false, false],
         None,
     ),
     (
         "duplicates --from=- --zero --recursive",
         Form::Moved,
         &[],
-        [true, true, false],
+        [true, true, false, false],
         Some("-"),
+    ),
+    (
+        "keys --ignore-generation a",
+        Form::Placed,
+        &["a"],
+        [false, false, false, true],
+        None,
+    ),
+    (
+        "keys a --json --form turned --zero --ignore-generation -r",
+        Form::Turned,
+        &["a"],
+        [true, true, true, true],
+        None,
+    ),
+    (
+        "duplicates --ignore-generation --from l -- --ignore-generation",
+        Form::Moved,
+        &["--ignore-generation"],
+        [false, false, false, true],
+        Some("l"),
     ),
 ];
 
@@ -359,14 +386,19 @@ fn assert_files(
     text: &str,
     form: Form,
     names: &[&str],
-    options: ([bool; 3], Option<&str>),
+    options: ([bool; 4], Option<&str>),
 ) {
     let words = words_of(rt, alloc, text);
     let Some((found, is_duplicates)) = plan_of_files(alloc, &words) else {
         panic!(rt; "{text}");
     };
-    let is_wanted = found.form == form && is_duplicates == text.starts_with("duplicates");
-    let flags = [found.zero, found.recursive, found.json];
+    let is_wanted = found.form.form == form && is_duplicates == text.starts_with("duplicates");
+    let flags = [
+        found.zero,
+        found.recursive,
+        found.json,
+        found.form.ignores_generation,
+    ];
     assert!(rt; is_wanted && (flags, found.from) == options, "{text}");
     assert!(rt; found.files.as_slice() == names, "{text}");
 }

@@ -1,5 +1,0 @@
-use Rattle.life_canon.proofs.Fits.{read-fits}
-use Rattle.call_rows.proofs.canon.texts_fed.Goals as goal
-
-pub texts_of-requires : goal.texts_of-requires
-texts_of-requires c = read-fits _ _ _ c.in_ok-pattern.ensures.pattern.1

@@ -1,5 +1,0 @@
-use Rattle.life_canon.proofs.Fits.{read-fits}
-use Rattle.call_rows.proofs.forms.turned_text_of.Goals as goal
-
-pub turned_text-requires : goal.turned_text-requires
-turned_text-requires c = read-fits _ _ _ c.in_ok-pattern.ensures.pattern
