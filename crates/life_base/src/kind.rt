@@ -4,9 +4,10 @@ ghost use Rattle.std.specs.Prelude.{◌≡◌};
 ghost use Rattle.life_base.specs.Words.{Memory};
 
 use std::alloc::{AllocError, AllocFailed};
+use std::fmt;
 
 /// Why something was refused. `number` and `name` give the kind outside the program.
-#[derive(Clone, Copy, Debug, PartialEq, Eq)]
+#[derive(Clone, Copy, PartialEq, Eq)]
 pub enum Kind {
     /// The first line of RLE that is no comment doesn't begin with `x`, line 1 of a macrocell file not with `[M2]`, or the input ends before a header.
     NoHeader,
@@ -193,6 +194,13 @@ impl Kind {
             Kind::WriteFault => "WriteFault",
             Kind::InputTooLong => "InputTooLong",
         }
+    }
+}
+
+impl fmt::Debug for Kind {
+    /// Writes the name of the kind, as a derived `Debug` would.
+    fn fmt<W: fmt::Write>(&self, f: &mut fmt::Formatter<W>) -> fmt::Result {
+        f.write_str(self.name())
     }
 }
 

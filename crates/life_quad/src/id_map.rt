@@ -27,7 +27,7 @@ const NONE: u32 = u32::MAX;
 /// follow, each made when the first of them is set: so a few squares take little memory, whatever their numbers are, and many take one value for
 /// each number and a 256th more.
 #[derive(Drop)]
-pub(crate) struct IdMap<T: Copy> {
+pub struct IdMap<T: Copy> {
     /// By the place of a page: the index of its first value.
     starts: Vec<u32>,
     /// The pages, in the order in which they were made.
@@ -109,8 +109,8 @@ fn add_page<T: Copy>(values: &mut Vec<T>, value: T) -> Result<(), Kind>
 }
 
 impl<T: Copy> IdMap<T> {
-    /// The absent value for every Id. It takes no memory.
-    pub(crate) fn new(alloc: Global, absent: T) -> IdMap<T>
+    /// The absent value for every Id. It allocates nothing.
+    pub fn new(alloc: Global, absent: T) -> IdMap<T>
         ensures { (q : IdValue) → value_of_id result q ≡ absent }
     {
         let starts = Vec::new(alloc);
@@ -123,7 +123,7 @@ impl<T: Copy> IdMap<T> {
     }
 
     /// The value of an Id.
-    pub(crate) fn get(&self, id: Id) -> T
+    pub fn get(&self, id: Id) -> T
         ensures { result ≡ value_of_id self.now id }
     {
         match self.values.get(index_of(&self.starts, id.0)) {
@@ -162,8 +162,12 @@ impl<T: Copy> IdMap<T> {
         self.values[index] = value;
     }
 
-    /// Sets the value of an Id. A refusal, by `Memory` alone, leaves each value as it was.
-    pub(crate) fn set(&mut self, id: Id, value: T) -> Result<(), Kind>
+    /// Sets the value of an Id.
+    ///
+    /// # Errors
+    ///
+    /// `Memory` if the page of the Id can't be made. Then each value is what it was.
+    pub fn set(&mut self, id: Id, value: T) -> Result<(), Kind>
         ensures { SetsValue self.old self.new id value result }
     {
         let index = index_of(&self.starts, id.0);

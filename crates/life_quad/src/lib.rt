@@ -20,6 +20,7 @@ mod squares;
 mod turning;
 
 pub use id::Id;
+pub use id_map::IdMap;
 pub use id_numbers::IdNumbers;
 pub use life_base::Bounds;
 pub use listing::cells;
