@@ -27,7 +27,7 @@ middle_square cell level = let west = neg_ℤ (pos (2 ^ (level - 1))) in claimed
 abbrev pub is_in_middle : ℕ → ℤ → Bool
 is_in_middle level z = let half = pos (2 ^ (level - 1)) in int_le (neg_ℤ half) z && int_lt z half
 
--- that square holds every cell with a state other than 0
+-- the square of a level about the middle of the plane, `middle_square`, holds every cell with a state other than 0
 abbrev pub HoldsAllCells : (ℤ → ℤ → ℕ) → ℕ → Type 0
 HoldsAllCells cell level = (x y : ℤ) → (is_in_middle level x && is_in_middle level y) ≡ false → cell x y ≡ 0
 
@@ -58,7 +58,8 @@ claimed_walk least (quarters nw ne sw se) =
     if is_blank_square (quarters nw ne sw se) || nat_lt (square_level nw + 1) least then []
     else claimed_walk least nw ++ claimed_walk least ne ++ claimed_walk least sw ++ claimed_walk least se ++ quarters nw ne sw se ∷ []
 
--- the squares that were visited, and after them the others of a list, each at its first place alone
+-- The squares that were visited, and after them the others of a list, each at its first place alone. (All that a walk visits in a square comes before the
+-- square, so whoever meets it again needn't walk through it.)
 abbrev pub first_visits : (visited squares : List Square) → List Square
 first_visits visited [] = visited
 first_visits visited (square ∷ squares) = first_visits (if list_any (same_square square) visited then visited else visited ++ square ∷ []) squares

@@ -29,4 +29,4 @@ pub record IsClaimedRival (file rival : List ℕ) : Type 0 where
 pub record IsCanonicalText (file text : List ℕ) : Type 0 where
   pub rival : IsClaimedRival file text
   pub is : IsTextOfPattern rival.same.first text
-  pub least : (rival : List ℕ) → IsClaimedRival file rival → claimed_node_lines text ≤ claimed_node_lines rival
+  pub least : (other : List ℕ) → IsClaimedRival file other → claimed_node_lines text ≤ claimed_node_lines other

@@ -2,7 +2,7 @@
 -- breaks a rule. Of Golly Help are the first line, `#R`, `#G`, comments, the two kinds of node lines, their numbers, the order of the quarters, and
 -- that the last node is the root. This project's own are:
 --   the limits of lengths, levels and generations, the kinds and the order of their tests, and that a file without `#R` has the rule B3/S23;
---   blank lines and comments may stand after any line, `#R` and `#G` before the first node alone, and `#FRAME` nowhere;
+--   blank lines and comments may stand after any line, `#R` and `#G` before the first node alone, and no line begins with `#FRAME`;
 --   after `#R` and `#G` whitespace or the end of the line must follow: `#RB36/S23` and `#G7` are a rule and a generation in Golly, and comments here;
 --   whitespace at the ends of a node line counts for nothing, and any whitespace may stand between its numbers;
 --   in a leaf, cells of state 0 at the end of a row may be written, and `$` may be left out at the end;
@@ -112,7 +112,8 @@ with_macrocell_line file line =
     else if begins_with line (codes "#") then Ok file
     else (node_of (trim line) >>= λ node. with_node file.rule file.nodes node >>= λ nodes. Ok (record file { nodes = nodes }))
 
--- The first line begins with `[M2]`, and what follows on it is passed over. The rule is B3/S23 and the generation 0 until a line says another.
+-- The first line begins with `[M2]`, and what follows on it is passed over. (A file whose first line doesn't begin so is read as RLE, so that `NoHeader` never
+-- comes of this.) The rule is B3/S23 and the generation 0 until a line says another.
 abbrev pub first_line : List ℕ → Result ClaimedMacrocell Kind
 first_line line =
     if is_too_long line then Err LineTooLong

@@ -1,7 +1,7 @@
 -- Which rule a text names, or why it names none. Of Golly Help (QuickLife) are `B`D`/S`D, what its digits count, and `V` after it for the four
 -- orthogonal neighbours. The rest is this project's own: the four other forms, digits in any order and more than once, small letters, at most 255
 -- bytes, and the kinds with the order of their tests. Golly Help has more, which is refused: `:` (a bounded grid), `H` (six neighbours), births on 0,
--- and letters after a digit, or no `S`, where the text has a `/`. Every text of 1 to 255 visible bytes without `/` and `:` that is none of the five
+-- and, in a text with `/`, letters after a digit and a missing `S`. Every text of 1 to 255 visible bytes without `/` and `:` that is none of the five
 -- forms, with or without a letter `V` or `H` behind it, is a name, whatever it means in Golly.
 use Rattle.std.specs.Prelude.{ℕ, ◌+◌, ◌-◌, Bool, true, false, not, ◌&&◌, ◌||◌, List, [], ◌∷◌, ◌++◌, ◌==◌, length, take, drop, map, filter, nat_le, nat_lt, if◌then◌else◌, bytes_eq, codes, Option, Some, None, Result, Ok, Err}
 use Rattle.std.specs.Char.{is_ascii_graphic, to_ascii_uppercase}

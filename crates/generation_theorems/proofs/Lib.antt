@@ -1,0 +1,2 @@
+pub mod FurtherLaw
+mod Rows

@@ -1,0 +1,2 @@
+pub mod ManyGenerations
+pub mod Words

@@ -1,0 +1,4 @@
+pub mod LaterFacts
+mod TextFacts
+pub mod LawFacts
+mod Rows
