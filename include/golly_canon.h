@@ -157,7 +157,16 @@ uint32_t golly_canon_show(const unsigned char *bytes, size_t length, uint64_t li
 uint32_t golly_canon_step(const unsigned char *bytes, size_t length, uint64_t limit, uint64_t seed,
                           unsigned char *out, size_t room, size_t *needed, uint64_t *line);
 
-/* The same for a pattern under a name, by the rule table of that name: `table` is a .rule file. Under any other rule, a B/S rule too, the call returns
+/* The canonical text of the pattern of a file `generations` generations later, under its B/S rule, for any number of cells; of 0 generations it is the
+ * canonical text, whatever the rule is. NeedsTable if the rule is a name; GenerationTooLarge if the generation would be above 2^64 - 1; OutOfPlane if in
+ * one of the generations on the way a cell outside the plane isn't 0. A small file can be a machine that runs for ever, so no length of a file bounds the time
+ * and the squares that this takes: `limit` bounds the squares, and with them the memory (Full). If the text doesn't fit, the next call works it out again; a
+ * stream (golly_canon_open_step_generations) works it out once.
+ * The caller guarantees what golly_canon_canon names: `out` was written before, and neither `needed` nor `line` is NULL. */
+uint32_t golly_canon_step_generations(const unsigned char *bytes, size_t length, uint64_t generations, uint64_t limit, uint64_t seed,
+                                      unsigned char *out, size_t room, size_t *needed, uint64_t *line);
+
+/* The same as golly_canon_step for a pattern under a name, by the rule table of that name: `table` is a .rule file. Under any other rule, a B/S rule too, the call returns
  * RuleMismatch. `*in_table` is 1 if the table is refused; then `*line` is a line of the table. Otherwise `*in_table` is 0. With the status Ambiguous the
  * table was accepted, so `*in_table` is 0, but `*line` is the line of the table that gives two states.
  * The caller guarantees what golly_canon_canon names; `table_length` bytes to read at `table`, apart from all that is written; `*in_table` to write,
@@ -227,6 +236,7 @@ uint32_t golly_canon_open_canon(golly_canon_stream *stream, uint64_t limit, uint
 uint32_t golly_canon_open_to_rle(golly_canon_stream *stream, uint64_t limit, uint64_t seed);
 uint32_t golly_canon_open_show(golly_canon_stream *stream, uint64_t limit, uint64_t seed);
 uint32_t golly_canon_open_step(golly_canon_stream *stream, uint64_t limit, uint64_t seed);
+uint32_t golly_canon_open_step_generations(golly_canon_stream *stream, uint64_t generations, uint64_t limit, uint64_t seed);
 
 /* Opens a stream in the same way, for what golly_canon_canon_form gives of a whole file in this form. For a number of no form it returns NoForm, and
  * the stream is closed.

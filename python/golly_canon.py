@@ -73,6 +73,7 @@ _LINE, _FLAG, _STREAM = ctypes.POINTER(ctypes.c_uint64), ctypes.POINTER(ctypes.c
 _CALLS = {
     **{f"open_{it}": [_STREAM, _NUMBER, _NUMBER] for it in _GIVEN},
     "open_canon_form": [_STREAM, _FORM, _NUMBER, _NUMBER],
+    "open_step_generations": [_STREAM, _NUMBER, _NUMBER, _NUMBER],
     "feed": [_STREAM, *_BYTES, _LINE],
     "finish": [_STREAM, *_OUT, _LINE],
     "finish_key": [_STREAM, *_OUT, _LINE],
@@ -269,19 +270,24 @@ class Stream:
                 file.feed(chunk)
             text = file.finish()  # and file.finish_key()
 
-    `gives` says what comes of it: `canon`, `to_rle`, `show` or `step`; `form` is that of the text of `canon`. `limit` is the most different squares
-    that it may store: `14 * length + 264` suffices to read, with the length of all that is fed.
+    `gives` says what comes of it: `canon`, `to_rle`, `show` or `step`; `form` is that of the text of `canon`, and `generations` is how many `step` makes, as
+    the function `step` has it. `limit` is the most different squares that it may store: `14 * length + 264` suffices to read, with the length of all that is
+    fed.
     """
 
     _level = 2  # the caller of `finish`, to whom a warning goes
 
-    def __init__(self, gives: str = "canon", *, form: Form = "placed", limit: int = SQUARES) -> None:
+    def __init__(self, gives: str = "canon", *, form: Form = "placed", generations: Optional[int] = None, limit: int = SQUARES) -> None:
         self._watch = _Watch()
         self._struct, self._line, self._thread = _Struct(), ctypes.c_uint64(), threading.get_ident()
         if gives not in _GIVEN:
             raise ValueError(f"a stream gives canon, to_rle, show or step, and not {gives!r}")
+        if generations is not None and gives != "step":
+            raise ValueError(f"generations are for step, and not for {gives}")
         if gives == "canon":
             status = _library.golly_canon_open_canon_form(self._own(), _number_of(form), _limit_of(limit), _SEED)
+        elif generations is not None and form == "placed":
+            status = _library.golly_canon_open_step_generations(self._own(), _generations_of(generations), _limit_of(limit), _SEED)
         elif form == "placed":
             status = getattr(_library, f"golly_canon_open_{gives}")(self._own(), _limit_of(limit), _SEED)
         else:
@@ -346,6 +352,13 @@ def _limit_of(limit: int) -> int:
     return min(limit, 1 << 62)
 
 
+def _generations_of(generations: int) -> int:
+    """A number of generations as a call takes it."""
+    if not 0 <= generations < 1 << 64:
+        raise ValueError("generations are a number from 0 to 2^64 - 1")
+    return generations
+
+
 def _number_of(form: Form) -> int:
     """The number of a form."""
     if form not in _FORMS:
@@ -359,12 +372,14 @@ def _chunks_of(source: Union[BinaryIO, Iterable[Bytes]]) -> Iterator[Bytes]:
     return iter(source) if read is None else iter(lambda: read(_CHUNK), b"")
 
 
-def stream(source: Union[BinaryIO, Iterable[Bytes]], gives: str = "canon", *, form: Form = "placed", limit: int = SQUARES) -> bytes:
+def stream(source: Union[BinaryIO, Iterable[Bytes]], gives: str = "canon", *, form: Form = "placed", generations: Optional[int] = None,
+           limit: int = SQUARES) -> bytes:
     """The text of a file that comes in chunks: of a file that is open for reading in binary, or of an iterable of chunks.
 
-    `gives` is `canon`, `to_rle`, `show` or `step`; `form` is that of the text of `canon`. What it reads is not held. Raises `Refused`.
+    `gives` is `canon`, `to_rle`, `show` or `step`; `form` is that of the text of `canon`, and `generations` is how many `step` makes. What it reads is not
+    held. Raises `Refused`.
     """
-    return _streamed(source, gives, form, limit, 3)
+    return _streamed(source, gives, form, limit, 3, generations=generations)
 
 
 def stream_key(source: Union[BinaryIO, Iterable[Bytes]], form: Form = "placed", *, limit: int = SQUARES) -> bytes:
@@ -373,9 +388,9 @@ def stream_key(source: Union[BinaryIO, Iterable[Bytes]], form: Form = "placed", 
 
 
 def _streamed(source: Union[BinaryIO, Iterable[Bytes]], gives: str, form: Form, limit: int, level: int,
-              end: Callable[[Stream], bytes] = Stream.finish) -> bytes:
+              end: Callable[[Stream], bytes] = Stream.finish, *, generations: Optional[int] = None) -> bytes:
     """What the end of a stream gives, for a caller so many levels above."""
-    with Stream(gives, form=form, limit=limit) as file:
+    with Stream(gives, form=form, generations=generations, limit=limit) as file:
         file._level = level + 1
         for chunk in _chunks_of(source):
             file.feed(chunk)
@@ -452,11 +467,16 @@ def same(first: Bytes, second: Bytes, form: Form = "placed", *, limit: int = SQU
     return bool(is_same.value)
 
 
-def step(data: Bytes, table: Optional[Bytes] = None, *, limit: int = SQUARES) -> bytes:
+def step(data: Bytes, table: Optional[Bytes] = None, *, generations: Optional[int] = None, limit: int = SQUARES) -> bytes:
     """The canonical text of the next generation of the pattern of a file: without a table by its B/S rule, and of a pattern under a name by the rule
-    table of that name, the bytes of a .rule file. Raises `Refused`, also of a pattern that has no next generation."""
+    table of that name, the bytes of a .rule file. Raises `Refused`, also of a pattern that has no next generation.
+
+    With `generations` it is the text so many generations later by the B/S rule, from 0 to 2^64 - 1, of any number of cells. A small file can be a machine that
+    runs for ever: its time has no bound, and `limit` bounds its memory. A table makes one generation at a time."""
     if table is None:
-        return _streamed([data], "step", "placed", limit, 3)
+        return _streamed([data], "step", "placed", limit, 3, generations=generations)
+    if generations is not None:
+        raise ValueError("a table makes one generation at a time")
     file, rule, room, status = _bytes_of(data), _bytes_of(table), _CHUNK, _NO_ROOM
     needed, line, in_table = ctypes.c_size_t(), ctypes.c_uint64(), ctypes.c_uint32()
     while status == _NO_ROOM:  # the second time with the memory that the text needs

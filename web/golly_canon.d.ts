@@ -60,14 +60,17 @@ export function isSupported(): boolean;
 
 /**
  * Loads the library: from golly_canon.wasm beside this file, or from what is given. `memory` is the most memory that it may take, in bytes:
- * at most 4 GB, which is also what it may take if none is given.
+ * from 2 MB to 4,293,918,720, which is 4 GB less 1 MB. So much it may also take if none is given.
  */
 export function load(
   source?: WebAssembly.Module | BufferSource | Response | URL | string | Promise<WebAssembly.Module | BufferSource | Response>,
   options?: { memory?: number },
 ): Promise<Library>;
 
-/** The library. Each call throws `Refused`, or `Fault`; what it returns is the caller's. */
+/**
+ * The library. Each call throws `Refused`, or `Fault`; what it returns is the caller's. It throws a TypeError for options that aren't an object, or that have
+ * a member that the call doesn't know.
+ */
 export interface Library {
   readonly version: string;
   /** The canonical text of the pattern of a file, in a form. */
@@ -79,15 +82,21 @@ export interface Library {
   /** The pattern of a file in extended RLE, of up to 2^20 cells that aren't 0. */
   toRle(data: Data, options?: Limited): Uint8Array;
   show(data: Data, options?: Limited): Shown;
-  /** The canonical text of the next generation: by the B/S rule of the file, or by the rule table of its name, the bytes of a .rule file. */
-  step(data: Data, options?: Limited & { table?: Data }): Uint8Array;
+  /**
+   * The canonical text of the next generation: by the B/S rule of the file, or by the rule table of its name, the bytes of a .rule file. With `generations`, from
+   * 0 to 2^64 - 1, it is the text so many generations later by the B/S rule, of any number of cells. A small file can be a machine that runs for ever: its time
+   * has no bound, and `limit` bounds its memory.
+   */
+  step(data: Data, options?: Limited & ({ table?: Data } | { generations?: number | bigint })): Uint8Array;
   /** A stream for a file that comes in chunks: of its canonical text, which has a form, of its RLE, of the next generation, or of what it holds. */
   stream(options?: InForm & { gives?: "canon" }): Stream<Uint8Array>;
-  stream(options: Limited & { gives: "toRle" | "step" }): Stream<Uint8Array>;
+  stream(options: Limited & { gives: "toRle" }): Stream<Uint8Array>;
+  stream(options: Limited & { gives: "step"; generations?: number | bigint }): Stream<Uint8Array>;
   stream(options: Limited & { gives: "show" }): Stream<Shown>;
-  /** What comes of a file that is read to its end and not held. */
+  /** What comes of a file that is read to its end and not held. A response that isn't `ok` is an Error: it has a page of the server, and not the file. */
   read(source: Source, options?: InForm & Told & { gives?: "canon" }): Promise<Uint8Array>;
-  read(source: Source, options: Limited & Told & { gives: "toRle" | "step" }): Promise<Uint8Array>;
+  read(source: Source, options: Limited & Told & { gives: "toRle" }): Promise<Uint8Array>;
+  read(source: Source, options: Limited & Told & { gives: "step"; generations?: number | bigint }): Promise<Uint8Array>;
   read(source: Source, options: Limited & Told & { gives: "show" }): Promise<Shown>;
   /** The key of a file that is read to its end and not held: what `key` returns for the whole file. */
   readKey(source: Source, options?: InForm & Told): Promise<Uint8Array>;
@@ -96,6 +105,12 @@ export interface Library {
    * `Full` speaks of the limit that the program has. It throws a RangeError for a name that is no kind.
    */
   sentenceOf(kind: string): string;
+  /**
+   * What is odd about a file that is accepted, in a sentence, or null: a macrocell file whose first line has a carriage return inside it, or that has no line
+   * of squares, seems to have lost its line ends; and in one with a line such as `#RB36/S23` or `#G7` before its squares this is a comment, but a rule or a
+   * generation in Golly.
+   */
+  warningOf(data: Data): string | null;
 }
 
 /** Who is told how many bytes of a file were read. */
@@ -106,7 +121,10 @@ export interface Told {
 /** What a file is read from: a stream of bytes, a blob, a response, bytes, or chunks one behind another. */
 export type Source = ReadableStream<Uint8Array> | Blob | Response | Data | Iterable<Data> | AsyncIterable<Data>;
 
-/** A file that comes in chunks, cut anywhere, which need not be held. */
+/**
+ * A file that comes in chunks, cut anywhere, which need not be held. Its memory in the module is given back as soon as the file is refused or has ended.
+ * Then the stream keeps only the reason, or the text and its key.
+ */
 export interface Stream<Text> {
   /** Takes the next chunk. A line is refused with the chunk in which it ends; then each further chunk and the end are refused alike. */
   feed(chunk: Data): void;
@@ -114,6 +132,6 @@ export interface Stream<Text> {
   finish(): Text;
   /** Ends the file, and returns the key of its text: its SHA-256, 32 bytes. It can be called before `finish`, after it, and again. */
   finishKey(): Uint8Array;
-  /** Gives the memory of the stream back. A stream that is lost without it keeps its memory for as long as the library is there. */
+  /** Gives the memory of the stream back. Where a stream is lost that is neither closed nor ended, the engine closes it when it collects the object. */
   close(): void;
 }

@@ -8,6 +8,8 @@
  * A file is bytes in extended RLE or in macrocell. golly_canon.d.ts says what each call takes and answers.
  */
 
+import { Watch } from "./source.mjs";
+
 /** The limit of a call, if none is given: so many different squares, as the program has it. */
 export const SQUARES = 2 ** 31;
 
@@ -20,9 +22,17 @@ const NO_ROOM = 64;
 /** Bytes that are handed over at once, and bytes for an answer at first. */
 const CHUNK = 1 << 20;
 const FIRST_ROOM = 1 << 12;
-/** The pages of memory that the module wants at first, and the most that there can be, 64 KB each. */
+/** The pages of memory that the module wants at first, and the most that its heap takes (web/heap.c), 64 KB each. */
+const PAGE = 65536;
 const PAGES = 32;
-const MOST_PAGES = 65536;
+const MOST_PAGES = 65536 - 16;
+/** The bytes that the engine counts for a stream (see `weight`): at least, for each byte that is fed, and at most. */
+const LIGHTEST = 1 << 12;
+const WEIGHT = 16;
+const HEAVIEST = 1 << 24;
+/** The members that the options of a call may have. */
+const IN_FORM = ["form", "limit"];
+const OF_STREAM = ["gives", "generations", ...IN_FORM];
 /** A small module that has what the library's module needs: its function `f` clears memory, extends a sign, and returns the bigint it is given. */
 const NEEDED = Uint8Array.of(
   ...[0, 97, 115, 109, 1, 0, 0, 0, 1, 6, 1, 96, 1, 126, 1, 126, 3, 2, 1, 0, 5, 3, 1, 0, 1, 7, 5, 1, 1, 102, 0, 0],
@@ -58,12 +68,13 @@ export function isSupported() {
 }
 
 /** The library, from its module: the file beside this one, where none is given. */
-export async function load(source, options = {}) {
-  checkMemory(options.memory);
+export async function load(source, options) {
+  const { memory } = optionsOf(options, ["memory"]);
+  checkMemory(memory);
   if (!isSupported()) {
     throw new Error("the library can't run here: it needs WebAssembly with bulk memory operations and BigInt, and a page that allows WebAssembly");
   }
-  return new Library(await moduleOf(source ?? new URL("golly_canon.wasm", import.meta.url)), options);
+  return new Library(await moduleOf(source ?? new URL("golly_canon.wasm", import.meta.url)), memory);
 }
 
 /** The compiled module of a module, of bytes, of a response, or of an address. */
@@ -76,23 +87,52 @@ async function moduleOf(source) {
     return WebAssembly.compile(found);
   }
   const response = found instanceof Response ? found : await fetch(found);
-  if (!response.ok) {
-    throw new Error(`${response.url} can't be read: ${response.status}`);
-  }
+  checkResponse(response);
   return WebAssembly.compile(await response.arrayBuffer());
+}
+
+/** Refuses a response that has something else than what was asked for, as the page of a server that says that there is no such file. */
+function checkResponse(response) {
+  if (!response.ok) {
+    throw new Error(`${response.url || "the response"} can't be read: ${response.status}`);
+  }
 }
 
 /** What a value is, for the message of an error. */
 const shownValue = value => (typeof value === "bigint" || typeof value === "number" ? `${value}` : value === null ? "null" : typeof value);
 
+/** The options of a call: an object without other members than these, so that no form is passed over that was given in another way. */
+function optionsOf(options, members) {
+  if (options === undefined) {
+    return {};
+  }
+  const wanted = members.length === 1 ? `the member ${members[0]}` : `the members ${members.slice(0, -1).join(", ")} and ${members.at(-1)}`;
+  if (typeof options !== "object" || options === null || Symbol.iterator in options) {
+    throw new TypeError(`options is an object that may have ${wanted}, and not ${typeof options === "string" ? `"${options}"` : shownValue(options)}`);
+  }
+  for (const name in options) {
+    if (!members.includes(name)) {
+      throw new TypeError(`options may have ${wanted}, and not ${name}`);
+    }
+  }
+  return options;
+}
+
 /** Refuses a number of bytes that can't be the most memory of the module. */
 function checkMemory(memory) {
-  const least = Number(PAGES) * 65536;
+  const [least, most] = [PAGES * PAGE, MOST_PAGES * PAGE];
   if (memory !== undefined && typeof memory !== "number") {
     throw new TypeError(`memory is a number of bytes, and not ${shownValue(memory)}`);
   }
-  if (memory !== undefined && !(memory >= least && memory < Infinity)) {
-    throw new RangeError(`memory is a number of bytes, ${least} or more, and not ${memory}`);
+  if (memory !== undefined && !(memory >= least && memory <= most)) {
+    throw new RangeError(`memory is a number of bytes from ${least} to ${most}, and not ${memory}`);
+  }
+}
+
+/** Refuses what can't be told how far a file is read. */
+function checkProgress(onProgress) {
+  if (onProgress !== undefined && typeof onProgress !== "function") {
+    throw new TypeError(`onProgress is a function, and not ${shownValue(onProgress)}`);
   }
 }
 
@@ -134,6 +174,18 @@ function limitOf(limit) {
   return number < 1n << 62n ? number : 1n << 62n;
 }
 
+/** A number of generations as a call takes it. */
+function generationsOf(generations) {
+  if (typeof generations !== "number" && typeof generations !== "bigint") {
+    throw new TypeError(`generations is a number, and not ${shownValue(generations)}`);
+  }
+  const isExact = typeof generations === "bigint" || Number.isSafeInteger(generations);
+  if (!isExact || generations < 0 || generations >= 1n << 64n) {
+    throw new RangeError(`generations is a whole number from 0 to 2^64 - 1, above 2^53 - 1 a bigint, and not ${shownValue(generations)}`);
+  }
+  return BigInt(generations);
+}
+
 /** The number of a form. */
 function numberOf(form) {
   const number = FORMS.indexOf(form);
@@ -157,7 +209,10 @@ async function* chunksOf(source) {
     yield source;
     return;
   }
-  const chunks = source instanceof Blob ? source.stream() : source instanceof Response ? source.body : source;
+  if (source instanceof Response) {
+    checkResponse(source);
+  }
+  const chunks = source instanceof Blob ? source.stream() : source instanceof Response ? source.body ?? [] : source;
   if (!(chunks instanceof ReadableStream)) {
     checkChunks(chunks);
     yield* chunks;
@@ -180,6 +235,9 @@ class Instance {
   #calls;
   #memory;
   #told;
+  #room;
+  /** Closes the streams that nobody has any more. */
+  #forgotten = new FinalizationRegistry(struct => this.closed(struct));
 
   constructor(module, maximum) {
     this.#memory = new WebAssembly.Memory({ initial: PAGES, maximum });
@@ -217,6 +275,35 @@ class Instance {
   /** These bytes. They are other ones behind the next call, since the memory may grow. */
   bytes(at, length) {
     return new Uint8Array(this.#memory.buffer, Number(at), length);
+  }
+
+  /** The address of the memory in which each stream is handed its next bytes. */
+  room() {
+    this.#room ??= this.take(CHUNK);
+    return this.#room;
+  }
+
+  /** The address of the struct of a stream, opened by a call with these words. It is closed when `owner` is no longer there, if not before. */
+  opened(owner, name, ...words) {
+    const struct = this.take(16);
+    this.bytes(struct, 16).fill(0);
+    if (this.call(`golly_canon_open_${name}`, struct, ...words) !== 0) {
+      this.give(struct);
+      throw new Refused("Memory");
+    }
+    this.#forgotten.register(owner, struct, owner);
+    return struct;
+  }
+
+  /** Gives back what a stream has in the module. */
+  closed(struct, owner) {
+    if (owner !== undefined) {
+      this.#forgotten.unregister(owner);
+    }
+    if (!this.isLost) {
+      this.call("golly_canon_close", struct);
+      this.give(struct);
+    }
   }
 
   /** The address of a number that a call writes: 0 for `needed`, 1 for `line`, 2 for a flag. */
@@ -280,72 +367,115 @@ class Instance {
   }
 }
 
-/** A file that comes in chunks, cut anywhere, which need not be held. */
+/**
+ * Memory in place of what a stream has in the module after so many bytes. The engine doesn't count that, and would collect forgotten streams too late,
+ * when the module is full. It counts this memory, which is never written, so that the system need not provide it.
+ */
+function weight(before, length) {
+  const wanted = Math.min(WEIGHT * length, HEAVIEST);
+  if (wanted <= 2 * before.byteLength) {
+    return before;
+  }
+  try {
+    return new ArrayBuffer(wanted);
+  } catch {
+    return before; // the system hands out no such memory
+  }
+}
+
+/**
+ * A file that comes in chunks, cut anywhere, which need not be held. What it has in the module is given back as soon as the file is refused or has ended:
+ * then only the reason is kept, or the text and its key.
+ */
 class Stream {
   #instance;
   #gives;
+  #wanted;
   #struct;
-  #room;
+  /** How many bytes were fed, and memory that the engine counts as the stream's (see `weight`). */
+  #length = 0;
+  #weight = new ArrayBuffer(LIGHTEST);
+  /** Why the file is refused. */
+  #refused = null;
+  #text = null;
+  #key = null;
 
-  /** `form` is the number of a form, and 0 of what has no forms. */
-  constructor(instance, gives, form, limit, seed) {
+  /** `words` are the name of the call that opens it, and what it takes first. Where only the text or only the key is `wanted`, the other one isn't made. */
+  constructor(instance, gives, words, limit, seed, wanted = "both") {
     this.#instance = instance;
     this.#gives = gives;
-    this.#struct = instance.take(16);
-    instance.bytes(this.#struct, 16).fill(0);
+    this.#wanted = wanted;
+    instance.room(); // where there is no memory for it, the stream isn't opened
+    this.#struct = instance.opened(this, ...words, limitOf(limit), seed);
+  }
+
+  #release() {
+    if (this.#struct !== undefined) {
+      this.#instance.closed(this.#struct, this);
+      this.#struct = this.#weight = undefined;
+    }
+  }
+
+  /** Makes a call of the stream. Where the file is refused, nothing of it is kept but why. */
+  #called(act) {
+    if (this.#refused !== null) {
+      const { kind, line, inTable } = this.#refused;
+      throw new Refused(kind, line, inTable);
+    }
+    if (this.#struct === undefined) {
+      throw new Refused("Spent");
+    }
     try {
-      this.#room = instance.take(CHUNK);
-      const words = form === 0 ? [STREAMS[gives], this.#struct] : ["canon_form", this.#struct, form];
-      const status = instance.call(`golly_canon_open_${words[0]}`, ...words.slice(1), limitOf(limit), seed);
-      if (status !== 0) {
-        throw new Refused("Memory");
-      }
+      act(this.#instance, this.#struct);
     } catch (why) {
-      this.close();
+      if (why instanceof Refused) {
+        this.#refused = why;
+        this.#release();
+      }
       throw why;
     }
   }
 
-  #open() {
-    if (this.#struct === undefined) {
-      throw new Refused("Spent");
-    }
+  feed(chunk) {
+    const bytes = bytesOf(chunk, "chunk");
+    this.#called((instance, struct) => {
+      this.#length += bytes.length;
+      this.#weight = weight(this.#weight, this.#length);
+      for (let at = 0; at < bytes.length; at += CHUNK) {
+        const piece = bytes.subarray(at, at + CHUNK);
+        instance.bytes(instance.room(), piece.length).set(piece);
+        const status = instance.call("golly_canon_feed", struct, instance.room(), BigInt(piece.length), instance.place(1));
+        if (status !== 0) {
+          throw instance.refused(status);
+        }
+      }
+    });
   }
 
-  feed(chunk) {
-    this.#open();
-    const bytes = bytesOf(chunk, "chunk");
-    for (let at = 0; at < bytes.length; at += CHUNK) {
-      const piece = bytes.subarray(at, at + CHUNK);
-      this.#instance.bytes(this.#room, piece.length).set(piece);
-      const status = this.#instance.call("golly_canon_feed", this.#struct, this.#room, BigInt(piece.length), this.#instance.place(1));
-      if (status !== 0) {
-        throw this.#instance.refused(status);
-      }
+  /** Ends the file, where it hasn't ended. */
+  #end() {
+    if (this.#text === null && this.#key === null) {
+      this.#called((instance, struct) => {
+        this.#key = this.#wanted === "text" ? null : instance.text("finish_key", [struct], [1]);
+        this.#text = this.#wanted === "key" ? null : instance.text("finish", [struct], [1]);
+      });
+      this.#release();
     }
   }
 
   finish() {
-    this.#open();
-    const text = this.#instance.text("finish", [this.#struct], [1]);
-    return this.#gives === "show" ? shownOf(text) : text;
+    this.#end();
+    return this.#gives === "show" ? shownOf(this.#text) : this.#wanted === "text" ? this.#text : this.#text.slice();
   }
 
   finishKey() {
-    this.#open();
-    const digits = new TextDecoder().decode(this.#instance.text("finish_key", [this.#struct], [1]));
-    return Uint8Array.from(digits.match(/../g), it => Number.parseInt(it, 16));
+    this.#end();
+    return Uint8Array.from(new TextDecoder().decode(this.#key).match(/../g), it => Number.parseInt(it, 16));
   }
 
   close() {
-    if (!this.#instance.isLost && this.#struct !== undefined) {
-      this.#instance.call("golly_canon_close", this.#struct);
-      this.#instance.give(this.#struct);
-      if (this.#room !== undefined) {
-        this.#instance.give(this.#room);
-      }
-    }
-    this.#struct = this.#room = undefined;
+    this.#release();
+    this.#refused = this.#text = this.#key = null;
   }
 }
 
@@ -356,9 +486,9 @@ class Library {
   #instance;
   #seed = crypto.getRandomValues(new BigUint64Array(1))[0]; // so that no file can be made that takes long to read
 
-  constructor(module, { memory } = {}) {
+  constructor(module, memory) {
     this.#module = module;
-    this.#maximum = memory === undefined ? undefined : Math.min(Math.ceil(memory / 65536), MOST_PAGES);
+    this.#maximum = memory === undefined ? undefined : Math.floor(memory / PAGE);
     this.version = new TextDecoder().decode(this.#here().text("version", [], []));
   }
 
@@ -369,10 +499,23 @@ class Library {
     return this.#instance;
   }
 
+  /** A stream with these options, of which only so much is wanted. */
+  #opened({ gives = "canon", form = "placed", generations, limit = SQUARES }, wanted) {
+    if (!Object.hasOwn(STREAMS, gives) || (gives !== "canon" && form !== "placed")) {
+      throw new RangeError(`gives is canon in any form, or ${Object.keys(STREAMS).slice(1).join(", ")} as placed, and not ${gives} ${form}`);
+    }
+    if (generations !== undefined && gives !== "step") {
+      throw new RangeError(`generations are for step, and not for ${gives}`);
+    }
+    const number = numberOf(form);
+    const words = generations !== undefined ? ["step_generations", generationsOf(generations)] : number === 0 ? [STREAMS[gives]] : ["canon_form", number];
+    return new Stream(this.#here(), gives, words, limit, this.#seed, wanted);
+  }
+
   /** What a stream gives of one file. */
   #whole(data, options) {
     const bytes = bytesOf(data);
-    const file = this.stream(options);
+    const file = this.#opened(options, "text");
     try {
       file.feed(bytes);
       return file.finish();
@@ -381,16 +524,18 @@ class Library {
     }
   }
 
-  canon(data, { form, limit } = {}) {
-    return this.#whole(data, { gives: "canon", form, limit });
+  canon(data, options) {
+    return this.#whole(data, optionsOf(options, IN_FORM));
   }
 
-  key(data, { form = "placed", limit = SQUARES } = {}) {
+  key(data, options) {
+    const { form = "placed", limit = SQUARES } = optionsOf(options, IN_FORM);
     const here = this.#here();
     return here.lent([bytesOf(data)], (...file) => here.text("key", [...file, numberOf(form), limitOf(limit), this.#seed], [1]));
   }
 
-  same(first, second, { form = "placed", limit = SQUARES } = {}) {
+  same(first, second, options) {
+    const { form = "placed", limit = SQUARES } = optionsOf(options, IN_FORM);
     const here = this.#here();
     return here.lent([bytesOf(first, "first"), bytesOf(second, "second")], (...files) => {
       const status = here.call("golly_canon_same_form", ...files, numberOf(form), limitOf(limit), this.#seed, here.place(2), here.place(1));
@@ -401,44 +546,46 @@ class Library {
     });
   }
 
-  toRle(data, { limit } = {}) {
-    return this.#whole(data, { gives: "toRle", limit });
+  toRle(data, options) {
+    return this.#whole(data, { ...optionsOf(options, ["limit"]), gives: "toRle" });
   }
 
-  show(data, { limit } = {}) {
-    return this.#whole(data, { gives: "show", limit });
+  show(data, options) {
+    return this.#whole(data, { ...optionsOf(options, ["limit"]), gives: "show" });
   }
 
-  step(data, { table, limit = SQUARES } = {}) {
+  step(data, options) {
+    const { table, generations, limit = SQUARES } = optionsOf(options, ["table", "generations", "limit"]);
     if (table === undefined) {
-      return this.#whole(data, { gives: "step", limit });
+      return this.#whole(data, { gives: "step", generations, limit });
+    }
+    if (generations !== undefined) {
+      throw new RangeError("a table makes one generation at a time");
     }
     const here = this.#here();
     return here.lent([bytesOf(data), bytesOf(table, "table")], (...files) => here.text("step_by_table", [...files, limitOf(limit), this.#seed], [1, 2]));
   }
 
-  stream({ gives = "canon", form = "placed", limit = SQUARES } = {}) {
-    if (!Object.hasOwn(STREAMS, gives) || (gives !== "canon" && form !== "placed")) {
-      throw new RangeError(`gives is canon in any form, or ${Object.keys(STREAMS).slice(1).join(", ")} as placed, and not ${gives} ${form}`);
-    }
-    return new Stream(this.#here(), gives, numberOf(form), limit, this.#seed);
+  stream(options) {
+    return this.#opened(optionsOf(options, OF_STREAM));
   }
 
-  async read(source, { onProgress, ...options } = {}) {
-    return this.#ended(source, options, onProgress, file => file.finish());
+  async read(source, options) {
+    return this.#ended(source, optionsOf(options, [...OF_STREAM, "onProgress"]), "text", file => file.finish());
   }
 
-  async readKey(source, { form, limit, onProgress } = {}) {
-    return this.#ended(source, { form, limit }, onProgress, file => file.finishKey());
+  async readKey(source, options) {
+    return this.#ended(source, optionsOf(options, [...IN_FORM, "onProgress"]), "key", file => file.finishKey());
   }
 
   /** What the end of a stream gives that is fed what a source has. */
-  async #ended(source, options, onProgress, end) {
-    const file = this.stream(options);
+  async #ended(source, { onProgress, ...options }, wanted, end) {
+    checkProgress(onProgress);
+    const file = this.#opened(options, wanted);
     let length = 0;
     try {
       for await (const chunk of chunksOf(source)) {
-        const bytes = bytesOf(chunk);
+        const bytes = bytesOf(chunk, "chunk");
         file.feed(bytes);
         length += bytes.length;
         onProgress?.(length);
@@ -447,6 +594,12 @@ class Library {
     } finally {
       file.close();
     }
+  }
+
+  warningOf(data) {
+    const watch = new Watch();
+    watch.take(bytesOf(data));
+    return watch.warning || null;
   }
 
   sentenceOf(kind) {

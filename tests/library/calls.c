@@ -97,6 +97,8 @@ IN_FORM(turned, golly_canon_canon_form, GOLLY_CANON_TURNED)
 IN_FORM(key, golly_canon_key, GOLLY_CANON_PLACED)
 IN_FORM(key_moved, golly_canon_key, GOLLY_CANON_MOVED)
 IN_FORM(key_turned, golly_canon_key, GOLLY_CANON_TURNED)
+/* And twelve generations, which are two leaps. */
+IN_FORM(later, golly_canon_step_generations, 12)
 
 static text_call *call_of(const char *word)
 {
@@ -104,7 +106,7 @@ static text_call *call_of(const char *word)
         const char *word;
         text_call *call;
     } all[] = {{"canon", golly_canon_canon}, {"show", golly_canon_show}, {"rle", golly_canon_to_rle}, {"step", golly_canon_step},
-               {"moved", moved}, {"turned", turned}, {"key", key}, {"key_moved", key_moved}, {"key_turned", key_turned}};
+               {"later", later}, {"moved", moved}, {"turned", turned}, {"key", key}, {"key_moved", key_moved}, {"key_turned", key_turned}};
     size_t i;
     for (i = 0; i < sizeof all / sizeof *all; i++)
         if (!strcmp(all[i].word, word))
@@ -199,6 +201,11 @@ static uint32_t open_turned(golly_canon_stream *stream, uint64_t limit, uint64_t
     return golly_canon_open_canon_form(stream, GOLLY_CANON_TURNED, limit, seed);
 }
 
+static uint32_t open_later(golly_canon_stream *stream, uint64_t limit, uint64_t seed)
+{
+    return golly_canon_open_step_generations(stream, 12, limit, seed);
+}
+
 static int stream(const char *word, const char *name, size_t size)
 {
     static char in[1 << 16];
@@ -206,6 +213,7 @@ static int stream(const char *word, const char *name, size_t size)
     open_call *open = !strcmp(word, "canon") || !strcmp(word, "keys") ? golly_canon_open_canon
         : !strcmp(word, "show")                                      ? golly_canon_open_show
         : !strcmp(word, "rle")                                       ? golly_canon_open_to_rle
+        : !strcmp(word, "later")                                     ? open_later
         : !strcmp(word, "moved") || !strcmp(word, "keys_moved")      ? open_moved
         : !strcmp(word, "turned") || !strcmp(word, "keys_turned")    ? open_turned
                                                                      : golly_canon_open_step;

@@ -101,6 +101,25 @@ static void texts(void)
     check(is_fault(golly_canon_step(BYTES(WIRE), LIMIT, SEED, fresh(), WIDE, &needed, &line), GOLLY_CANON_NEEDS_TABLE, 0), "step wants a table for a name");
     check(is_fault(golly_canon_step(BYTES("x = 1, y = 1\n\n0o!\n"), LIMIT, SEED, fresh(), WIDE, &needed, &line), GOLLY_CANON_ZERO_COUNT, 3),
           "step names the line of a refused file");
+
+    check(is_text(golly_canon_step_generations(BYTES("x = 3, y = 1\n3o!\n"), 1000001, LIMIT, SEED, fresh(), WIDE, &needed, &line),
+                  "[M2] (canonical 1)\n#R B3/S23\n#G 1000001\n$$$.....*$.....*$.....*$$$\n") && line == 0,
+          "step_generations gives a later generation");
+    check(is_text(golly_canon_step_generations(BYTES(WIRE), 0, LIMIT, SEED, fresh(), WIDE, &needed, &line),
+                  "[M2] (canonical 1)\n#R Spread\n1 0 0 0 2\n") && line == 0,
+          "no generation gives the canonical text, under a name too");
+    check(golly_canon_step_generations(BYTES("x = 3, y = 1\n3o!\n"), 7, LIMIT, SEED, fresh(), 10, &needed, &line) == GOLLY_CANON_NO_ROOM
+              && untouched_from(0), "step_generations may lack room");
+    check(is_fault(golly_canon_step_generations(BYTES(WIRE), 1, LIMIT, SEED, fresh(), WIDE, &needed, &line), GOLLY_CANON_NEEDS_TABLE, 0),
+          "step_generations takes no name");
+    check(is_fault(golly_canon_step_generations(BYTES("#CXRLE Gen=1\nx = 1, y = 1\no!\n"), UINT64_MAX, LIMIT, SEED, fresh(), WIDE, &needed, &line),
+                   GOLLY_CANON_GENERATION_TOO_LARGE, 0), "the last generation is 2^64 - 1");
+    check(is_fault(golly_canon_step_generations(BYTES("#CXRLE Pos=0,2305843009213693951\nx = 3, y = 1\n3o!\n"), 2, LIMIT, SEED, fresh(), WIDE, &needed,
+                                                &line), GOLLY_CANON_OUT_OF_PLANE, 0), "a cell that leaves the plane and comes back is out of it");
+    check(is_fault(golly_canon_step_generations(BYTES("x = 1, y = 1\n\n0o!\n"), 5, LIMIT, SEED, fresh(), WIDE, &needed, &line),
+                   GOLLY_CANON_ZERO_COUNT, 3), "step_generations names the line of a refused file");
+    check(is_fault(golly_canon_step_generations(BYTES(GLIDER), 1000, 30, SEED, fresh(), WIDE, &needed, &line), GOLLY_CANON_FULL, 0),
+          "step_generations keeps to the limit");
 }
 
 static void tables(void)
@@ -732,6 +751,7 @@ static void no_bytes(void)
     TWICE("to_rle", golly_canon_to_rle(none, 0, LIMIT, SEED, none, 0, &needed[turn], &at[turn]));
     TWICE("show", golly_canon_show(none, 0, LIMIT, SEED, none, 0, &needed[turn], &at[turn]));
     TWICE("step", golly_canon_step(none, 0, LIMIT, SEED, none, 0, &needed[turn], &at[turn]));
+    TWICE("step_generations", golly_canon_step_generations(none, 0, 9, LIMIT, SEED, none, 0, &needed[turn], &at[turn]));
     TWICE("step_by_table, no pattern",
           golly_canon_step_by_table(none, 0, BYTES(SPREAD), LIMIT, SEED, none, 0, &needed[turn], &at[turn], &in_table[turn]));
     TWICE("same", golly_canon_same(none, 0, none, 0, LIMIT, SEED, &same[turn], &at[turn]));

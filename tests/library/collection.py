@@ -1,13 +1,15 @@
 #!/usr/bin/env python3
-"""examples/collection.py: its table, duplicates and refusals, of files and of archives; the same table from a cluster of this machine where a worker is
-killed in the middle of a share, and where the scheduler is killed and another one starts; a share that is done twice, and one that kills each worker;
-and a run that is cut off or interrupted, and goes on. A named pipe in the list holds a worker until the test writes the pattern into it, so nothing hangs on how fast
+"""examples/collection.py: its table, duplicates and refusals, of files and of archives; names that are hard to write; what it says of files of other
+formats, and of those that can't be read; an output that takes no more; the same table from a cluster of this machine where a worker is killed in the
+middle of a share, and where the scheduler is killed and another one starts; a share that is done twice, and one that kills each worker; and a run that
+is cut off or interrupted, and goes on. A named pipe in the list holds a worker until the test writes the pattern into it, so nothing hangs on how fast
 the machine is. Where no Python here has Dask, what takes it is skipped. The library is linked from ARCHIVE, which tests/library/library.sh leaves;
 without one PYTHONPATH names the module golly_canon, and that finds the library. The last line is 'N passed, M failed'.
 
 usage: tests/library/collection.py [ARCHIVE]"""
 
 import contextlib
+import errno
 import gzip
 import hashlib
 import io
@@ -47,7 +49,7 @@ CHILD = b"[M2]\n#R B3/S23\n....*$$$$$$$$\n4 0 0 0 9\n"
 HELD = "held.rle"  # the named pipe
 WITHOUT_DASK = ["--workers", "0"]
 running = []  # what was started, each in a session of its own, which ends with the test
-ROWS = "SELECT path, member, key, kind, line, why FROM file ORDER BY id"
+ROWS = "SELECT path, member, placed, moved, turned, kind, line, why FROM file ORDER BY id"
 
 
 # ---- the files: each pattern has a row of eight cells, and below it the bits of its number
@@ -190,18 +192,32 @@ def of_one_process(paths):
     check(status == 0, f"without Dask: status {status}, {errors}")
     found = rows("alone.sqlite")
     check([it[0] for it in found] == paths, "a row for each file, in the order of the list")
-    keys = {it[0]: it[2] for it in found}
-    check(keys["glider.rle"] == keys[HELD] == GLIDER_KEY, "the key of a glider is the SHA-256 of its text")
+    keys = {it[0]: it[2:5] for it in found}
+    check(keys["glider.rle"] == keys[HELD] and keys[HELD][:2] == (GLIDER_KEY, GLIDER_KEY), "the key of a glider is the SHA-256 of its text")
     patterns = [[keys[f"{number:03}{part}.rle"] for part in "abc"] for number in range(PATTERNS)]
-    check(all(a == b and a and c and a != c for a, b, c in patterns), "two spellings have one key, and the pattern elsewhere another one")
-    check(len({a for a, _, _ in patterns}) == len({c for _, _, c in patterns}) == PATTERNS, "each pattern has a key of its own")
+    check(all(a == b and all(a) and a[0] != c[0] and a[1:] == c[1:] for a, b, c in patterns), "two files of a pattern, and the pattern elsewhere")
+    check(all(len({it[form] for it, _, _ in patterns}) == PATTERNS for form in range(2)), "each pattern has keys of its own")
     refused = [it[1:] for it in found if it[0].endswith(".mc")]
     why = "line 4: BadChild: A child number doesn't refer to an earlier square one level down."
-    check(refused == [(None, None, "BadChild", 4, why)] * 4, f"refusals: {refused}")
-    wanted = ["glider.rle = held.rle"] + [f"{number:03}a.rle = {number:03}b.rle" for number in range(PATTERNS)]
-    check(output.splitlines() == wanted, f"the duplicates: {output[:200]}")
-    counts = "collection: 306 files, 302 keys, 4 refused, 0 unread, 201 patterns, 101 groups\n"
+    check(refused == [(None, None, None, None, "BadChild", 4, why)] * 4, f"refusals: {refused}")
+    wanted = ["glider.rle = held.rle"] + [f"{number:03}a.rle = {number:03}{part}.rle" for number in range(PATTERNS) for part in "bc"]
+    check(output.splitlines() == wanted, f"the duplicates, wherever they are: {output[:200]}")
+    counts = "collection: 306 files, 302 keys, 4 refused, 0 unread, 101 patterns, 101 groups in the form moved\n"
     check(errors == counts, f"the counts: {errors}")
+    for at, form in enumerate(("placed", "moved", "turned"), 2):
+        # No file is read again: nobody writes into the pipe.
+        status, output, errors = end_of(started(sys.executable, "alone.sqlite", *WITHOUT_DASK, "--form", form))
+        groups = {}
+        for it in found:
+            if it[at]:
+                groups.setdefault(it[at], []).append(it[0])
+        wanted = [f"{first} = {other}" for first, *others in groups.values() for other in others]
+        check(status == 0 and output.splitlines() == wanted, f"the duplicates of the same table, {form}: status {status}, {output[:200]}")
+        counted = f"{len(groups)} patterns, {sum(len(it) > 1 for it in groups.values())} groups in the form {form}"
+        check(errors == f"collection: 306 files, 302 keys, 4 refused, 0 unread, {counted}\n", f"the counts, {form}: {errors}")
+        with contextlib.closing(sqlite3.connect("alone.sqlite")) as it:
+            names = it.execute("SELECT path FROM duplicates WHERE form = ? ORDER BY first, id", (form,)).fetchall()
+        check([it for it, in names] == [it for group in groups.values() if len(group) > 1 for it in group], f"the view of the duplicates, {form}: {names}")
     return found
 
 
@@ -226,7 +242,7 @@ def of_archives(paths):
     with open("all.tar", "rb") as whole, open("cut.tar", "wb") as cut:
         cut.write(whole.read(20_000))
     status, _, _ = ran("--archive", "--table", "cut_tar.sqlite", *WITHOUT_DASK, "cut.tar", "glider.rle", "no such.zip")
-    kinds = [(it[0], it[3]) for it in rows("cut_tar.sqlite") if it[3] == "ReadFault"]
+    kinds = [(it[0], it[5]) for it in rows("cut_tar.sqlite") if it[5] == "ReadFault"]
     check(status == 1 and kinds[-2:] == [("glider.rle", "ReadFault"), ("no such.zip", "ReadFault")], f"what is no archive: status {status}, {kinds}")
     check(kinds[0][0] == "cut.tar" and len(rows("cut_tar.sqlite")) > len(kinds), "an archive that is cut gives what stands before")
 
@@ -247,18 +263,197 @@ def of_page():
 def of_unread():
     """A file that can't be read is tried again by the next run."""
     words = ["--table", "late.sqlite", *WITHOUT_DASK, "glider.rle", "late.rle"]
-    status, _, _ = ran(*words)
+    status, _, errors = ran(*words)
     found = rows("late.sqlite")
-    check(status == 1 and found[1][:5] == ("late.rle", None, None, "ReadFault", None), f"a file that isn't there: status {status}, {found}")
+    wanted = ("late.rle", None, None, None, None, "ReadFault", None, "no such file")
+    check(status == 1 and found[1] == wanted, f"a file that isn't there: status {status}, {found}")
+    said = ["collection: unread: late.rle: no such file", "collection: 2 files, 1 keys, 0 refused, 1 unread, 1 patterns, 0 groups in the form moved"]
+    check(errors.splitlines() == said, f"why it isn't read: {errors}")
     shutil.copy("glider.rle", "late.rle")
     status, output, _ = ran(*words)
     check(status == 0 and output == "glider.rle = late.rle\n" and rows("late.sqlite")[1][2] == GLIDER_KEY, f"it is there: status {status}, {output}")
+    os.mkdir("inner")
+    os.symlink("round", "round")
+    with open("cut.gz", "wb") as it:
+        it.write(gzip.compress(GLIDER)[:20])
+    status, _, errors = ran("--table", "unread.sqlite", *WITHOUT_DASK, "--from", "-", given="inner\nround\ncut.gz\nlate.rle/x\n")
+    whys = ["is a folder", "Too many levels of symbolic links", "Compressed file ended before the end-of-stream marker was reached", "Not a directory"]
+    said = [f"collection: unread: {name}: {why}" for name, why in zip(("inner", "round", "cut.gz", "late.rle/x"), whys)]
+    check(status == 1 and errors.splitlines()[:-1] == said, f"why files aren't read: status {status}, {errors}")
+    refused = collection.words_of_fault(OSError(errno.EILSEQ, "Invalid or incomplete multibyte or wide character"), b"\xff")
+    check(refused == "the name isn't UTF-8 text", f"a name that the system refuses: {refused}")
+
+
+# ---- names
+
+# Names, and how they are written.
+NAMES = {
+    b"names/a\nb.rle": "names/a\\nb.rle",
+    b"names/\xff.rle": "names/\\xff.rle",
+    b"names/\\xff.rle": "names/\\\\xff.rle",
+    b"names/\x1b]0;t\x07\x1b[31mx\r\x7f": "names/\\x1b]0;t\\x07\\x1b[31mx\\r\\x7f",
+    "names/\u202egnp.rle \u2066\u061c\u200e\u2028\x9b":
+        "names/\\xe2\\x80\\xaegnp.rle \\xe2\\x81\\xa6\\xd8\\x9c\\xe2\\x80\\x8e\\xe2\\x80\\xa8\\xc2\\x9b",
+    "names/\u00e9 \u4e2d \U0001f600 \u200d": "names/\u00e9 \u4e2d \U0001f600 \u200d",
+    b"names/a = b": "names/a = b",
+    b"names/a =": "names/a =",
+    b"names/a=b": "names/a=b",
+    b"names/caf\xe9 = x": "names/caf\\xe9 = x",
+}
+NAMES = {name if isinstance(name, bytes) else name.encode(): text for name, text in NAMES.items()}
+
+
+def of_names():
+    """Names that are no text, or would do something to a terminal or to a line, of files and of members: the same in each locale. Each text says which name
+    it was, and two names have two texts."""
     os.mkdir("names")
-    for name in (b"names/a\nb.rle", b"names/\xff.rle"):
+    for name in NAMES:
         shutil.copy("glider.rle", name)
-    names = os.fsdecode(b"names/a\nb.rle\0names/\xff.rle\0")
-    status, _, errors = ran("--table", "names.sqlite", "--from", "-", *WITHOUT_DASK, given=names)
-    check(status == 0 and [it[0] for it in rows("names.sqlite")] == ["names/a\nb.rle", "names/\\xff.rle"], f"names: {errors}")
+    every = [bytes([first, second]) for first in range(256) for second in range(256)] + [*NAMES]
+    texts = [collection.text_of(it) for it in every]
+    check([collection.name_of(it) for it in texts] == every and len(set(texts)) == len(every), "a name is what its text says")
+    check(not any(re.search("[\\0-\x1f\x7f-\x9f\u202e]", it) for it in texts), "no text has a control character")
+    given, names = b"\0".join(NAMES), list(NAMES)
+    locales = ({}, {"LC_ALL": "C", "PYTHONUTF8": "0", "PYTHONCOERCECLOCALE": "0"}, {"LC_ALL": "C.UTF-8"}, {"PYTHONUTF8": "1"}, {"PYTHONIOENCODING": "latin-1"})
+    for number, variables in enumerate(locales):
+        table = f"names{number}.sqlite"
+        status, output, errors = ran("--table", table, "--from", "-", *WITHOUT_DASK, given=os.fsdecode(given), **variables)
+        found = rows(table)
+        is_right = [it[0] for it in found] == list(NAMES.values()) and all(it[2] == GLIDER_KEY for it in found)
+        check(status == 0 and is_right, f"names, {variables}: {errors} {found}")
+        parts = [line.split(" = ") for line in output.splitlines()]
+        own = [tuple(map(collection.name_of, it)) for it in parts]
+        check(own == [(names[0], it) for it in names[1:]], f"the lines of names, {variables}: {output}")
+        command = [sys.executable, "-B", PROGRAM, "--table", table, "--from", "-", "--zero", *WITHOUT_DASK]
+        own = subprocess.run(command, input=given, stdout=subprocess.PIPE, env={**os.environ, **variables}, check=False).stdout.split(b"\0")
+        check(own == [part for it in names[1:] for part in (names[0], it)] + [b""], f"the names themselves, {variables}: {own}")
+    status, _, errors = ran("--table", "absent.sqlite", "--from", "-", *WITHOUT_DASK, given=os.fsdecode(b"no/\xff\x1b\n"))
+    check(status == 1 and errors.startswith("collection: unread: no/\\xff\\x1b: no such file\n"), f"a name that isn't there: {errors!r}")
+    with tarfile.open("names.tar", "w", encoding="utf-8", errors="surrogateescape") as it:
+        for name in NAMES:
+            it.add(os.fsdecode(name))
+    with zipfile.ZipFile("names.zip", "w") as it:
+        it.write("glider.rle", "caf\u00e9\x1b.rle")
+        it.write("glider.rle", "old.rle")
+    with open("names.zip", "rb") as it:
+        data = it.read()
+    with open("oem.zip", "wb") as it:  # a name of which no flag says that it is UTF-8
+        it.write(data.replace(b"old.rle", b"\x82ld.rle"))
+    with open("wrong.zip", "wb") as it:  # one that says so, and isn't
+        it.write(data.replace("\u00e9".encode(), b"\xff\xfe"))
+    status, _, errors = ran("--archive", "--table", "archived.sqlite", *WITHOUT_DASK, "names.tar", "oem.zip", "wrong.zip", "names.zip")
+    found = [it[:2] + it[5:] for it in rows("archived.sqlite")]
+    wanted = [("names.tar", it) for it in NAMES.values()] + [("oem.zip", "caf\u00e9\\x1b.rle"), ("oem.zip", "\u00e9ld.rle")]
+    wanted = [(*it, None, None, None) for it in wanted] + [("wrong.zip", None, "ReadFault", None, "a name in the archive isn't UTF-8 text")]
+    wanted += [("names.zip", it, None, None, None) for it in ("caf\u00e9\\x1b.rle", "old.rle")]
+    check(status == 1 and found == wanted, f"names in archives: status {status}, {errors}, {found}")
+    status, _, errors = ran("--table", "odd.sqlite", *WITHOUT_DASK, "glider.rle", "--\x1b[31mx")
+    check(status == 2 and "\x1b" not in errors and "\\x1b[31mx" in errors, f"an argument that isn't understood: {errors!r}")
+
+
+# ---- files of other formats
+
+# Files, by their names, and what their row says at its end.
+GOLLY = "open it in Golly, and save it as RLE or as a macrocell file."
+FORMATS = {
+    "packed.bz2": (b"BZh91AY&SY", "This is a bzip2 file: unpack it first, with bunzip2."),
+    "packed.xz": (b"\xfd7zXZ\0\0", "This is an xz file: unpack it first, with unxz."),
+    "packed.zst": (b"\x28\xb5\x2f\xfd\x04\0", "This is a zstd file: unpack it first, with unzstd."),
+    "packed.7z": (b"7z\xbc\xaf'\x1c\0\x04", "This is a 7z file: unpack it first, with 7z."),
+    "packed.rar": (b"Rar!\x1a\x07\x01\0", "This is a rar file: unpack it first, with unrar."),
+    "twice.gz": (gzip.compress(gzip.compress(GLIDER)), "This is a gzip file: unpack it first, with gunzip."),
+    "image.png": (b"\x89PNG\r\n\x1a\n\0\0\0\rIHDR", "This is an image, not a pattern file."),
+    "image.gif": (b"GIF89a\x01\0", "This is an image, not a pattern file."),
+    "image.jpg": (b"\xff\xd8\xff\xe0\0\x10JFIF", "This is an image, not a pattern file."),
+    "image.bmp": (b"BM\x46\0\0\0\0\0", "This is an image, not a pattern file."),
+    "image.webp": (b"RIFF\x1a\0\0\0WEBPVP8 ", "This is an image, not a pattern file."),
+    "image.tif": (b"II*\0\x08\0", "This is an image, not a pattern file."),
+    "paper.pdf": (b"%PDF-1.4\n", "This is a PDF file, so it is no pattern file."),
+    "binary": (b"\x7fELF\x02\x01\x01\0\n", "This isn't a text file, so it is no pattern file."),
+    "page.html": (b"\n<!DOCTYPE html>\n", "This is a web page (HTML): download the file that it links to."),
+    "packed page": (gzip.compress(b"<html>"), "This is a web page (HTML): download the file that it links to."),
+    "none": (b"", "The file is empty: save it or download it again."),
+    "marked": (b"\xef\xbb\xbfx = 1, y = 1\no!\n", "The file begins with a UTF-8 byte order mark: remove it, or save the file as UTF-8 without one."),
+    "old.lif": (b"#Life 1.05\n#P 0 0\n*\n", f"This is a Life 1.05 file: {GOLLY}"),
+    "new.lif": (b"#Life 1.06\n0 0\n", f"This is a Life 1.06 file: {GOLLY}"),
+    "cell.mcl": (b"#MCell 4.00\n#L A.A\n", f"This is an MCell file: {GOLLY}"),
+    "spread.rule": (b"@RULE Spread\n", "This is a rule table, not a pattern: name it after the option --table of step."),
+    "named.cells": (b"!Name: glider\n.O.\n..O\nOOO\n", f"This is a plaintext file (.cells): {GOLLY}"),
+    "rows.cells": (b".O.\r\n..O\r\nOOO\r\n", f"This is a plaintext file (.cells): {GOLLY}"),
+    "headless": (b"#C text\n\n3o$b2o!\n", "The header is missing: put one before the items, such as x = 0, y = 0, rule = B3/S23."),
+    "returns": (b"x = 1, y = 1, rule = B3/S23\ro!\r", "The lines end in a carriage return alone: turn each into a line feed, with tr '\\r' '\\n'."),
+    "text": (b"A glider.\nx = 3, y = 3\no!\n", ""),
+    "letter": (b"x = 3, y = 3\nbo$2bC$3o!\n", ""),
+}
+
+
+def of_formats():
+    """What isn't a pattern is named, also a zip and a tar that come without --archive."""
+    os.mkdir("formats")
+    for name, (data, _) in FORMATS.items():
+        with open(os.path.join("formats", name), "wb") as it:
+            it.write(data)
+    wanted = {f"formats/{name}": what for name, (_, what) in FORMATS.items()}
+    wanted["all.zip"] = "This is a zip file: unpack it first, with unzip. With --archive its files are read."
+    wanted["all.tar"] = wanted["all.tar.gz"] = "This is a tar file: unpack it first, with tar -xf. With --archive its files are read."
+    with open("all.tar", "rb") as whole, gzip.open("all.tar.gz", "wb") as packed:
+        packed.write(whole.read())
+    status, _, errors = ran("--table", "formats.sqlite", *WITHOUT_DASK, *wanted)
+    found = {it[0]: it for it in rows("formats.sqlite")}
+    check(status == 0 and f" {len(wanted)} refused, " in errors, f"files of other formats: status {status}, {errors}")
+    for name, what in wanted.items():
+        *_, kind, line, why = found[name]
+        # After what the fault is: the line, the kind and a sentence.
+        named = re.fullmatch(rf"line {line}: {kind}: [A-Z][^.]*(?:\.\.[^.]*)*\.( [A-Z].*|)", why)
+        check(named and named[1].strip() == what, f"what is said of {name}: {why}")
+
+
+# ---- what ends a run
+
+
+def of_output():
+    """An output that takes no more ends a run in a line, and one whose reader has left without a word. The table is whole, and the same command goes on."""
+    words = ["--from", "list", "--share", SHARE, "--table", "alone.sqlite", *WITHOUT_DASK]
+    full = "collection: standard output can't be written: No space left on device; the table is whole, and the same command writes the duplicates again\n"
+    for name, script, wanted in [
+        ("a full output", "> /dev/full", (1, full)),
+        ("a full output and a full standard error", "> /dev/full 2>&1", (1, "")),
+        ("a full standard error", "> out 2> /dev/full", (0, "")),
+        ("a closed standard error", "> out 2>&-", (0, "")),
+        ("a closed output", ">&-", (1, full.replace("No space left on device", "it is closed"))),
+    ]:
+        run = begun(["bash", "-c", f'"$@" {script}', "bash", sys.executable, "-B", PROGRAM, *words], stdout=subprocess.PIPE, stderr=subprocess.PIPE, text=True)
+        status, _, errors = end_of(run)
+        check((status, errors) == wanted, f"{name}: status {status}, {errors}")
+    for more in ([], ["--zero"]):
+        reader, writer = os.pipe()
+        os.close(reader)
+        run = begun([sys.executable, "-B", PROGRAM, *words, *more], stdout=writer, stderr=subprocess.PIPE, text=True)
+        os.close(writer)
+        status, _, errors = end_of(run)
+        check((status, errors) == (141, ""), f"a reader who has left, {more}: status {status}, {errors}")
+    with open("out", encoding="utf-8") as it:
+        check(len(it.readlines()) == 2 * PATTERNS + 1, "a full standard error leaves the output as it is")
+    run = begun(["bash", "-c", '"$@" > /dev/full', "bash", sys.executable, "-B", PROGRAM, "--help"], stdout=subprocess.PIPE, stderr=subprocess.PIPE, text=True)
+    status, _, errors = end_of(run)
+    said = "collection: standard output can't be written: No space left on device\n"
+    check((status, errors) == (1, said), f"a help text on a full output: {status}, {errors}")
+
+
+def of_older_tables():
+    """A table of an earlier program, which has the keys of one form, is refused by name, and stays as it is."""
+    with contextlib.closing(sqlite3.connect("older.sqlite")) as it:
+        it.executescript("""
+            CREATE TABLE run (list BLOB NOT NULL, form TEXT NOT NULL, shares INTEGER NOT NULL);
+            CREATE TABLE share (number INTEGER PRIMARY KEY, files INTEGER NOT NULL, unread INTEGER NOT NULL);
+            CREATE TABLE file (id INTEGER PRIMARY KEY, path TEXT NOT NULL, member TEXT, key BLOB, kind TEXT, line INTEGER, why TEXT);
+            INSERT INTO run VALUES (x'00', 'turned', 1);""")
+    with open("older.sqlite", "rb") as it:
+        before = it.read()
+    status, output, errors = ran("--table", "older.sqlite", *WITHOUT_DASK, "glider.rle")
+    said = "collection: older.sqlite: it is a table of an older collection.py, with the keys of one form: name another table, or remove this one\n"
+    with open("older.sqlite", "rb") as it:
+        check((status, output, errors) == (2, "", said) and it.read() == before, f"an older table: status {status}, {errors}")
 
 
 LOST = b"[M2] (golly 4.2)\r#R B3/S23\r$$..*$...*$.***$\r"
@@ -272,13 +467,14 @@ def of_line_ends():
             it.write(data)
     with zipfile.ZipFile("lost.zip", "w") as it:
         it.write(names[0], "inner.mc")
-    for table, words, name in (("lost.sqlite", names, "lost\\u001b[2J.mc"), ("lost_zip.sqlite", ["--archive", "lost.zip"], "lost.zip/inner.mc")):
+    for table, words, name in (("lost.sqlite", names, "lost\\x1b[2J.mc"), ("lost_zip.sqlite", ["--archive", "lost.zip"], "lost.zip/inner.mc")):
         status, _, errors = ran("--table", table, "--workers", "0", *words)
         found = rows(table)
-        why = found[0][5] or ""
+        why = found[0][7] or ""
         check(status == 0 and found[0][2] is not None and "line ends" in why and "\x1b" not in errors, f"lost line ends: {found[0]}, {errors!r}")
         check(errors.splitlines()[0] == f"collection: warning: {name}: {why}", f"its warning: {errors!r}")
-        check(len(found) == 1 or found[1][2:] == (hashlib.sha256(LIFE + b"$$..*$...*$.***$$$$\n").digest(), None, None, None), f"a file with line ends: {found[1:]}")
+        key = hashlib.sha256(LIFE + b"$$..*$...*$.***$$$$\n").digest()
+        check(len(found) == 1 or (found[1][2], *found[1][5:]) == (key, None, None, None), f"a file with line ends: {found[1:]}")
 
 
 def interrupted(python, table, *words):
@@ -333,7 +529,7 @@ def of_words():
         (["--table", "x.sqlite", "--form", "shifted", "glider.rle"], "shifted"),
         (["--table", "x.sqlite", "--share", "0", "glider.rle"], "--share takes a number above 0"),
         (["--table", "x.sqlite", "--workers", "2", "--scheduler", "tcp://one:8786", "glider.rle"], "not allowed with"),
-        (["--table", "alone.sqlite", *WITHOUT_DASK, "glider.rle"], "alone.sqlite: it is the table of another list, form or size of shares: name another table"),
+        (["--table", "alone.sqlite", *WITHOUT_DASK, "glider.rle"], "alone.sqlite: it is the table of another list or size of shares: name another table"),
         (["--table", "glider.rle", *WITHOUT_DASK, "glider.rle"], "glider.rle: file is not a database"),
         (["--table", "no/x.sqlite", *WITHOUT_DASK, "glider.rle"], "no/x.sqlite: unable to open database file"),
     ]:
@@ -360,10 +556,10 @@ def of_lacking_dask():
 def of_shares(paths):
     """Shares that are done twice, in another order, or not at all, by the module itself."""
     names = [it for it in paths if it != HELD]
-    shares = collection.shares_of(names, "placed", False, 20)
+    shares = collection.shares_of(names, False, 20)
     done = {share[0]: collection.rows_of(share) for share in shares}
     check(all(collection.rows_of(share) == done[share[0]] for share in shares), "a share that is done twice has the same rows")
-    tables = [collection.Table(f"shares{which}.sqlite", shares, "placed") for which in (1, 2)]
+    tables = [collection.Table(f"shares{which}.sqlite", shares) for which in (1, 2)]
     order = [share[0] for share in shares]
     for number in order:
         tables[0].take(number, done[number])
@@ -373,7 +569,7 @@ def of_shares(paths):
     found = [rows(f"shares{which}.sqlite") for which in (1, 2)]
     check(found[0] == found[1] and len(found[0]) == len(names), "the order of shares, and shares done twice")
     check(tables[1].left(shares) == [], "nothing is left")
-    some = collection.Table("shares3.sqlite", shares, "placed")
+    some = collection.Table("shares3.sqlite", shares)
     with contextlib.redirect_stderr(io.StringIO()) as told:
         failed = collection.run(some, shares[:2], lambda given: iter([(0, "KilledWorker: it died"), (1, done[1])]))
     wanted = "share 0 (glider.rle to 005c.rle) isn't done: KilledWorker: it died"
@@ -417,7 +613,7 @@ def of_futures():
 
     own = sys.modules.get("distributed")
     sys.modules["distributed"] = types.SimpleNamespace(CancelledError=CancelledError)
-    rows_of_share = [("glider.rle", None, GLIDER_KEY, None, None, None)]
+    rows_of_share = [("glider.rle", None, GLIDER_KEY, None, None, None, None, None)]
     futures = [Handed(pickle.dumps(rows_of_share)), Handed(None, failed=ValueError("it died")), Handed(TypeError("no exception"), is_cancelled=True),
                Handed(CancelledError("share"), is_cancelled=True), Handed(OSError("the scheduler is away"))]
     found = [made_of(it) for it in futures]
@@ -591,6 +787,10 @@ def all_of(paths):
     of_archives(paths)
     of_page()
     of_unread()
+    of_names()
+    of_formats()
+    of_output()
+    of_older_tables()
     of_line_ends()
     of_words()
     of_lacking_dask()

@@ -5,7 +5,8 @@ pub use Rattle.library_calls.specs.Comparing.{comparison_of, ComparesWithin, Som
 pub use Rattle.library_calls.specs.ComparingInForm.{ComparesInForm, ComparesInNone}
 pub use Rattle.library_calls.specs.Outputs.{text_in}
 pub use Rattle.library_calls.specs.InForm.{form_numbered, IsKeyInForm, IsTextInForm, AnswersInForm}
-pub use Rattle.library_calls.specs.Stepping.{RefusesStepWithin, StepsByTable}
+pub use Rattle.life_generations.specs.Later.{IsTextLater}
+pub use Rattle.library_calls.specs.Stepping.{RefusesLater, RefusesStepWithin, StepsByTable}
 pub use Rattle.fault_sentences.specs.Sentences.{sentence_of}
 pub use Rattle.library_calls.specs.Streams.{Feeds, Finishes, IsSpent, OpensStream, session_of, TellsEnd, TellsKey, TellsNothing, TellsPiece}
 pub use Rattle.library_calls.specs.Told.{Returns, ReturnsText, reply}

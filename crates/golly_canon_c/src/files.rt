@@ -1,11 +1,12 @@
 //! The calls on whole files: their texts, their next generations, their forms, and what two of them are.
 
 ghost use Rattle.std.specs.Prelude.{◌≡◌, MatchOption};
-ghost use Rattle.golly_canon_c.specs.Words.{IsLeastCanonicalText, IsRleText, RefusesWithin, RefusesRleWithin, Returns, Fits, SomeToRead, SomeToReadBoth, TellsText, reply, IsShownText, RefusesStepWithin, StepsByTable, IsStepped, comparison_of, ComparesInForm, ComparesInNone, form_numbered, IsKeyInForm, IsTextInForm, AnswersInForm, ComparesWithin};
+ghost use Rattle.golly_canon_c.specs.Words.{IsLeastCanonicalText, IsRleText, RefusesWithin, RefusesRleWithin, Returns, Fits, SomeToRead, SomeToReadBoth, TellsText, reply, IsShownText, RefusesStepWithin, StepsByTable, IsStepped, IsTextLater, RefusesLater, comparison_of, ComparesInForm, ComparesInNone, form_numbered, IsKeyInForm, IsTextInForm, AnswersInForm, ComparesWithin};
 
 use crate::told::{tell, tell_compared};
 use library_calls::{
-    Options, canon, canon_form, key, same, same_form, show, step, step_by_table, to_rle,
+    Options, canon, canon_form, key, same, same_form, show, step, step_by_table, step_generations,
+    to_rle,
 };
 use life_base::MAX_LEVEL;
 use std::alloc::Global;
@@ -87,6 +88,28 @@ pub extern "C" fn golly_canon_step(
         → Fits (SomeToRead bytes.now) limit }
 {
     let answer = step(alloc, bytes, Options { limit, seed }, out);
+    tell(answer, needed, line)
+}
+
+/// The canonical text of the pattern of a file so many generations later, under its B/S rule. There is no limit on cells. For 0 generations it is the canonical
+/// text of the file, whatever its rule is.
+#[unsafe(no_mangle)]
+pub extern "C" fn golly_canon_step_generations(
+    alloc: Global,
+    bytes: &[u8],
+    generations: u64,
+    limit: u64,
+    seed: u64,
+    out: &mut [u8],
+    needed: &mut usize,
+    line: &mut u64,
+) -> u32
+    ensures answers { Returns (IsTextLater generations bytes.now)
+        (RefusesLater generations bytes.now) out.old out.new (reply result needed.new line.new) }
+    ensures fits { TellsText (reply result needed.new line.new)
+        → Fits (SomeToRead bytes.now) limit }
+{
+    let answer = step_generations(alloc, bytes, generations, Options { limit, seed }, out);
     tell(answer, needed, line)
 }
 

@@ -76,6 +76,25 @@ pub extern "C" fn golly_canon_open_step(
     open(alloc, stream, Output::Next, Options { limit, seed })
 }
 
+/// Opens a stream whose end gives the canonical text so many generations later under the file's B/S rule, and closes it first where it is open.
+#[unsafe(no_mangle)]
+pub extern "C" fn golly_canon_open_step_generations(
+    alloc: Global,
+    stream: &mut Stream,
+    generations: u64,
+    limit: u64,
+    seed: u64,
+) -> u32
+    ensures { OpensStream (OutputValue.Later generations) limit result (session_of stream.new) }
+{
+    open(
+        alloc,
+        stream,
+        Output::Later(generations),
+        Options { limit, seed },
+    )
+}
+
 /// Takes the next piece of the file. The fault of a line that it reports is that of the whole file, whatever bytes follow (`faults_stay` of
 /// `life_canon`).
 #[unsafe(no_mangle)]

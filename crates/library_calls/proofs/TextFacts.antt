@@ -23,13 +23,14 @@ use Rattle.life_canon.specs.declared.pattern.Pattern.{Pattern}
 use Rattle.life_canon.proofs.RoomCount.{Found, found-as}
 use Rattle.life_table.specs.declared.table.Table.{Table}
 use Rattle.life_step.specs.Refusals.{LacksForLife, LacksForTable, LifeRefusal, SomeByRule, SomeByTable, SomeOfStep, SomeOfStepBy, TableRefusal}
+use Rattle.life_generations.specs.Later.{LaterRefusal}
 use Rattle.library_calls.specs.Texts.{IsLeastCanonicalText, IsTooLowFor, NeedsMore, SomeToRead, room_of}
 use Rattle.library_calls.specs.Outputs.{IsOutputText, IsTextOfRead, RefusesTextOf, RefusesTextOfRead, text_in}
 use Rattle.library_calls.specs.InForm.{IsTextInForm, RefusesFormWithin}
 use Rattle.library_calls.specs.Stepping.{RefusesStepByWithin}
 use Rattle.library_calls.specs.Told.{Told, Returns}
 use Rattle.library_calls.specs.declared.texts.Output.{Output}
-use Rattle.library_calls.specs.declared.texts.Output.TheVariants.{Canonical, Rle, Lines, Next, Moved, Turned}
+use Rattle.library_calls.specs.declared.texts.Output.TheVariants.{Canonical, Rle, Lines, Next, Later, Moved, Turned}
 use Rattle.library_calls.specs.declared.pattern_form.PatternForm.{PatternForm}
 use Rattle.library_calls.specs.declared.pattern_form.PatternForm.TheVariants as forms
 use Rattle.library_calls.proofs.Answering.{not-full, wanted}
@@ -69,6 +70,11 @@ canonical fit plane tell files least bytes store pattern text is read =
       },
     )
 
+-- room or memory is wanted
+short : (store : Nodes) (fault : Fault) → IsShortageOf store fault → (fault ≡ fault_of Full) ⊎ (fault ≡ fault_of Memory)
+short store fault (inl memory) = inr memory
+short store fault (inr (full, at)) = inl full
+
 -- why a file is refused at its end, or room or memory wanted
 pub text-fault : (output : Output) (limit : ℕ) (bytes : List ℕ) (store : Nodes) (fault : Fault) → store.limit ≡ room_of limit
     → RefusesIn MAX_LEVEL bytes store fault → (fault ≡ fault_of Full → length (stored_squares store) ≡ store.limit → IsTooLowFor bytes store.limit)
@@ -83,6 +89,8 @@ text-fault Next limit bytes store fault is (inl refuses) low = inl refuses
 text-fault Next limit bytes store fault is (inr want) low =
     inr (inl (wanted (NeedsMore (λ P. SomeOfStep P bytes)) limit store fault is want (λ full at. needs-more (SomeToRead bytes) (λ P. SomeOfStep P bytes) _
     (λ P s. inl s) (low full at).0)))
+text-fault (Later n) limit bytes store fault is (inl refuses) low = inl refuses
+text-fault (Later n) limit bytes store fault is (inr want) low = inr (inl (short store fault want))
 text-fault Moved limit bytes store fault is (inl refuses) low = inl (inl refuses)
 text-fault Moved limit bytes store fault is (inr want) low = inl (inr (wanted (IsTooLowFor bytes) limit store fault is want low))
 text-fault Turned limit bytes store fault is (inl refuses) low = inl (inl refuses)
@@ -157,6 +165,14 @@ next-fault limit bytes old store pattern fault is read only once adds (inl want)
     inr (inl (wanted (NeedsMore (λ P. SomeOfStep P bytes)) limit store fault is want (λ full at. step-low SomeByRule bytes old store pattern read only once adds
     (find-by_rule (IsNew store) pattern.rule (content old pattern.root) (lacks full)) at)))
 next-fault limit bytes old store pattern fault is read only once adds (inr step) lacks = inr (inr (step bytes read))
+
+-- the same of any number of generations
+pub later-fault : (n limit : ℕ) (bytes : List ℕ) (old store : Nodes) (pattern : Pattern) (fault : Fault) → IsRead MAX_LEVEL bytes old pattern
+    → IsShortageOf store fault ⊎ ((bytes : List ℕ) → IsRead MAX_LEVEL bytes old pattern → (u : Universe) × Reads MAX_LEVEL bytes u
+    × LaterRefusal n u (Some fault))
+    → RefusesTextOf (Later n) limit bytes fault
+later-fault n limit bytes old store pattern fault read (inl want) = inr (inl (short store fault want))
+later-fault n limit bytes old store pattern fault read (inr why) = inr (inr (why bytes read))
 
 pub next-by-fault : (table : Table) (limit : ℕ) (bytes : List ℕ) (old store : Nodes) (pattern : Pattern) (fault : Fault) → store.limit ≡ room_of limit
     → IsRead MAX_LEVEL bytes old pattern → HoldsOnly [] bytes old → HoldsOnce store

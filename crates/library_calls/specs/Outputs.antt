@@ -13,10 +13,11 @@ use Rattle.life_canon.specs.declared.pattern.Pattern.{Pattern}
 use Rattle.life_quad.specs.Store.{Nodes}
 use Rattle.library_calls.specs.Texts.{IsLeastCanonicalText, IsRleText, NeedsMore, room_of, RefusesWithin, RefusesRleWithin, IsLimitShortage}
 use Rattle.life_step.specs.Stepped.{IsStepped}
-use Rattle.library_calls.specs.Stepping.{RefusesStepWithin}
+use Rattle.life_generations.specs.Later.{IsTextLater}
+use Rattle.library_calls.specs.Stepping.{RefusesLater, RefusesStepWithin}
 use Rattle.library_calls.specs.declared.texts.Output.{Output}
 use Rattle.library_calls.specs.InForm.{IsTextMoved, IsTextTurned, RefusesFormWithin}
-use Rattle.library_calls.specs.declared.texts.Output.TheVariants.{Canonical, Rle, Lines, Next, Moved, Turned}
+use Rattle.library_calls.specs.declared.texts.Output.TheVariants.{Canonical, Rle, Lines, Next, Later, Moved, Turned}
 use Rattle.library_calls.specs.declared.pattern_form.PatternForm.{PatternForm}
 use Rattle.library_calls.specs.declared.pattern_form.PatternForm.TheVariants as forms
 
@@ -26,6 +27,7 @@ IsOutputText Canonical limit = IsLeastCanonicalText
 IsOutputText Rle limit = IsRleText
 IsOutputText Lines limit = IsShownText MAX_LEVEL
 IsOutputText Next limit = IsStepped
+IsOutputText (Later n) limit = IsTextLater n
 IsOutputText Moved limit = IsTextMoved limit
 IsOutputText Turned limit = IsTextTurned limit
 
@@ -35,6 +37,7 @@ RefusesTextOf Canonical = RefusesWithin
 RefusesTextOf Rle = RefusesRleWithin
 RefusesTextOf Lines = RefusesWithin
 RefusesTextOf Next = RefusesStepWithin
+RefusesTextOf (Later n) = λ limit. RefusesLater n
 RefusesTextOf Moved = RefusesFormWithin forms.Moved
 RefusesTextOf Turned = RefusesFormWithin forms.Turned
 

@@ -1,9 +1,10 @@
 -- What the steps of a pattern tell.
 use Rattle.std.specs.Prelude.{◌≡◌, ◌⊎◌, ℕ, List, Some}
-use Rattle.life_base.specs.Refusal.{OrMemory}
+use Rattle.life_base.specs.Refusal.{OrMemory, fault_of}
 use Rattle.life_base.specs.Text.{lines_of}
 use Rattle.life_base.specs.declared.cell.TheConstants.{MAX_LEVEL}
 use Rattle.life_base.specs.declared.fault.Fault.{Fault}
+use Rattle.life_base.specs.declared.kind.Kind.TheVariants.{Full, Memory}
 use Rattle.life_canon.specs.Files.{Reads, Refuses}
 use Rattle.life_canon.specs.Universe.{Universe}
 use Rattle.life_table.specs.Grammar.{IsPlainTable}
@@ -11,6 +12,7 @@ use Rattle.life_table.specs.Reading.{RefusesTable}
 use Rattle.life_table.specs.declared.table.Table.{Table}
 use Rattle.life_step.specs.Refusals.{LifeRefusal, SomeOfStep, SomeOfStepBy, TableRefusal}
 use Rattle.life_step.specs.Stepped.{IsSteppedBy}
+use Rattle.life_generations.specs.Later.{LaterRefusal}
 use Rattle.library_calls.specs.Told.{Told, ReturnsFault, Returns}
 use Rattle.library_calls.specs.Texts.{NeedsMore, IsLimitShortage}
 
@@ -27,6 +29,13 @@ RefusesStepByWithin table limit bytes fault =
     Refuses MAX_LEVEL bytes fault
     ⊎ (IsLimitShortage (NeedsMore (λ P. SomeOfStepBy P table bytes)) limit fault ⊎
     ((u : Universe) × Reads MAX_LEVEL bytes u × TableRefusal MAX_LEVEL table u (Some fault)))
+
+-- Why bytes aren't taken n generations further under their own rule: they are no file, or room or memory is wanted, or their pattern has no such generation.
+-- (No length of a file bounds how many squares are stored on the way, and so room may be wanted with any limit.)
+abbrev pub RefusesLater : ℕ → List ℕ → Fault → Type 0
+RefusesLater n bytes fault =
+    Refuses MAX_LEVEL bytes fault
+    ⊎ (((fault ≡ fault_of Full) ⊎ (fault ≡ fault_of Memory)) ⊎ ((u : Universe) × Reads MAX_LEVEL bytes u × LaterRefusal n u (Some fault)))
 
 -- The file of the table is one, and the step by it is told; or the fault of the table's file is told.
 pub data StepsByTable (limit : ℕ) (bytes table_bytes : List ℕ) (in_table : ℕ) (before after : List ℕ) (it : Told) : Type 0 where

@@ -4,7 +4,7 @@ pub use Rattle.library_calls.specs.Comparing.{comparison_of, ComparesWithin, IsT
 pub use Rattle.library_calls.specs.ComparingInForm.{AreOneInForm, ComparesInForm, ComparesInNone, OneHasFormLargerThan, RefusesEitherInForm}
 pub use Rattle.library_calls.specs.Outputs.{IsOutputText, IsTextOfRead, RefusesPiece, RefusesTextOf, RefusesTextOfRead, text_in}
 pub use Rattle.library_calls.specs.InForm.{form_numbered, form_room, IsKeyInForm, IsTextInForm, AnswersInForm}
-pub use Rattle.library_calls.specs.Stepping.{RefusesStepByWithin, RefusesStepWithin, StepsByTable}
+pub use Rattle.library_calls.specs.Stepping.{RefusesLater, RefusesStepByWithin, RefusesStepWithin, StepsByTable}
 pub use Rattle.library_calls.specs.Streams.{Feeds, Finishes, IsSpent, key_digits, OpensStream, session_of, TellsEnd, TellsKey, TellsNothing, TellsPiece}
 pub use Rattle.library_calls.specs.Told.{Returns, ReturnsText, ReturnsFault, reply}
 pub use Rattle.life_base.specs.Kinds.{kind_number}
@@ -18,4 +18,5 @@ pub use Rattle.life_canon.specs.Store.{IsOfFile, IsRead, IsShortageOf}
 pub use Rattle.life_canon.specs.Texts.{IsShownText}
 pub use Rattle.life_quad.specs.Keeping.{AddsOnly}
 pub use Rattle.life_quad.specs.Store.{stored_squares}
+pub use Rattle.life_generations.specs.Later.{IsTextLater}
 pub use Rattle.life_step.specs.Stepped.{IsStepped, IsSteppedBy}

@@ -23,7 +23,7 @@ pub use compared::{Compared, same};
 pub use comparison::same_form;
 pub use in_form::{NO_FORM, canon_form, key};
 pub use options::Options;
-pub use steps::{step, step_by_table};
+pub use steps::{step, step_by_table, step_generations};
 pub use stream::Stream;
 pub use streams::{close, feed, finish, finish_key, open, open_canon_form};
 pub use texts::{Output, canon, show, to_rle};

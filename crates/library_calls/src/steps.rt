@@ -1,7 +1,7 @@
 //! The calls that step a pattern.
 
 ghost use Rattle.std.specs.Prelude.{IfOk, IfErr, OnOk};
-ghost use Rattle.library_calls.specs.Words.{Returns, Fits, SomeToRead, TellsText, IsStepped, IsSteppedBy, RefusesStepByWithin, RefusesStepWithin, StepsByTable};
+ghost use Rattle.library_calls.specs.Words.{Returns, Fits, SomeToRead, TellsText, IsStepped, IsSteppedBy, IsTextLater, RefusesLater, RefusesStepByWithin, RefusesStepWithin, StepsByTable};
 
 use crate::options::Options;
 use crate::seeds::seed_of_names;
@@ -20,6 +20,22 @@ pub fn step(alloc: Global, bytes: &[u8], options: Options, out: &mut [u8]) -> To
     ensures fits { TellsText result → Fits (SomeToRead bytes.now) options.limit }
 {
     answer(alloc, bytes, Output::Next, options, out)
+}
+
+/// The canonical text of the pattern of a file so many generations later, under its B/S rule. There is no limit on cells. For 0 generations it is the
+/// canonical text of the file, whatever its rule is.
+pub fn step_generations(
+    alloc: Global,
+    bytes: &[u8],
+    generations: u64,
+    options: Options,
+    out: &mut [u8],
+) -> Told
+    ensures answers { Returns (IsTextLater generations bytes.now)
+        (RefusesLater generations bytes.now) out.old out.new result }
+    ensures fits { TellsText result → Fits (SomeToRead bytes.now) options.limit }
+{
+    answer(alloc, bytes, Output::Later(generations), options, out)
 }
 
 /// The text of the next generation of the pattern of a file, by a table.

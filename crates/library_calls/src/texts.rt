@@ -11,6 +11,7 @@ use life_canon::laws::{
 };
 use life_canon::{Pattern, five_lines_of, read, rle_of, text_of};
 use life_forms::{moved_of, turned_text};
+use life_generations::later_by_rule;
 use life_quad::Shared;
 use life_step::next_by_rule;
 use std::alloc::Global;
@@ -26,6 +27,8 @@ pub enum Output {
     Lines,
     /// The canonical text of the next generation under the file's B/S rule.
     Next,
+    /// The canonical text of the pattern so many generations later under the file's B/S rule.
+    Later(u64),
     /// The canonical text of the pattern, moved.
     Moved,
     /// That of the pattern, turned.
@@ -58,6 +61,7 @@ pub(crate) fn text_of_read(
             let _ = store.len();
             text
         }
+        Output::Later(generations) => later_by_rule(alloc, store, pattern, generations),
         Output::Moved => {
             let (form, moved) = moved_of(alloc, store, &pattern)?;
             text_of(alloc, &form, &moved)

@@ -30,6 +30,8 @@ use Rattle.theorems.proofs.ShownLaw.{shown_is}
 use Rattle.theorems.proofs.TextLaw.{rle_of_file}
 use Rattle.theorems.proofs.StreamLaw.{one_text}
 use Rattle.step_theorems.proofs.StepLaw.{unstepped_is}
+use Rattle.generation_theorems.specs.ManyGenerations.{IsNotTakenFurther}
+use Rattle.generation_theorems.proofs.FurtherLaw.{reason-of}
 use Rattle.step_theorems.proofs.StepBy.{next_by_is_fixed, stepped_is, unstepped_is as unstepped_by_is}
 use Rattle.library_calls.specs.Texts.{IsTooLowFor, NeedsMore, IsLimitShortage, RefusesWithin, RefusesRleWithin, IsLeastCanonicalText as LayerText, IsRleText as LayerRle}
 use Rattle.library_calls.specs.declared.compared.Compared.{Compared}
@@ -38,7 +40,7 @@ use Rattle.library_calls.specs.Comparing as comparing
 use Rattle.library_calls.specs.Outputs.{IsOutputText, RefusesTextOf}
 use Rattle.library_calls.specs.declared.texts.Output.{Output}
 use Rattle.life_step.specs.Refusals.{SomeOfStep, SomeOfStepBy}
-use Rattle.library_calls.specs.Stepping.{RefusesStepWithin, RefusesStepByWithin, StepsByTable, by_table, by_no_table}
+use Rattle.library_calls.specs.Stepping.{RefusesLater, RefusesStepWithin, RefusesStepByWithin, StepsByTable, by_table, by_no_table}
 use Rattle.library_calls.specs.declared.told.Told.{Told}
 use Rattle.library_calls.specs.Told.{Copies, LacksTextSpace, ReturnsText, ReturnsFault, Returns, by_text, by_fault}
 use Rattle.library_theorems.specs.Answered.{IsClaimedRleText, AreFiveLines, IsClaimedUnread, IsUnreadWithin, IsUnwritten, IsShortageBelow, squares_for}
@@ -131,6 +133,12 @@ pub unstepped : FilesAreOnPlane 62 → (limit : ℕ) (file : List ℕ) (fault : 
 unstepped on_plane limit file fault (inl refuses) = inl (inl (refuses_agree file fault refuses))
 unstepped on_plane limit file fault (inr (inl w)) = inl (inr (wanted (NeedsMore (λ P. SomeOfStep P file)) limit fault w))
 unstepped on_plane limit file fault (inr (inr h)) = inr (unstepped_is on_plane file h.0 fault h.1 h.2)
+
+pub not_taken_further : FilesAreOnPlane 62 → (n : ℕ) (file : List ℕ) (fault : Fault) → RefusesLater n file fault
+    → IsClaimedUnread file fault ⊎ IsNotTakenFurther n file fault
+not_taken_further on_plane n file fault (inl refuses) = inl (inl (refuses_agree file fault refuses))
+not_taken_further on_plane n file fault (inr (inl w)) = inl (inr w)
+not_taken_further on_plane n file fault (inr (inr h)) = inr (reason-of on_plane n file h.0 fault h.1 h.2)
 
 -- ---- by a table
 

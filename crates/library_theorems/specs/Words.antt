@@ -4,6 +4,7 @@ pub use Rattle.claims.specs.Counting.{IsCanonicalText, claimed_node_lines}
 pub use Rattle.claims.specs.Files.{claimed_fault_of, pattern_of, SayOnePattern}
 pub use Rattle.claims.specs.Generation.{IsClaimedStep, IsUnstepped}
 pub use Rattle.claims.specs.Pattern.{Pattern}
+pub use Rattle.generation_theorems.specs.ManyGenerations.{IsClaimedTextLater, IsNotTakenFurther}
 pub use Rattle.claims.specs.Shown.{IsClaimedShown}
 pub use Rattle.claims.specs.Table.{Table, table_of}
 pub use Rattle.library_calls.specs.Outputs.{IsOutputText}

@@ -1,9 +1,9 @@
 //! The next generation of a file.
 
 ghost use Rattle.std.specs.Prelude.{◌≡◌, ◌⊎◌, Ok, Err, IfOk};
-ghost use Rattle.library_theorems.specs.Words.{Fault, IsClaimedStepBy, IsUnsteppedBy, claimed_fault_of, IsClaimedStep, IsUnstepped, Table, table_of, Returns, ReturnsText, ReturnsFault, IsClaimedUnread};
+ghost use Rattle.library_theorems.specs.Words.{Fault, IsClaimedTextLater, IsNotTakenFurther, IsClaimedStepBy, IsUnsteppedBy, claimed_fault_of, IsClaimedStep, IsUnstepped, Table, table_of, Returns, ReturnsText, ReturnsFault, IsClaimedUnread};
 
-use library_calls::{Options, Told, step, step_by_table};
+use library_calls::{Options, Told, step, step_by_table, step_generations};
 use life_base::{Fault, Kind};
 use life_canon::laws::{files_are_on_plane, files_are_unique};
 use life_quad::Shared;
@@ -20,6 +20,24 @@ pub fn next_is_told(alloc: Global, file: &[u8], options: Options, out: &mut [u8]
 {
     files_are_on_plane();
     step(alloc, file, options, out)
+}
+
+/// A text of a file so many generations later under its B/S rule is reported in the same way; or the number and the line of the
+/// file's fault, that the store is full or memory ran out, or the first reason why its pattern isn't taken so many generations
+/// further.
+pub fn later_generation_is_told(
+    alloc: Global,
+    file: &[u8],
+    generations: u64,
+    options: Options,
+    out: &mut [u8],
+) -> Told
+    ensures { Returns (IsClaimedTextLater generations file.now)
+        (λ fault. IsClaimedUnread file.now fault ⊎ IsNotTakenFurther generations file.now fault)
+        out.old out.new result }
+{
+    files_are_on_plane();
+    step_generations(alloc, file, generations, options, out)
 }
 
 /// The same by a rule table. Where 0 is reported beside it, the line of `Ambiguous` is one of the table's file. Where 1 is reported,

@@ -1,7 +1,7 @@
 //! A file that comes in pieces, and one answer at its end.
 
 ghost use Rattle.std.specs.Prelude.{◌≡◌, ◌⊎◌, ℕ, List, [], Ok, IfOk};
-ghost use Rattle.library_theorems.specs.Words.{kind_number, claimed_node_lines, IsCanonicalText, pattern_of, IsClaimedStep, IsUnstepped, Pattern, IsClaimedShown, IsOutputText, session_of, IsOpenStream, IsFed, Returns, ReturnsText, OutputValue, IsClaimedRleText, AreFiveLines, IsClaimedUnread, IsUnreadWithin, IsUnwritten, IsEndFault, all_bytes};
+ghost use Rattle.library_theorems.specs.Words.{kind_number, claimed_node_lines, IsCanonicalText, pattern_of, IsClaimedStep, IsUnstepped, Pattern, IsClaimedShown, IsOutputText, session_of, IsOpenStream, IsFed, Returns, ReturnsText, OutputValue, IsClaimedRleText, AreFiveLines, IsClaimedUnread, IsUnreadWithin, IsUnwritten, IsEndFault, all_bytes, IsClaimedTextLater, IsNotTakenFurther};
 
 use library_calls::{Options, Output, Stream, Told, close, feed, finish, open};
 use life_base::{Fault, Kind};
@@ -54,6 +54,11 @@ pub fn text_of_stream(
         → Returns (IsClaimedStep (all_bytes pieces.now))
         (λ fault. IsClaimedUnread (all_bytes pieces.now) fault
         ⊎ IsUnstepped (all_bytes pieces.now) fault)
+        out.old out.new result.1 }
+    ensures later { (generations : ℕ) → output ≡ OutputValue.Later generations → result.0 ≡ 0
+        → Returns (IsClaimedTextLater generations (all_bytes pieces.now))
+        (λ fault. IsClaimedUnread (all_bytes pieces.now) fault
+        ⊎ IsNotTakenFurther generations (all_bytes pieces.now) fault)
         out.old out.new result.1 }
 {
     canonical_is_least();

@@ -4,7 +4,7 @@ use Rattle.library_calls.specs.Outputs.{RefusesTextOf}
 use Rattle.library_calls.specs.declared.texts.Output.{Output}
 use Rattle.library_calls.proofs.Answering.{and-lacks, both}
 use Rattle.library_calls.proofs.FormFacts.{moved-text, turned-text, unmoved, unturned}
-use Rattle.library_calls.proofs.TextFacts.{canonical, next-fault, of-fault, of-form, rle-fault, wants}
+use Rattle.library_calls.proofs.TextFacts.{canonical, later-fault, next-fault, of-fault, of-form, rle-fault, wants}
 use Rattle.library_calls.proofs.texts.text_of_read.Goals as goal
 
 pub text_of-requires : goal.text_of-requires
@@ -59,6 +59,17 @@ returns-in-Next-clause-fault c =
     c.next_by_rule-text.new.store c.args.pattern fault (c.next_by_rule-text.ensures.keeps.limit ∙ is) read only
     (record { distinct = c.len.ensures.distinct; live = λ t there. (c.len.ensures.only t there).0 }) c.next_by_rule-text.ensures.adds why.0 why.1)
     (and-lacks _ c.next_by_rule-text.result c.next_by_rule-text.ensures.refused c.next_by_rule-text.ensures.needed))
+
+pub returns-in-Later-clause-text : goal.returns-in-Later-clause-text
+returns-in-Later-clause-text c =
+    of-form c.args.store.now c.args.pattern (λ text. text.items) c.later_by_rule.result c.in-Later.is
+    (IfOk-weaker c.later_by_rule.result _ _ (λ text is limit bytes room read. is bytes read) c.later_by_rule.ensures.later)
+
+pub returns-in-Later-clause-fault : goal.returns-in-Later-clause-fault
+returns-in-Later-clause-fault c =
+    of-fault c.args.store.now c.args.pattern c.later_by_rule.result c.in-Later.is
+    (IfErr-weaker c.later_by_rule.result _ _ (λ fault why limit bytes is read only. later-fault c.in-Later.generations limit bytes c.args.store.now
+    c.later_by_rule.new.store c.args.pattern fault read why) c.later_by_rule.ensures.refused)
 
 pub returns-in_ok-form-in-Moved-clause-text : goal.returns-in_ok-form-in-Moved-clause-text
 returns-in_ok-form-in-Moved-clause-text c =
