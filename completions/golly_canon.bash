@@ -3,7 +3,7 @@
 _golly_canon() {
     local commands="canon convert same show step keys duplicates help"
     local formats="rle mc" forms="placed moved turned"
-    local word=${COMP_WORDS[COMP_CWORD]} previous=${COMP_WORDS[COMP_CWORD - 1]} front=
+    local word=${COMP_WORDS[COMP_CWORD]} previous=${COMP_WORDS[COMP_CWORD - 1]} front= at
     COMPREPLY=()
     if [ "$COMP_CWORD" -eq 1 ]; then
         COMPREPLY=($(compgen -W "$commands --help --version -h -V" -- "$word"))
@@ -35,17 +35,19 @@ _golly_canon() {
                 convert) COMPREPLY=($(compgen -W "--to --explain --help -h" -- "$word")) ;;
                 step) COMPREPLY=($(compgen -W "--table --explain --help -h" -- "$word")) ;;
                 canon | same) COMPREPLY=($(compgen -W "--form --explain --help -h" -- "$word")) ;;
-                keys) COMPREPLY=($(compgen -W "--form --zero --json --from --recursive -r --help -h" -- "$word")) ;;
-                duplicates) COMPREPLY=($(compgen -W "--form --zero --from --recursive -r --help -h" -- "$word")) ;;
+                keys) COMPREPLY=($(compgen -W "--form --ignore-generation --zero --json --from --recursive -r --help -h" -- "$word")) ;;
+                duplicates) COMPREPLY=($(compgen -W "--form --ignore-generation --zero --from --recursive -r --help -h" -- "$word")) ;;
                 show) COMPREPLY=($(compgen -W "--explain --help -h" -- "$word")) ;;
             esac
-            ;;
-        *)
-            # One file a line, as a name may have spaces.
-            compopt -o filenames 2> /dev/null
-            mapfile -t COMPREPLY < <(compgen -P "$front" -f -- "$word")
+            [ ${#COMPREPLY[@]} -eq 0 ] || return
             ;;
     esac
+    # One file a line, as a name may have spaces. One that begins with - would be taken for an option, so it comes with its folder.
+    compopt -o filenames 2> /dev/null
+    mapfile -t COMPREPLY < <(compgen -P "$front" -f -- "$word")
+    for at in "${!COMPREPLY[@]}"; do
+        [[ $front || ${COMPREPLY[at]} != -* ]] || COMPREPLY[at]=./${COMPREPLY[at]}
+    done
 }
 
 complete -F _golly_canon golly_canon

@@ -1,10 +1,11 @@
 #!/usr/bin/env python3
-"""Refuses each request for memory in turn, alone and together with all after it: first those of the built program, PROGRAM, then those of CALLS and SQUARES,
-the built programs of crates/call_rows and crates/square_rows, which are given the rows that come after the line `# Memory:` of their files `stdin`. Together
-these make each call of the libraries that takes memory. What meets a refusal answers `Memory`, or does without that memory, and all else is as ever. A join of
-a square that is stored makes no request. The last line is 'N passed, M failed'. It needs a C compiler, for tests/devices/refuse_allocation.c.
+"""Refuses each request for memory in turn, alone and together with all after it: first those of the built program, PROGRAM, then those of ROWS, the built
+program of crates/rows, which is given the rows that come after a line `# Memory:` of its file `stdin`: once those on calls, and once those on squares, which
+come after the line `# Squares:`. Together these make each call of the libraries that takes memory. What meets a refusal answers `Memory`, or does without that
+memory, and all else is as ever. A join of a square that is stored makes no request. The last line is 'N passed, M failed'. It needs a C compiler, for
+tests/devices/refuse_allocation.c.
 
-usage: tests/devices/allocations.py PROGRAM CALLS SQUARES
+usage: tests/devices/allocations.py PROGRAM ROWS
 """
 
 import hashlib
@@ -142,6 +143,8 @@ KEYS_RUNS = [
              {b"pair.rle": PAIR_TEXT, b"child.mc": b"", b"seven.mc": LIFE + b"....*$$$$$$$$\n4 0 0 0 1\n", b"pair.mc": PAIR_TEXT}),
     keys_run("keys FILE.. --form turned --from -", ["keys", "--form", "turned"],
              {b"pair.rle": LIFE + b"*$$$$$$$$\n4 1 0 1 0\n5 0 0 0 2\n", b"child.mc": b"", b"pair.mc": LIFE + b"*$$$$$$$$\n4 1 0 1 0\n5 0 0 0 2\n"}),
+    keys_run("keys FILE.. --ignore-generation --from -", ["keys", "--ignore-generation"],
+             {b"pair.rle": PAIR_TEXT, b"child.mc": b"", b"last.rle": LIFE + b"$$$$....***$$$$\n"}),
 ]
 
 
@@ -170,13 +173,24 @@ OUT_OF_MEMORY = re.compile(rb"(.*?)(?:0 )?Memory(?: Spent)*(?:, \d+ of \d+ nodes
 NO_MEMORY = b"no memory"
 
 
-def rows_run(crate):
-    """The rows of a crate after the line `# Memory:`, and their answers, which are the last ones."""
-    with open(os.path.join(CRATES, crate, "stdin"), "rb") as it:
-        rows = [line for line in it.read().partition(b"\n# Memory:")[2].splitlines()[1:] if not line.startswith(b"#")]
-    with open(os.path.join(CRATES, crate, "stdout"), "rb") as it:
-        answers = it.read().splitlines()[:-1][-len(rows):]
-    return Run(f"the rows of {crate}", [], Answer(0, b"\n".join([*answers, b"%d rows\n" % len(rows)])), b"\n".join(rows))
+def rows_runs():
+    """The rows on calls that come after the line `# Memory:`, and those on squares, with their answers."""
+    runs, is_memory, place = {b"calls": [], b"squares": []}, False, 0
+    about = b"calls"
+    with open(os.path.join(CRATES, "rows/stdin"), "rb") as rows, open(os.path.join(CRATES, "rows/stdout"), "rb") as it:
+        answers = it.read().splitlines()
+        for row in rows.read().splitlines():
+            if row.startswith(b"# Squares:"):
+                about, is_memory = b"squares", False
+            elif row.startswith(b"# Memory:"):
+                is_memory = True
+            elif not row.startswith(b"#"):
+                if is_memory:
+                    runs[about].append((row, answers[place]))
+                place += 1
+    for name, pairs in runs.items():
+        rows, answers = zip(*pairs)
+        yield Run(f"the rows on {name.decode()}", [], Answer(0, b"\n".join([*answers, b"%d rows\n" % len(rows)])), b"\n".join(rows))
 
 
 def parts_of(line):
@@ -310,18 +324,18 @@ def put_files(folder):
             file.write(text)
 
 
-def main(program, calls, squares):
-    program, calls, squares = map(processes.program_of, (program, calls, squares))
+def main(program, rows):
+    program, rows = map(processes.program_of, (program, rows))
     with tempfile.TemporaryDirectory() as folder, tempfile.TemporaryDirectory() as built, ThreadPoolExecutor(os.cpu_count()) as pool:
         refuse = processes.compiled(SOURCE, os.path.join(built, "refuse.so"), "-shared", "-fPIC")
         put_files(folder)
-        rows = rows_run("square_rows")
-        stored = Requests(squares, refuse, folder)
+        calls, squares = rows_runs()
+        requests = Requests(rows, refuse, folder)
         checks = [
             program_checks(Requests(program, refuse, folder), pool, program_runs(program)),
-            rows_checks(Requests(calls, refuse, folder), pool, rows_run("call_rows")),
-            rows_checks(stored, pool, rows),
-            [("a join of a stored square makes no request", stored_problems(stored, rows))],
+            rows_checks(requests, pool, calls),
+            rows_checks(requests, pool, squares),
+            [("a join of a stored square makes no request", stored_problems(requests, squares))],
         ]
         for name, problems in (it for part in checks for it in part):
             counting.row(name, problems[:3])
@@ -329,6 +343,6 @@ def main(program, calls, squares):
 
 
 if __name__ == "__main__":
-    if len(sys.argv) != 4:
-        sys.exit("usage: tests/devices/allocations.py PROGRAM CALLS SQUARES")
+    if len(sys.argv) != 3:
+        sys.exit("usage: tests/devices/allocations.py PROGRAM ROWS")
     sys.exit(main(*sys.argv[1:]))

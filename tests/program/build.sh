@@ -108,7 +108,7 @@ makes() { make RT="$RT" DESTDIR=place PREFIX="$prefix" LIBDIR="$prefix/lib64" MA
 in_prefix="place$prefix"
 program_files="place/man/man1/golly_canon.1 $in_prefix/bin/golly_canon $in_prefix/share/bash-completion/completions/golly_canon \
 $in_prefix/share/fish/vendor_completions.d/golly_canon.fish $in_prefix/share/zsh/site-functions/_golly_canon"
-library_files="$in_prefix/include/golly_canon.h $in_prefix/lib64/libgolly_canon.a $in_prefix/lib64/libgolly_canon.so \
+library_files="$in_prefix/bin/golly_canon_collection $in_prefix/include/golly_canon.h $in_prefix/lib64/libgolly_canon.a $in_prefix/lib64/libgolly_canon.so \
 $in_prefix/lib64/libgolly_canon.so.1 $in_prefix/lib64/libgolly_canon.so.1.2.3 $in_prefix/lib64/pkgconfig/golly_canon.pc \
 $in_prefix/share/golly_canon/collection.py $in_prefix/share/golly_canon/golly_canon.py"
 equal_files() { # WANTED..
@@ -164,8 +164,8 @@ for command in page test; do
     verdict "so is the source of the heap, for make $command" "$(grep -q 'fetch the source of a heap: sh scripts/heap' said || cat said)"
 done
 without "$folder/no/rt" scripts/needs build
-verdict "so is the toolchain" "$([ "$status $(cat said)" = "1 golly_canon: there is no command $folder/no/rt: install the Rattle toolchain first (the \
-README says which), or name it in RT" ] || cat said)"
+verdict "so is the toolchain" "$([ "$status $(cat said)" = "1 golly_canon: there is no command $folder/no/rt: install the Rattle toolchain first \
+(docs/INSTALL.md says which), or name it in RT" ] || cat said)"
 without "$RT" tests/all
 verdict "a gate that lacks something ends" "$([ "$status $(tail -n 1 said)" = "1 0 passed, 1 failed" ] || cat said)"
 verdict "it says what to install" "$(grep -q '^golly_canon: install what `make test` needs: apt-get install ' said || cat said)"

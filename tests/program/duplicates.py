@@ -18,8 +18,8 @@ import tempfile
 sys.dont_write_bytecode = True  # nothing is left in tests/
 sys.path.insert(0, os.path.dirname(os.path.dirname(os.path.abspath(__file__))))
 
-from keys import (ABSENT, CLOCK, FOLDER, MISUSED, NAMES, NO_TEXT, ODD, ORDER, OTHER, SMALL, Place, escaped, listed, outcome_of, problems_of,  # noqa: E402
-                  random_outcomes, warned)
+from keys import (ABSENT, AT_START, CLOCK, DEVICES_LEFT_OUT, FOLDER, LATER, MISUSED, NAMES, NO_NAME, NO_TEXT, ODD, ORDER, SMALL, Place, escaped,  # noqa: E402
+                  listed, outcome_at_start, outcome_of, problems_of, random_outcomes, warned)
 from shared import counting, processes  # noqa: E402
 from shared.processes import Answer  # noqa: E402
 
@@ -52,8 +52,8 @@ class Here(Place):
     def run(self, words, source=b"", **how):
         return processes.run([self.program, "duplicates", *words], source, cwd=self.here, timeout=300, **how)
 
-    def wanted(self, names, form="moved", is_zero=False):
-        return answer_of([(name, outcome_of(self.files.get(name, ABSENT), form)) for name in names], is_zero)
+    def wanted(self, names, form="moved", is_zero=False, outcome=outcome_of):
+        return answer_of([(name, outcome(self.files.get(name, ABSENT), form)) for name in names], is_zero)
 
 
 # What Golly writes of one pattern: its macrocell file is one row further north.
@@ -87,6 +87,21 @@ def worked_rows(place):
     place.row("no form", ORDER, place.wanted(ORDER))
     for names in itertools.permutations([b"glider", b"shifted", b"pair.mc", b"pair.rle"]):
         place.row(f"in the order {b' '.join(names).decode()}", names, place.wanted(names))
+
+
+def generation_rows(place):
+    names = [b"pair.rle", b"later.rle", b"later.mc", b"last.rle", b"glider", b"none.mc"]
+    for name in names:
+        place.put(name, {**SMALL, **LATER}[name])
+    pairs = [name for name in names if name != b"glider"]
+    for form in ("placed", "moved", "turned"):
+        words = [*names, "--form", form]
+        place.row(f"by hand: generations, {form}", words, Answer(0, text_of([[b"pair.rle", b"none.mc"]])))
+        place.row(f"by hand: generations that are ignored, {form}", [AT_START, *words], Answer(0, text_of([pairs])))
+        place.row(f"the same, ended by NULs, {form}", ["--zero", *words, AT_START], Answer(0, text_of([pairs], is_zero=True)))
+        place.row(f"files in their order without their generations, {form}", [AT_START, *ORDER, *words],
+                  place.wanted([*ORDER, *names], form, outcome=outcome_at_start))
+    place.row("by hand: generations that are ignored, and no duplicates", [AT_START, "later.rle", "glider"], Answer(1))
 
 
 def refused_rows(place):
@@ -125,12 +140,17 @@ def name_rows(place):
     place.row("odd names in a list", ["--zero", "--from", "-"], place.wanted(ODD, is_zero=True), listed(ODD, b"\0"))
     place.put(NO_TEXT[0], SMALL[b"pair.rle"])
     shown = b"\xef\xbf\xbd"
-    answer = answer_of([(b"*star", outcome_of(SMALL[b"pair.rle"], "moved")), (shown, (3, OTHER)), (b"\\n", outcome_of(SMALL[b"pair.rle"], "moved"))])
+    answer = answer_of([(b"*star", outcome_of(SMALL[b"pair.rle"], "moved")), (shown, (3, NO_NAME)), (b"\\n", outcome_of(SMALL[b"pair.rle"], "moved"))])
     place.row("a name that isn't UTF-8 is refused alone", ["*star", NO_TEXT[0], "\\n"], answer)
 
 
+def with_pipe(answer):
+    """The answer of a run that left out a pipe."""
+    return answer._replace(error=answer.error + DEVICES_LEFT_OUT % 1)
+
+
 def folder_rows(place):
-    """Folders in folders, with links, which are passed over."""
+    """Folders in folders, with links, which are passed over, and a pipe, which is left out and counted."""
     inner = {b"b/2": SMALL[b"glider"], b"b/10": SMALL[b"shifted"], b"b/c/x": SMALL[b"turned"], b"a": SMALL[b"pair.mc"], b"b.rle": SMALL[b"pair.rle"], b"z": b"?\n"}
     top = os.path.join(os.fsencode(place.here), b"top")
     for name in (b"", b"b", b"b/c", b"none"):
@@ -146,9 +166,9 @@ def folder_rows(place):
     order = [b"a", b"b/10", b"b/2", b"b/c/x", b"b.rle", b"z"]
     for word in (b"top", b"top/", b"./top", b"to_top"):
         named = [(word.rstrip(b"/") + b"/" + name, outcome_of(inner[name], "moved")) for name in order]
-        place.row(f"all files of {word.decode()}", ["-r", word], answer_of(named))
+        place.row(f"all files of {word.decode()}", ["-r", word], with_pipe(answer_of(named)))
         place.row(f"the same before and after other files: {word.decode()}", ["glider", "--recursive", word, "blank"],
-                  answer_of([(b"glider", outcome_of(SMALL[b"glider"], "moved")), *named, (b"blank", outcome_of(SMALL[b"blank"], "moved"))]))
+                  with_pipe(answer_of([(b"glider", outcome_of(SMALL[b"glider"], "moved")), *named, (b"blank", outcome_of(SMALL[b"blank"], "moved"))])))
     place.row("files alone, with -r", ["-r", "glider", "shifted"], place.wanted([b"glider", b"shifted"]))
     place.row("an empty folder", ["-r", "top/none"], Answer(1))
     place.row("a folder that is absent", ["-r", "absent"], Answer(3, b"", b"absent: no such file\n"))
@@ -219,6 +239,7 @@ def main():
         for name, data in (*SMALL.items(), *BY_GOLLY.items()):
             small.put(name, data)
         worked_rows(small)
+        generation_rows(small)
         refused_rows(small)
         list_rows(small)
         name_rows(odd)

@@ -20,7 +20,7 @@ Of 200 other random patterns it saves each by Golly in both formats: the two fil
 of all files in one run.
 
 Of a rule table in a zip file it compares the last of these for each pattern beside it. A table that the program refuses as BadVariable is mended by the
-recipe of docs/QUESTIONS.md, and a line that is Ambiguous is split as it stands there.
+recipe of docs/RECIPES.md, and a line that is Ambiguous is split as it stands there.
 
 What it refuses of them is of another format, or its rule is of a kind that docs/FORMATS.md leaves out. The last line counts the checks.
 """
@@ -42,7 +42,7 @@ sys.path.insert(0, os.path.dirname(os.path.dirname(os.path.abspath(__file__))))
 
 from shared import counting, processes  # noqa: E402
 
-QUESTIONS = os.path.join(os.path.dirname(os.path.abspath(__file__)), "../../docs/QUESTIONS.md")
+RECIPES = os.path.join(os.path.dirname(os.path.abspath(__file__)), "../../docs/RECIPES.md")
 # The most cells of a pattern that is written as RLE or stepped.
 MOST_CELLS = 2**20
 # How many patterns are saved in both formats.
@@ -227,7 +227,7 @@ def zipped_tables(folder):
 
 def mended(folder, table):
     """The table with its variables mended by the recipe."""
-    with open(QUESTIONS, encoding="utf-8") as it:
+    with open(RECIPES, encoding="utf-8") as it:
         recipe = re.search(r"<!-- recipe: variables -->\n```sh\n(.*?)\n```", it.read(), re.DOTALL)[1]
     with open(os.path.join(folder, "Wind.rule"), "wb") as it:
         it.write(table)

@@ -5,7 +5,7 @@ which `sha256sum` writes of a file of that name with that text.
 
 usage: tests/program/keys.py PROGRAM [--cases N] [--seed SEED]
 
-The rows are: forms and the order of files; lists (`--from`), with both ends; objects (`--json`), which Python's `json` reads; odd names; files that are refused, and that can't be opened or read; the
+The rows are: forms and the order of files; generations that are ignored; lists (`--from`), with both ends; objects (`--json`), which Python's `json` reads; odd names; files that are refused, and that can't be opened or read; the
 statuses; outputs that fail; the line of progress on a terminal; N random files of both formats in one process; and 100,000 names in one process,
 within bounds of time and memory. It needs coreutils from 9.0 on, and GNU time. The last line counts the checks.
 """
@@ -44,6 +44,13 @@ CLOCK = "/usr/bin/time"
 NAMES, SECONDS, TIMES, LITTLE = 100_000, 20, 6, 6_000_000
 # Why a file has no key though the program was not let read it.
 ABSENT, LOCKED, FOLDER, OTHER = "no such file", "permission denied", "is a folder", "can't be opened"
+# The same of a name that isn't UTF-8 text, and what the end of a run over folders says of such names.
+NO_NAME = "the name isn't UTF-8 text (collection.py reads such files)"
+LEFT_OUT = b"Files and folders left out because the name isn't UTF-8 text: %d.\n"
+DEVICES_LEFT_OUT = b"Devices, pipes and sockets left out: %d.\n"
+PIPE = b"pipe is a pipe: it is read when a program writes to it.\n"
+# The option by which a file has the key of its pattern with generation 0.
+AT_START = "--ignore-generation"
 # What a run that is misused answers: a text on standard error.
 MISUSED = Answer(5, b"", None)
 
@@ -63,6 +70,30 @@ def sentences():
 def told(kind, line=""):
     """Why a file is refused, as it is told behind its name."""
     return f"{line}{kind}: {sentences()[kind]}"
+
+
+# What a file is whose first bytes are these, or nothing.
+GOLLY = "open it in Golly, and save it as RLE or as a macrocell file."
+FOREIGN = [(re.compile(beginning, re.DOTALL), advice) for beginning, advice in (
+    (rb"\x1f\x8b", "This is a gzip file: unpack it first, with gunzip."), (rb"BZh", "This is a bzip2 file: unpack it first, with bunzip2."),
+    (rb"\xfd7zXZ\0", "This is an xz file: unpack it first, with unxz."), (rb"PK", "This is a zip file: unpack it first, with unzip."),
+    (rb".{257}ustar", "This is a tar file: unpack it first, with tar -xf."),
+    (rb"\x89PNG|GIF8|\xff\xd8\xff", "This is an image, not a pattern file."),
+    (rb".*\0", "This isn't a text file, so it is no pattern file."), (rb"\Z", "The file is empty: save it or download it again."),
+    (rb"[ \t\n\r\f]*<", "This is a web page (HTML): download the file that it links to."),
+    (rb"\xef\xbb\xbf", "The file begins with a UTF-8 byte order mark: remove it, or save the file as UTF-8 without one."),
+    (rb"#Life 1\.05", f"This is a Life 1.05 file: {GOLLY}"), (rb"#Life 1\.06", f"This is a Life 1.06 file: {GOLLY}"),
+    (rb"#MCell", f"This is an MCell file: {GOLLY}"),
+    (rb"@RULE", "This is a rule table, not a pattern: name it after the option --table of step."),
+    (rb"!|[.O*\r]+(\n|\Z)", f"This is a plaintext file (.cells): {GOLLY}"),
+    (rb"(#[^\n]*\n|\n)*(?=[^\n#])(?=[^\n]*o)[0-9bo$!. \t\r\f]+(\n|\Z)",
+     "The header is missing: put one before the items, such as x = 0, y = 0, rule = B3/S23."),
+    (rb"(?=[^\n]*\r)[^\n]*\Z", "The lines end in a carriage return alone: turn each into a line feed, with tr '\\r' '\\n'."))]
+
+
+def advice_of(data):
+    """What is said of a refused file that is something else than a pattern, after a space, or nothing."""
+    return next((f" {advice}" for beginning, advice in FOREIGN if beginning.match(data[:512])), "")
 
 
 def escaped(name):
@@ -90,7 +121,19 @@ def outcome_of(data, form):
     if answer.status == 0:
         return 0, key_of(answer.output)
     *line, kind = answer.fault.split()
-    return answer.status, told(kind, " ".join([*line, ""]))
+    return answer.status, told(kind, " ".join([*line, ""])) + ("" if kind in ("Full", "Memory") else advice_of(data))
+
+
+def without_generation(data):
+    """A file of the same rule and cells, with generation 0: the canonical text of one that isn't refused, without the line of its generation."""
+    return re.sub(rb"^#G \d+\n", b"", commands.canon(commands.File(data)).output, flags=re.MULTILINE)
+
+
+@functools.cache
+def outcome_at_start(data, form):
+    """The same as if the file gave no generation."""
+    outcome = outcome_of(data, form)
+    return outcome_of(without_generation(data), form) if outcome[0] == 0 else outcome
 
 
 # What is said of a file that has a key, and is probably meant otherwise: a macrocell file, and RLE.
@@ -98,13 +141,30 @@ RETURN = b"line 1 has a carriage return inside it: the file seems to have lost i
 SQUARES = b"the file has no line of squares, so it is the blank pattern; a macrocell file that lost its line ends looks like this"
 COMMENT = b"a line such as `#RB36/S23` or `#G7`, without a space, is a comment here, and a rule or a generation in Golly"
 CELLS = b"the header gives the pattern a size, but no cell is alive, so it is the blank pattern; a file that lost its rows looks like this"
+CUT = b"the file has no `!`, and fewer rows than its header says; a file that was cut off before its end looks like this"
+JOINED = b"another header follows the `!`, and all that follows the `!` is ignored; a file that several patterns were joined into looks like this"
+
+
+def rows_of(items):
+    """How many rows items have: each ends with a `$`, and the last one with the items, if it has a state."""
+    *ended, last = re.split(rb"(?<=\$)", items)
+    counts = [int(re.search(rb"(\d*)\$$", row)[1] or 1) for row in ended]
+    return sum(counts) + (re.search(rb"[^\s\d]", last) is not None)
 
 
 def warning_of_rle(data):
     """What is said of RLE with a key, or nothing."""
-    header = next(line for line in data.split(b"\n") if line.startswith(b"x"))
+    lines = data.split(b"\n")
+    number, header = next((number, line) for number, line in enumerate(lines) if line.startswith(b"x"))
     sizes = re.match(rb"x\s*=\s*(\d+)\s*,\s*y\s*=\s*(\d+)", header).groups()
-    return CELLS if any(it.strip(b"0") for it in sizes) and commands.File(data).pattern.plane.is_blank else None
+    if any(it.strip(b"0") for it in sizes) and commands.File(data).pattern.plane.is_blank:
+        return CELLS
+    behind = lines[number + 1:]
+    last = next((at for at, line in enumerate(behind) if b"!" in line and not line.startswith(b"#")), None)
+    if last is None:
+        return CUT if rows_of(b" ".join(line for line in behind if not line.startswith(b"#"))) < int(sizes[1]) else None
+    rest = [behind[last].split(b"!", 1)[1], *behind[last + 1:]]
+    return JOINED if any(re.match(rb"[ \t\r]*x[ \t\r]*=", line) for line in rest) else None
 
 
 def warning_of(data):
@@ -128,11 +188,11 @@ def warned(name, data):
     return b"" if warning is None else b"%s: warning: %s\n" % (escaped(name), warning)
 
 
-def wanted(files, form="placed", is_zero=False):
+def wanted(files, form="placed", is_zero=False, outcome=outcome_of):
     """The answer of a run over files, each a name and its bytes, or why it can't be read."""
     statuses, output, errors = [0], [], []
     for name, data in files:
-        status, said = outcome_of(data, form)
+        status, said = outcome(data, form)
         statuses.append(status)
         if status == 0:
             output.append(key_line(said, name, is_zero))
@@ -173,9 +233,9 @@ class Place:
         settings = {**os.environ, "program": self.program, "LC_ALL": "C"}
         return processes.run(["bash", "-c", script], source, cwd=self.here, timeout=300, env=settings, **how)
 
-    def wanted(self, names, form="placed", is_zero=False):
+    def wanted(self, names, form="placed", is_zero=False, outcome=outcome_of):
         """The answer of a run over files of the place, or that are absent."""
-        return wanted([(name, self.files.get(name, ABSENT)) for name in names], form, is_zero)
+        return wanted([(name, self.files.get(name, ABSENT)) for name in names], form, is_zero, outcome)
 
     def row(self, name, words, answer, source=b"", **how):
         counting.row(name, problems_of(self.run(words, source, **how), answer))
@@ -217,7 +277,8 @@ WORKED = [
 # What a fault is told as, also worked out by hand.
 REFUSED = [
     (b"child.mc", 2, b"child.mc: line 4: BadChild: A child number doesn't refer to an earlier square one level down.\n"),
-    (b"empty", 2, b"empty: line 1: NoHeader: The file begins with no header, neither [M2] nor x = .., or it ends before one.\n"),
+    (b"empty", 2, b"empty: line 1: NoHeader: The file begins with no header, neither [M2] nor x = .., or it ends before one. "
+     b"The file is empty: save it or download it again.\n"),
     (b"bad.rle", 2, b"bad.rle: line 2: StateRange: A state is above 1 under a B/S rule, or above 255 in a macrocell file.\n"),
     (b"long", 2, b"long: line 2: LineTooLong: A line of the file, or of the rule table, has more than 2^20 bytes.\n"),
     (b"absent", 3, b"absent: no such file\n"),
@@ -243,6 +304,51 @@ def form_rows(place):
     for form, count in (("placed", 3), ("moved", 2), ("turned", 1)):
         keys = {line[:64] for line in place.run(["--form", form, "glider", "shifted", "turned"]).output.splitlines()}
         counting.row(f"keys of a glider, one that was moved, and one that was turned, {form}", [repr(keys)] if len(keys) != count else [])
+
+
+# Files that give a generation, of a pattern that is above without one.
+LATER = {
+    b"later.rle": b"#CXRLE Pos=-4,0 Gen=7\nx = 9, y = 1, rule = 23/3\no7bo!\n",
+    b"later.mc": b"[M2]\n#R B3/S23\n#G 12\n....*$\n....*$\n4 0 0 1 2\n",
+    b"last.rle": b"#CXRLE Pos=-4,0 Gen=18446744073709551615\nx = 9, y = 1, rule = 23/3\no7bo!\n",
+    b"none.mc": b"[M2]\n#R B3/S23\n#G 0\n....*$\n....*$\n4 0 0 1 2\n",
+    b"later_named.rle": b"#CXRLE Gen=3\nx = 1, y = 1, rule = Life\no!\n",
+    b"later_blank.mc": b"[M2]\n#G 5\n",
+    b"beyond.rle": b"#CXRLE Gen=18446744073709551616\nx = 9, y = 1, rule = 23/3\no7bo!\n",
+    b"refused.mc": b"[M2]\n#R B3/S23\n#G 12\n....*$\n4 0 0 0 9\n",
+}
+# Their texts without a generation.
+LATER_WORKED = [
+    ("placed", b"later.rle", PAIR_TEXT), ("placed", b"later.mc", PAIR_TEXT), ("placed", b"last.rle", PAIR_TEXT), ("placed", b"none.mc", PAIR_TEXT),
+    ("moved", b"later.rle", WORKED[2][2]), ("turned", b"later.mc", WORKED[3][2]), ("turned", b"last.rle", WORKED[3][2]),
+    ("placed", b"later_named.rle", WORKED[6][2]), ("placed", b"later_blank.mc", LIFE), ("moved", b"later_blank.mc", LIFE),
+]
+
+
+def generation_rows(place):
+    for name, data in LATER.items():
+        place.put(name, data)
+    option = AT_START
+    for form, name, text in WORKED + LATER_WORKED:
+        answer = Answer(0, key_line(key_of(text), name), warned(name, place.files[name]))
+        place.row(f"{name.decode()} without its generation, {form}, by hand", [option, "--form", form, name], answer)
+    names = [*ORDER, *LATER]
+    for form in ("placed", "moved", "turned"):
+        ignored = place.wanted(names, form, outcome=outcome_at_start)
+        place.row(f"files without their generations, {form}", [*names, "--form", form, option], ignored)
+        place.row(f"the same, of a list, {form}", [option, "--form", form, "--from", "-"], ignored, listed(names))
+        place.row(f"the same, ended by NULs, {form}", ["--zero", option, "--form", form, *names],
+                  place.wanted(names, form, is_zero=True, outcome=outcome_at_start))
+        place.row(f"the same with their generations, {form}", [*names, "--form", form], place.wanted(names, form))
+        pairs = [b"pair.rle", b"pair.mc", b"later.rle", b"later.mc", b"last.rle", b"none.mc"]
+        keys = [len({line[:64] for line in place.run([*pairs, "--form", form, *more]).output.splitlines()}) for more in ([], [option])]
+        counting.row(f"keys of a pattern in four generations, {form}", [] if keys == [4, 1] else [repr(keys)])
+        found = place.run(["--json", option, "--form", form, *names])
+        files = [(name, place.files.get(name, ABSENT)) for name in names]
+        counting.row(f"the objects of files without their generations, {form}", object_problems(found, files, form, outcome_at_start))
+    place.row("standard input without its generation", [option, "-"], wanted([(b"-", LATER[b"later.mc"])], outcome=outcome_at_start), LATER[b"later.mc"])
+    for words in ([option + "=yes", "blank"], [option, "blank", option], ["--ignore", "blank"], [option]):
+        place.row(f"an option that is misused: {' '.join(words)}", words, MISUSED)
 
 
 def refused_rows(place):
@@ -336,9 +442,9 @@ def name_rows(place, texts):
     simple = [name for name in ODD if b"\n" not in name]
     place.row("odd names in a list of lines", ["--from", "-"], place.wanted(simple), listed(simple))
     names = [NO_TEXT[0], ODD[0], *NO_TEXT[1:], ODD[4]]
-    files = [(name, OTHER if name in NO_TEXT else place.files[name]) for name in names]
+    files = [(name, NO_NAME if name in NO_TEXT else place.files[name]) for name in names]
     place.row("names in a list that are no UTF-8", ["--zero", "--from", "-"], wanted(files, is_zero=True), listed(names, b"\0"))
-    place.row("a word that is no UTF-8", ["pair.rle", NO_TEXT[0]], wanted([(b"pair.rle", SMALL[b"pair.rle"]), ("\ufffd".encode(), OTHER)]))
+    place.row("a word that is no UTF-8", ["pair.rle", NO_TEXT[0]], wanted([(b"pair.rle", SMALL[b"pair.rle"]), ("\ufffd".encode(), NO_NAME)]))
 
 
 # ---- objects
@@ -362,9 +468,9 @@ OBJECT_DEVICES = [
 ]
 
 
-def object_of(name, data, form="placed"):
+def object_of(name, data, form="placed", outcome=outcome_of):
     """The object of a file, as Python has it."""
-    status, said = outcome_of(data, form)
+    status, said = outcome(data, form)
     name = name.decode(errors="replace")
     if status == 0:
         return {"name": name, "key": said}
@@ -374,13 +480,13 @@ def object_of(name, data, form="placed"):
     return {"name": name, "kind": kind, **({"line": int(line)} if line else {}), "reason": reason}
 
 
-def object_problems(found, files, form="placed"):
+def object_problems(found, files, form="placed", outcome=outcome_of):
     """What is wrong with the answer of a run with --json over files, each a name and its bytes, or why it can't be read."""
     # The names of members are held to their order, and each object to a line.
     ours = [list(json.loads(line).items()) for line in found.output.decode().split("\n")[:-1]]
-    its = [list(object_of(name, data, form).items()) for name, data in files]
-    status = max((outcome_of(data, form)[0] for _, data in files), default=0)
-    errors = b"".join(warned(name, data) for name, data in files if outcome_of(data, form)[0] == 0)
+    its = [list(object_of(name, data, form, outcome).items()) for name, data in files]
+    status = max((outcome(data, form)[0] for _, data in files), default=0)
+    errors = b"".join(warned(name, data) for name, data in files if outcome(data, form)[0] == 0)
     return [f"{a!r:.300} and not {b!r:.300}" for a, b in itertools.zip_longest(ours, its) if a != b] + (
         [] if found.output.endswith(b"\n") or not files else ["the last object has no end"]) + problems_of(
         found._replace(output=b""), Answer(status, b"", errors))
@@ -396,7 +502,7 @@ def object_rows(place):
     place.row("no object of no file", ["--json", "--from", "-"], Answer(0))
     place.row("no object where the list can't be read", ["--json", "blank", "--from", "absent"], Answer(3, b"", b"ReadFault\n"))
     found = place.run(["pair.rle", NO_TEXT[0], "--json"])
-    counting.row("the object of a word that is no UTF-8", object_problems(found, [(b"pair.rle", SMALL[b"pair.rle"]), (NO_TEXT[0], OTHER)]))
+    counting.row("the object of a word that is no UTF-8", object_problems(found, [(b"pair.rle", SMALL[b"pair.rle"]), (NO_TEXT[0], NO_NAME)]))
     found = place.run(["--json", "-", "blank"], b"o!\n")
     counting.row("the object of a refused standard input", object_problems(found, [(b"-", b"o!\n"), (b"blank", SMALL[b"blank"])]))
     # A file that is refused is warned of no more than without --json.
@@ -412,7 +518,7 @@ def odd_object_rows(place):
     found = place.run(["--json", "--", *ODD])
     counting.row("the objects of odd names", object_problems(found, [(name, place.files[name]) for name in ODD]))
     names = [*ODD, *NO_TEXT, b"\xffe\xc3", *[bytes([byte]) for byte in range(128, 256)]]
-    listed_files = [(name, OTHER if name.decode(errors="replace").encode() != name else place.files[name]) for name in names]
+    listed_files = [(name, NO_NAME if name.decode(errors="replace").encode() != name else place.files[name]) for name in names]
     found = place.run(["--json", "--zero", "--from", "-"], listed(names, b"\0"))
     counting.row("the objects of names that end in NUL, some of which are no UTF-8", object_problems(found, listed_files))
 
@@ -477,7 +583,7 @@ DEVICES = [
     ("a file for which there is no memory", 'ulimit -v 12000; "$program" keys pair.mc large blank', Answer(4, PAIR + BLANK, MEMORY)),
     ("the greatest status", 'ulimit -v 12000; "$program" keys child.mc large absent blank', Answer(4, BLANK, REFUSED[0][2] + MEMORY + REFUSED[4][2])),
     ("a file of more than 2^30 bytes", 'truncate -s 1073741825 huge; "$program" keys pair.mc huge blank; status=$?; rm huge; exit $status',
-     Answer(2, PAIR + BLANK, b"huge: InputTooLong: A file has more than 2^30 bytes.\n")),
+     Answer(2, PAIR + BLANK, b"huge: InputTooLong: A file has more than 2^30 bytes. This isn't a text file, so it is no pattern file.\n")),
 ]
 
 
@@ -539,14 +645,14 @@ def progress_rows(place):
     absent = REFUSED[4][2]
     words = ["pipe", "blank", "absent", "blank"]
     for name, more, seconds, answer in (
-        ("a run that is held", ["pipe", "blank"], HELD, Answer(0, held + BLANK, b"\r1 of 2 files" + CLEARED)),
-        ("cleared before a fault", words, HELD, Answer(3, held + BLANK + BLANK, b"\r1 of 4 files" + CLEARED + absent)),
-        ("a list", ["--from", "names"], HELD, Answer(3, held + BLANK + BLANK, b"\r1 of 4 files" + CLEARED + absent)),
-        ("a quick run", words, 0, Answer(3, held + BLANK + BLANK, absent)),
+        ("a run that is held", ["pipe", "blank"], HELD, Answer(0, held + BLANK, PIPE + b"\r1 of 2 files" + CLEARED)),
+        ("cleared before a fault", words, HELD, Answer(3, held + BLANK + BLANK, PIPE + b"\r1 of 4 files" + CLEARED + absent)),
+        ("a list", ["--from", "names"], HELD, Answer(3, held + BLANK + BLANK, PIPE + b"\r1 of 4 files" + CLEARED + absent)),
+        ("a quick run", words, 0, Answer(3, held + BLANK + BLANK, PIPE + absent)),
     ):
         counting.row(f"progress on a terminal: {name}", problems_of(on_terminal(place, more, seconds), answer))
     shown = b"\r1 of 4 files" + CLEARED
-    answer = Answer(3, b"", held + shown + BLANK + absent + BLANK)
+    answer = Answer(3, b"", PIPE + held + shown + BLANK + absent + BLANK)
     counting.row("progress on a terminal: cleared before a key", problems_of(on_terminal(place, words, HELD, shared=True), answer))
     answer = Answer(3, held + BLANK + BLANK, absent)
     script = f'mkfifo pipe; {{ sleep {HELD}; cat pair.mc; }} > pipe & "$program" keys {" ".join(words)}; status=$?; rm pipe; exit $status'
@@ -581,7 +687,18 @@ def random_outcomes(given):
     """A random file, and its outcome in each form, or None where the reader would take long."""
     data = random_pattern(*given)
     is_slow = compare.has_slow_form(commands.File(data))
-    return data, {form: None if is_slow and form != "placed" else outcome_of(data, form) for form in ("placed", "moved", "turned")}
+    forms_of = {False: ("placed", "moved", "turned"), True: ("placed",)}[is_slow]
+    counted = {form: outcome_of(data, form) for form in forms_of}
+    return data, {**dict.fromkeys(("placed", "moved", "turned")), **counted, **{(form, AT_START): outcome_at_start(data, form) for form in forms_of}}
+
+
+def answer_of_random(named, files):
+    """The answer of a run over some of these files, each with its outcome."""
+    return Answer(
+        max(status for status, _ in named.values()),
+        b"".join(key_line(said, name) for name, (status, said) in named.items() if status == 0),
+        b"".join(b"%s: %s\n" % (name, said.encode()) if status else warned(name, files[name][0]) for name, (status, said) in named.items()),
+    )
 
 
 def random_rows(place, seed, count):
@@ -593,11 +710,7 @@ def random_rows(place, seed, count):
     counts = []
     for form in ("placed", "moved", "turned"):
         named = {name: outcomes[form] for name, (_, outcomes) in files.items() if outcomes[form] is not None}
-        answer = Answer(
-            max(status for status, _ in named.values()),
-            b"".join(key_line(said, name) for name, (status, said) in named.items() if status == 0),
-            b"".join(b"%s: %s\n" % (name, said.encode()) if status else warned(name, files[name][0]) for name, (status, said) in named.items()),
-        )
+        answer = answer_of_random(named, files)
         run = place.run(["--form", form, "--from", "-"], listed(named))
         keys, lines, their = answer.output.splitlines(), run.output.splitlines(), set(run.error.splitlines())
         wrong = [line for line in keys if line not in lines] + [line for line in answer.error.splitlines() if line not in their]
@@ -609,6 +722,11 @@ def random_rows(place, seed, count):
         double = [line for line in sorted(keys) if sum(other[:64] == line[:64] for other in keys) > 1]
         found = place.shell(f'"$program" keys --form {form} --from - 2> told | sort | uniq -w 64 -D', listed(named))
         counting.row(f"their doubles by uniq, {form}", problems_of(found, Answer(0, b"".join(line + b"\n" for line in double))))
+    for form in ("placed", "moved", "turned"):
+        named = {name: outcomes[form, AT_START] for name, (_, outcomes) in files.items() if (form, AT_START) in outcomes}
+        answer = answer_of_random(named, files)
+        counting.row(f"{len(named)} random files without their generations, {form}",
+                     problems_of(place.run([AT_START, "--form", form, "--from", "-"], listed(named)), answer))
     counting.row("some of them are moved and some turned", [] if counts[0] > counts[1] > counts[2] else [repr(counts)])
 
 
@@ -653,6 +771,7 @@ def main():
             small.put(name, data)
             odd.put(name, data)
         form_rows(small)
+        generation_rows(small)
         refused_rows(small)
         standard_input_rows(small)
         list_rows(small)

@@ -9,8 +9,10 @@ usage: tests/program/messages.py PROGRAM
 The last line counts the checks.
 """
 
+import json
 import os
 import pty
+import re
 import shutil
 import socket
 import subprocess
@@ -22,7 +24,8 @@ sys.dont_write_bytecode = True  # nothing is left in tests/
 sys.path.insert(0, os.path.dirname(os.path.dirname(os.path.abspath(__file__))))
 
 import keys  # noqa: E402
-from keys import ABSENT, CELLS, COMMENT, FOLDER, LOCKED, OTHER, RETURN, SQUARES, key_line, key_of, problems_of, sentences  # noqa: E402
+from keys import ABSENT, CELLS, COMMENT, CUT, FOLDER, JOINED, LEFT_OUT, LOCKED, NO_NAME, OTHER, RETURN, SQUARES  # noqa: E402
+from keys import key_line, key_of, problems_of, sentences  # noqa: E402
 from shared import counting, processes  # noqa: E402
 from shared.fixtures import FILES, HEADER, LIFE, PAIR_TEXT, canonical  # noqa: E402
 from shared.processes import Answer  # noqa: E402
@@ -75,17 +78,37 @@ def plant(place):
     os.symlink("tree", place.path(b"link"))
 
 
+def named_pipe_rows(place):
+    """On a terminal a run says that a name is that of a pipe, since it waits there. One that a shell makes for a command has no such line."""
+    os.mkfifo(place.path(b"pipe"))
+    text = place.told(["canon", "pair"]).output
+    for name, shown in ((b"pipe", keys.PIPE), (b"/dev/stdin", b"")):
+        with subprocess.Popen(["sh", "-c", "cat pair > pipe"], cwd=place.here), subprocess.Popen(["cat", "pair"], cwd=place.here, stdout=subprocess.PIPE) as fed:
+            if name != b"pipe":
+                open(place.path(b"pipe"), "rb").close()
+            found = from_stream(place, ["canon", name], fed.stdout)
+        counting.row(f"a pipe on a terminal: {name!r}", problems_of(found, Answer(0, text, shown)))
+    os.remove(place.path(b"pipe"))
+
+
 def folder_rows(place):
     plant(place)
-    lost = b"tree/" + LOSSY + b": can't be opened\n"
+    lost = b"tree/%s: %s\n" % (LOSSY, NO_NAME.encode())
+    # The pipe and the socket; links are passed over.
+    devices = keys.DEVICES_LEFT_OUT % 2
+    left_out = LEFT_OUT % 1 + devices
     found = lines_of([b"tree/" + name for name in IN_TREE])
     for word in ("-r", "--recursive"):
-        place.holds(f"keys {word} of a folder", ["keys", word, "tree"], Answer(3, found, lost))
+        place.holds(f"keys {word} of a folder", ["keys", word, "tree"], Answer(3, found, lost + left_out))
+    lossy = json.dumps({"name": f"tree/{LOSSY.decode()}", "kind": "ReadFault", "reason": NO_NAME}, ensure_ascii=False, separators=(",", ":"))
+    answer = place.told(["keys", "-r", "--json", "tree"])
+    right = (answer.status, answer.error, lossy.encode() in answer.output.split(b"\n"), answer.output.count(b"\n")) == (3, left_out, True, len(IN_TREE) + 1)
+    counting.row("keys -r --json of a folder", [] if right else [repr(answer)])
     names = b"".join(b"tree/%s\n" % keys.escaped(name) for name in IN_TREE)
-    place.holds("duplicates -r of a folder", ["duplicates", "-r", "tree"], Answer(3, names, lost))
-    place.holds("a slash after the folder", ["keys", "tree/", "-r"], Answer(3, found, lost))
+    place.holds("duplicates -r of a folder", ["duplicates", "-r", "tree"], Answer(3, names, lost + left_out))
+    place.holds("a slash after the folder", ["keys", "tree/", "-r"], Answer(3, found, lost + left_out))
     linked = lines_of([b"link/" + name for name in IN_TREE])
-    place.holds("a link to the folder", ["keys", "-r", "link"], Answer(3, linked, lost.replace(b"tree", b"link")))
+    place.holds("a link to the folder", ["keys", "-r", "link"], Answer(3, linked, lost.replace(b"tree", b"link") + left_out))
     words = ["keys", "-r", "pair", "tree/b", "-", "absent", "tree/a"]
     names = [b"pair", b"tree/b/d/e", b"tree/b/x", b"-", b"tree/a"]
     place.holds("folders among files", words, Answer(3, lines_of(names), b"absent: no such file\n"), PAIR_TEXT)
@@ -96,7 +119,9 @@ def folder_rows(place):
     place.put(b"list", b"tree\npair\n")
     place.holds("a folder in a list", ["keys", "-r", "--from", "list"], Answer(3, lines_of([b"pair"]), b"tree: is a folder\n"))
     place.put(b"tree/" + LOSSY, FILES["input"])
-    place.holds("a file that has the name with U+FFFD", ["keys", "-r", "tree"], Answer(3, found, lost + lost))
+    place.holds("a file that has the name with U+FFFD", ["keys", "-r", "tree"], Answer(3, found, lost + lost + LEFT_OUT % 2 + devices))
+    answer = Answer(3, lines_of([b"pair"]), b"\xff: %s\n" % NO_NAME.encode() + LEFT_OUT % 1)
+    place.holds("a list, where folders are read", ["keys", "-r", "--from", "-"], answer, b"pair\n\xff\n")
     os.remove(place.path(b"tree/" + LOSSY))
     for name, mode in ((b"shut", 0), (b"hidden", 0o444)):
         os.makedirs(place.path(b"doors/" + name))
@@ -118,7 +143,7 @@ def folder_rows(place):
     for name in names:
         place.put(name, FILES["pair.rle"])
     place.holds("3,000 files in a folder", ["keys", "-r", "wide"], Answer(0, lines_of(names)))
-    answer = Answer(3, found + lines_of([b"pipe", b"pair"]), lost + b"\r9 of 10 files" + keys.CLEARED)
+    answer = Answer(3, found + lines_of([b"pipe", b"pair"]), lost + keys.PIPE + b"\r9 of 10 files" + keys.CLEARED + left_out)
     run = keys.on_terminal(place, ["-r", "tree", "pipe", "pair"], keys.HELD)
     counting.row("progress knows how many files there are", problems_of(run, answer))
 
@@ -130,11 +155,11 @@ SHOWN = "error: an argument isn't UTF-8 text: gl\ufffd\\x1b\n".encode()
 
 
 def argument_rows(place):
-    lossy = "gl\ufffd\x1b: can't be opened\n".encode()
+    lossy = f"gl\ufffd\x1b: {NO_NAME}\n".encode()
     place.holds("a file among files", ["keys", NO_TEXT, "pair"], Answer(3, lines_of([b"pair"]), lossy))
     place.holds("a file among duplicates", ["duplicates", "pair", NO_TEXT, "pair"], Answer(3, b"pair\npair\n", lossy))
     place.holds("two files among files", ["keys", "pair", NO_TEXT, "pair", NO_TEXT], Answer(3, lines_of([b"pair"] * 2), lossy * 2))
-    place.holds("a file among folders", ["keys", "-r", "tree/b", NO_TEXT], Answer(3, lines_of([b"tree/b/d/e", b"tree/b/x"]), lossy))
+    place.holds("a file among folders", ["keys", "-r", "tree/b", NO_TEXT], Answer(3, lines_of([b"tree/b/d/e", b"tree/b/x"]), lossy + LEFT_OUT % 1))
     place.put("gl\ufffd\x1b".encode(), FILES["pair.mc"])
     place.put(NO_TEXT, FILES["pair.mc"])
     place.holds("a file, where another has the name with U+FFFD", ["keys", NO_TEXT], Answer(3, b"", lossy))
@@ -174,6 +199,10 @@ EXPLAINED = {
     b"cell.mcl": b"#MCell 4.00\n#L A.A\n",
     b"packed.bz2": b"BZh91AY&SY",
     b"packed.xz": b"\xfd7zXZ\x00\x00",
+    b"packed.tar": b"pair.rle".ljust(257, b"\0") + b"ustar\x0000",
+    b"drawn.png": b"\x89PNG\r\n\x1a\n\0\0\0\rIHDR",
+    b"drawn.gif": b"GIF89a\x03",
+    b"drawn.jpg": b"\xff\xd8\xff\xe0\x00\x10JFIF",
     b"binary": b"\x7fELF\x02\x01\x01\x00\n",
     b"text": b"A glider.\nx = 3, y = 3\no!\n",
     b"capital": b"X = 3, y = 3\no!\n",
@@ -220,6 +249,10 @@ ALONE = [
     (b"cell.mcl", "line 3: NoHeader", "cell.mcl, line 3", None, f"This is an MCell file: {GOLLY}"),
     (b"packed.bz2", "line 1: NoHeader", "packed.bz2, line 1", None, "This is a bzip2 file: unpack it first, with bunzip2."),
     (b"packed.xz", "line 1: NoHeader", "packed.xz, line 1", None, "This is an xz file: unpack it first, with unxz."),
+    (b"packed.tar", "line 1: NoHeader", "packed.tar, line 1", None, "This is a tar file: unpack it first, with tar -xf."),
+    (b"drawn.png", "line 1: NoHeader", "drawn.png, line 1", None, "This is an image, not a pattern file."),
+    (b"drawn.gif", "line 1: NoHeader", "drawn.gif, line 1", None, "This is an image, not a pattern file."),
+    (b"drawn.jpg", "line 1: NoHeader", "drawn.jpg, line 1", None, "This is an image, not a pattern file."),
     (b"binary", "line 1: NoHeader", "binary, line 1", None, "This isn't a text file, so it is no pattern file."),
     (b"text", "line 1: NoHeader", "text, line 1", "A glider.", HEADERS),
     (b"capital", "line 1: NoHeader", "capital, line 1", "X = 3, y = 3", HEADERS),
@@ -388,7 +421,22 @@ WARNED = [
     (b"x = 0, y = 0\n!\n", None), (b"x = 00, y = 0, rule = 23/3\n3b!\n", None), (b"x = 0, y = 0\n2o!\n", None), (b"x = 0, y = 0", None),
     (b"#1\nx = 0, y = 0, rule = B36/S23\n!\n", None), (b"x = 3, y = 3\n3b$2bo!\n", None), (b"x = 3, y = 3, rule = A\n.$.X!\n", None),
     (b"x = 3, y = 3, rule = A\n.$.yO!\n", None), (b"x = 3, y = 3\n3b3\n", None), (b"#C x = 3, y = 3\n", None), (b"x = 3, z = 3\n!\n", None),
+    (b"x = 5, y = 5, rule = B3/S23\n5o$\n", CUT), (b"x = 3, y = 3\no$o", CUT), (b"x = 3, y = 3\n3o$3o$\n", CUT), (b"x = 3, y = 2\n3o\n$\n\n", CUT),
+    (b"x = 3, y = 007\n3o5$\n#C $\n#!$\n", CUT), (b"x = 3, y = 7\n3o5$ \t\r\n", CUT), (b"x=1,y=99999999999999999999999,rule=23/3\no2$o", CUT),
+    (b"x = 3, y = 3, rule = y9\no$o\n", CUT), (b"x = 0, y = 2\no", CUT), (b"x = 2, y = 3\n2o$b$\n", CUT),
+    (b"x = 3, y = 3\n3o$3o$3o\n", None), (b"x = 3, y = 3\n3o$3o$b", None), (b"x = 3, y = 3\n3o3$\n", None), (b"x = 3, y = 3\n3o2$\n \n3b", None),
+    (b"x = 3, y = 7\n3o6$\n\n#C\nb\n", None), (b"x = 3, y = 7\n3o12$", None), (b"x = 3, y = 1, rule = B3/S23\n3o", None), (b"x = 3, y = 0\n3o$o", None),
+    (b"x = 5, y = 5\n5o!", None), (b"x = 5, y = 5\n5o$!\n\n", None), (b"x = 3, y = 3, rule = y9\no$o$A\n", None),
+    (b"x = 1, y = 1\no!\nx = 1, y = 1\no!\n", JOINED), (b"x = 1, y = 1\no! x=1\n", JOINED), (b"x = 0, y = 0\n!\n#N\n\nx\t = 3, y = 3\n3o!\n", JOINED),
+    (b"x = 1, y = 2\no!\n#C\n\n \n  x=a\n", JOINED), (b"x = 1, y = 1\no!x =", JOINED), (b"x = 1, y = 1\no!" + b"\n" * 70_000 + b"#\nx" + b" " * 70_000 + b"=", JOINED),
+    (b"x = 1, y = 1\n#C!\no!\n#x\nx\nx=\n", JOINED),
+    (b"x = 1, y = 1\no! \t\r\n\n#C x = 1, y = 1\n#\n \t#o!\n\v\f\0\x1a", None), (b"x = 1, y = 1\no!# x=\n", None), (b"x = 0, y = 0\n!\n\n", None),
+    (b"x = 1, y = 1\no!\nA pattern! So x = 1\nCB 1,1,1,1\nx\n= 1\nxx=1\nx y=1\nxy = 1\n", None), (b"x = 1, y = 1\no!!\nbo!\n", None),
+    (b"x = 1, y = 1\no!\n#" + b"C" * 70_000 + b"x=\n", None), (b"x = 1, y = 1\no!" + b"\r\n" * 70_000, None),
 ]
+# RLE of many pieces: with all its rows, without the last of them, and with text after it.
+ROWS = b"x = 9, y = 160001\n" + b"3obo2b\n2o12$bo 8$\n" * 8_000
+WARNED += [(ROWS + b"o", None), (ROWS, CUT), (ROWS + b"o!\n", None), (ROWS + b"o!\nx=", JOINED), (ROWS[:-30] + b"!", None)]
 
 
 def warning_rows(place):
@@ -413,7 +461,8 @@ def warning_rows(place):
 
 
 # Files, and what is said of each.
-ODD_FILES = [(b"lost", RETURN), (b"squareless", SQUARES), (b"commented.mc", COMMENT), (b"dead.rle", CELLS), (b"pair", None), (b"od\x1bd\n\\", SQUARES)]
+ODD_FILES = [(b"lost", RETURN), (b"squareless", SQUARES), (b"commented.mc", COMMENT), (b"dead.rle", CELLS), (b"cut.rle", CUT), (b"joined.rle", JOINED),
+             (b"pair", None), (b"od\x1bd\n\\", SQUARES)]
 # The commands over one file, and over two, with what they answer and what is said, in its order.
 SINGLE = [["canon"], ["canon", "--form", "turned"], ["convert", "--to", "rle"], ["convert", "--to", "mc"], ["show"], ["step"]]
 DOUBLE = [
@@ -431,7 +480,8 @@ DOUBLE = [
 def task_warning_rows(place):
     """The commands over one file and two warn after what they answer, where they explain a fault."""
     dead = b"x = 3, y = 3\n3b!\n"
-    for name, data in ((b"squareless", b"[M2]\n"), (b"commented.mc", b"[M2]\n#G7\n" + LEAF), (b"dead.rle", dead), (b"od\x1bd\n\\", b"[M2]\n#C\n"),
+    for name, data in ((b"squareless", b"[M2]\n"), (b"commented.mc", b"[M2]\n#G7\n" + LEAF), (b"dead.rle", dead), (b"cut.rle", b"x = 3, y = 3\n3o$\n"),
+                       (b"joined.rle", b"x = 3, y = 1\n3o!\n" * 2), (b"od\x1bd\n\\", b"[M2]\n#C\n"),
                        (b"dead.spread", b"x = 1, y = 1, rule = Spread\n.!\n")):
         place.put(name, data)
     cases = list(DOUBLE)
@@ -451,6 +501,36 @@ def task_warning_rows(place):
     counting.row("no warning where the output fails", problems_of(found, Answer(3, b"", b"WriteFault\nThe output can't be written.\n")))
 
 
+# ---- files of other kinds
+
+# Those of the files above that are something else than a pattern.
+FOREIGN = [b"packed.gz", b"packed.zip", b"packed.bz2", b"packed.xz", b"packed.tar", b"drawn.png", b"drawn.gif", b"drawn.jpg", b"binary", b"empty", b"page.html",
+           b"marked", b"old.lif", b"new.lif", b"cell.mcl", b"named.cells", b"rows.cells", b"table", b"headless", b"commented", b"returns"]
+
+
+def foreign_rows(place):
+    """`keys` and `duplicates` say of a refused file what it is, as `canon --explain` does, and say no more of one that is a pattern with a mistake."""
+    lines, objects = [], []
+    for name, fault, _, _, advice in ALONE:
+        if name not in FOREIGN:
+            continue
+        line, kind = re.fullmatch(r"line (\d+): (\w+)", fault).groups()
+        reason = f"{sentences()[kind]} {advice}"
+        lines.append(b"%s: %s: %s\n" % (name, fault.encode(), reason.encode()))
+        objects.append({"name": name.decode(), "kind": kind, "line": int(line), "reason": reason})
+        place.holds(f"keys names {name.decode()}", ["keys", name], Answer(2, b"", lines[-1]))
+        place.holds(f"keys names {name.decode()} from standard input", ["keys", "-"], Answer(2, b"", lines[-1].replace(name, b"-", 1)), EXPLAINED[name])
+    counting.check(len(lines) == len(FOREIGN), "each file of another kind is one that canon explains")
+    named = [json.loads(line)["name"].encode() for line in place.told(["keys", "--json", *FOREIGN]).output.splitlines()]
+    counting.check(named == FOREIGN, "the objects of files of other kinds are in their order")
+    found = [json.loads(line) for line in place.told(["keys", "--json", *(it["name"] for it in objects)]).output.splitlines()]
+    counting.row("the objects of files of other kinds", [f"{a} and not {b}" for a, b in zip(found, objects) if a != b])
+    names = b"".join(line.partition(b":")[0] + b"\n" for line in lines)
+    place.holds("duplicates names files of other kinds in a list", ["duplicates", "--from", "-"], Answer(2, b"", b"".join(lines)), names)
+    mistaken = b"child.mc: line 4: BadChild: " + sentences()["BadChild"].encode() + b"\n"
+    place.holds("keys says no more of a pattern with a mistake", ["keys", "child.mc"], Answer(2, b"", mistaken))
+
+
 # ---- the end of a run over files
 
 ADD_FOLDERS = b"To read the files in a folder and below it, add -r.\n"
@@ -468,7 +548,7 @@ HINTED = [
     (["tree", "--from", "-"], b"x\0", IS_FOLDER % b"tree" + IS_OTHER % b"x\0", ADD_FOLDERS + ADD_ZERO),
     (["--from", "-", "--zero"], b"pair\0absent\0", IS_ABSENT % b"absent", b""), (["--from", "-"], b"pair\nabsent\n", IS_ABSENT % b"absent", b""),
     (["--from", "-", "--zero"], b"pair\nabsent\n", IS_ABSENT % b"pair\\nabsent\\n", LEAVE_ZERO),
-    (["--from", "-", "--zero"], b"pair\n\xff", b"pair\\n\xff: can't be opened\n", LEAVE_ZERO),
+    (["--from", "-", "--zero"], b"pair\n\xff", b"pair\\n\xff: %s\n" % NO_NAME.encode(), LEAVE_ZERO),
     (["--from", "-", "--zero", "pair", "absent"], b"a\nb\n", IS_ABSENT % b"absent" + IS_ABSENT % b"a\\nb\\n", LEAVE_ZERO),
     (["--from", "-", "--zero"], b"two\nlines\0", b"", b""), (["--from", "-", "--zero"], b"a\nb\0absent\0", IS_ABSENT % b"a\\nb" + IS_ABSENT % b"absent", b""),
     (["--from", "absent"], b"", b"ReadFault\n", b""), (["--from", "tree", "tree"], b"", b"ReadFault\n", b""),
@@ -538,9 +618,12 @@ def whole_terminal(place, words):
     return Answer(run.returncode, written, b"")
 
 
-# Names with control characters, and how a terminal gets them: ESC, BEL, TAB, DEL, and one of two bytes.
+# Names with control characters, and how a terminal gets them: ESC, BEL, TAB, DEL, and one of two bytes; and with characters that turn the direction of text,
+# of two bytes and of three, beside others that begin with the same bytes.
 CONTROLS = {b"\x1b[31mred": b"\\x1b[31mred", b"bell\x07\ttab": b"bell\\x07\\x09tab", b"\x7fdel": b"\\x7fdel", b"c1\xc2\x9b2J": b"c1\\xc2\\x9b2J",
-            "\u00e9t\u00e9".encode(): "\u00e9t\u00e9".encode()}
+            "\u00e9t\u00e9".encode(): "\u00e9t\u00e9".encode(), "a\u202egnp.mc".encode(): b"a\\xe2\\x80\\xaegnp.mc",
+            "\u061c\u200e\u200f".encode(): b"\\xd8\\x9c\\xe2\\x80\\x8e\\xe2\\x80\\x8f", "\u2028\u2029".encode(): b"\\xe2\\x80\\xa8\\xe2\\x80\\xa9",
+            "\u2066\u2069".encode(): b"\\xe2\\x81\\xa6\\xe2\\x81\\xa9", "\u061b\u2027\u202f\u2065\u206a".encode(): "\u061b\u2027\u202f\u2065\u206a".encode()}
 
 
 def control_rows(place):
@@ -556,6 +639,16 @@ def control_rows(place):
         found = processes.run([place.program, "keys", name, b"bad" + name], cwd=place.here, timeout=60)
         counting.row(f"both where there is no terminal: {name!r}",
                      problems_of(found, Answer(2, PAIR.encode() + b"  " + name + b"\n", b"bad" + name + refused)))
+
+
+def split_control_rows(place):
+    """Nor does one that is written in two pieces: of so many names some are split at the end of what is written at once."""
+    names = ["n".encode() * length + "\u009b\u202e".encode() for length in range(1, 120)]
+    for name in names:
+        place.put(name, FILES["pair.rle"])
+    found = whole_terminal(place, ["keys", *names])
+    raw = [it for it in (b"\xc2\x9b", b"\xe2\x80\xae") if it in found.output]
+    counting.row("119 keys on a terminal", [f"{it!r} is there" for it in raw] + ([] if found.status == 0 and found.output.count(b"\n") == 119 else [repr(found)]))
 
 
 def argument_control_rows(place):
@@ -581,7 +674,9 @@ def main():
         place = Place(program, os.path.join(folder, "place"))
         folder_rows(place)
         argument_rows(place)
+        named_pipe_rows(place)
         explanation_rows(place)
+        foreign_rows(place)
         stream_rows(place)
         pipe_rows(place)
         warning_rows(place)
@@ -589,6 +684,7 @@ def main():
         hint_rows(place)
         closing_rows(place)
         control_rows(place)
+        split_control_rows(place)
         argument_control_rows(place)
     return counting.ended()
 

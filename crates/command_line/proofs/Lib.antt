@@ -1,3 +1,4 @@
 pub mod MatchesLemmas
+pub mod TaskLemmas
 pub mod LineLemmas
 pub mod Faultless

@@ -62,11 +62,13 @@ step_line = with_explain (with_rule (one_file_line (codes "step")) (option (code
 abbrev pub files_rule : Rule
 files_rule = record (new_rule (codes "FILE")) { action = Some Append }
 
--- a command over any number of files, with an optional --form FORM, --zero, --from LIST and --recursive, which is -r too: `r` is the character 114
+-- a command over any number of files, with an optional --form FORM, --ignore-generation, --zero, --from LIST and --recursive, which is -r too: `r` is
+-- the character 114
 abbrev pub files_line : Text → App
 files_line name =
     let in_a_form = with_rule (with_rule (new_app name) files_rule) (option (codes "form")) in
-    let with_list = with_rule (with_rule in_a_form (flag (codes "zero"))) (option (codes "from")) in
+    let hashed = with_rule in_a_form (flag (codes "ignore-generation")) in
+    let with_list = with_rule (with_rule hashed (flag (codes "zero"))) (option (codes "from")) in
     with_rule with_list (short_flag (codes "recursive") 114)
 
 -- keys FILE.., with these and an optional --json

@@ -105,9 +105,10 @@ HoldsFlag id rows flag = (one_of id rows ≡ Some (codes "true") → flag ≡ tr
 abbrev pub LacksFiles : List Row → Type 0
 LacksFiles rows = (values_of (codes "FILE") rows ≡ []) × (first_of (codes "from") rows ≡ None)
 
--- the plan of a command over any number of files has those and the options that were found for it; its form is the default one where none was found
+-- The plan of a command over any number of files has those and the options that were found for it; its form is the default one where none was found.
 pub record HoldsKeys (default : Form) (rows : List Row) (p : KeysPlan) : Type 0 where
-  pub form : HoldsForm default rows p.form
+  pub form : HoldsForm default rows p.form.form
+  pub generation : HoldsFlag (codes "ignore-generation") rows p.form.ignores_generation
   pub files : map (λ name. name.now) p.files.items ≡ values_of (codes "FILE") rows
   pub from : option_map (λ name. name.now) p.from ≡ first_of (codes "from") rows
   pub zero : HoldsFlag (codes "zero") rows p.zero

@@ -4,7 +4,7 @@ use clap::Error;
 use std::alloc::AllocError;
 
 /// What a run can do with patterns as they lie.
-#[derive(Clone, Copy, PartialEq, Eq, Debug)]
+#[derive(Clone, Copy, PartialEq, Eq)]
 pub enum Job {
     /// Write what the pattern is, in five lines.
     Show,
@@ -76,6 +76,14 @@ pub enum Target {
     Mc,
 }
 
+/// What of a pattern its key depends on: the form, and whether the generation counts.
+#[derive(Clone, Copy)]
+pub struct KeyForm {
+    pub form: Form,
+    /// Whether the pattern is taken as if its generation were 0.
+    pub ignores_generation: bool,
+}
+
 /// A job and its files. A file named `-` is standard input.
 #[derive(Drop)]
 pub struct Plan {
@@ -97,7 +105,7 @@ pub struct TaskPlan {
 /// A command over any number of files, `keys` or `duplicates`: what it takes, and how it writes.
 #[derive(Drop)]
 pub struct KeysPlan<'a> {
-    pub form: Form,
+    pub form: KeyForm,
     /// Whether names end in NUL in place of LF.
     pub zero: bool,
     /// Whether `keys` writes an object of JSON for each file. `duplicates` has no such option.

@@ -1,6 +1,8 @@
-//! What each kind of fault means, in a sentence for people: the program and the library write the same one.
+//! What each kind of fault means, and what a file is that is no pattern, in sentences for people: the program and the library write the same ones.
 #![tactic(auto)]
 
+mod foreign;
 mod sentences;
 
+pub use foreign::Foreign;
 pub use sentences::sentence;

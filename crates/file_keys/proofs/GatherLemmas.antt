@@ -17,9 +17,10 @@ use Rattle.file_keys.specs.KeyRuns.{bytes_of_name, error_line, errors_of, greate
 use Rattle.file_keys.specs.Keys.{end_byte_of_name, IsStatus}
 use Rattle.file_keys.specs.declared.duplicates.gathered.Gathered.{Gathered}
 use Rattle.file_keys.specs.declared.keys.outcome.Outcome.{Outcome}
+use Rattle.file_keys.specs.declared.keys.refusal.OpenedFile.{OpenedFile}
 use Rattle.file_keys.specs.declared.keys.outcome.Outcome.TheVariants.{Key, Refused, Unopened}
 use Rattle.command_line.specs.declared.origins.Origin.{Origin}
-use Rattle.command_line.specs.declared.plans.Form.{Form}
+use Rattle.command_line.specs.declared.plans.KeyForm.{KeyForm}
 use Rattle.command_line.specs.declared.plans.KeysPlan.{KeysPlan}
 use Rattle.file_keys.proofs.DuplicateLemmas.{group_status, kept_is, none_is}
 use Rattle.file_keys.proofs.GroupLemmas.{classes_more, classes_other}
@@ -32,10 +33,10 @@ classes_with taken name (Key key) = classes_more taken (record { name = name; ou
 classes_with taken name (Refused fault) = classes_other taken (record { name = name; outcome = Refused fault }) refl (λ key. refl)
 classes_with taken name (Unopened kind) = classes_other taken (record { name = name; outcome = Unopened kind }) refl (λ key. refl)
 
-module _ {F R E : Type 0} (step : F → Origin → Result R IoError → F → Type 0) (remaining : R → Option (List ℕ)) (reads_failed : R → ℕ)
+module _ {F R E : Type 0} (step : F → Origin → Result (OpenedFile R) IoError → F → Type 0) (remaining : R → Option (List ℕ)) (reads_failed : R → ℕ)
     (contents : E → Option (List ℕ)) (failures : E → ℕ) (stalled : E → Bool) where
   -- no file was taken yet
-  pub gathers_none : (form : Form) (names : List Name) (f : F) (e : E) (a : Gathered) → (a.tells ≡ true → failures e ≡ 0)
+  pub gathers_none : (form : KeyForm) (names : List Name) (f : F) (e : E) (a : Gathered) → (a.tells ≡ true → failures e ≡ 0)
       → Gathers step remaining reads_failed contents failures stalled form names names f f e e a a
   gathers_none form names f e a hears = record {
     taken = [];
@@ -47,7 +48,7 @@ module _ {F R E : Type 0} (step : F → Origin → Result R IoError → F → Ty
   }
 
   -- files, and then further ones
-  pub gathers_more : (form : Form) (names rest last : List Name) (f g h : F) (x y z : E) (a b c : Gathered)
+  pub gathers_more : (form : KeyForm) (names rest last : List Name) (f g h : F) (x y z : E) (a b c : Gathered)
       → Gathers step remaining reads_failed contents failures stalled form names rest f g x y a b
       → Gathers step remaining reads_failed contents failures stalled form rest last g h y z b c
       → Gathers step remaining reads_failed contents failures stalled form names last f h x z a c
@@ -65,7 +66,7 @@ module _ {F R E : Type 0} (step : F → Origin → Result R IoError → F → Ty
   }
 
   -- one file
-  gathers_one : (form : Form) (name : Name) (told : Outcome) (rest : List Name) (f g : F) (x y : E) (a b : Gathered)
+  gathers_one : (form : KeyForm) (name : Name) (told : Outcome) (rest : List Name) (f g : F) (x y : E) (a b : Gathered)
       → Takes step remaining reads_failed form f (record { name = name; outcome = told }) g
       → PutsFile contents failures stalled x y a b (bytes_of_name name) told
       → Gathers step remaining reads_failed contents failures stalled form (name ∷ rest) rest f g x y a b
@@ -82,7 +83,7 @@ module _ {F R E : Type 0} (step : F → Origin → Result R IoError → F → Ty
       at m n s is = omega (arith, is)
 
   -- files, and then the next one
-  pub gathers_next : (form form' : Form) (names rest rest' : List Name) (name : Name) (bytes : List ℕ) (outcome : Outcome) (f g h : F)
+  pub gathers_next : (form form' : KeyForm) (names rest rest' : List Name) (name : Name) (bytes : List ℕ) (outcome : Outcome) (f g h : F)
       (x y z : E) (a b c : Gathered) → form' ≡ form → rest ≡ name ∷ rest' → bytes ≡ bytes_of_name name
       → Gathers step remaining reads_failed contents failures stalled form names rest f g x y a b
       → Takes step remaining reads_failed form' g (record { name = name; outcome = outcome }) h
@@ -96,14 +97,14 @@ module _ {F R E : Type 0} (step : F → Origin → Result R IoError → F → Ty
       (gathers_one form name told rest' g h y z b c these (subst (λ l. PutsFile contents failures stalled y z b c l told) is puts)))
 
   -- all files
-  pub gathers_all : (form : Form) (names rest : List Name) (f g : F) (x y : E) (a b : Gathered) → rest ≡ []
+  pub gathers_all : (form : KeyForm) (names rest : List Name) (f g : F) (x y : E) (a b : Gathered) → rest ≡ []
       → Gathers step remaining reads_failed contents failures stalled form names rest f g x y a b
       → Gathers step remaining reads_failed contents failures stalled form names [] f g x y a b
   gathers_all form names rest f g x y a b none p =
       subst (λ l. Gathers step remaining reads_failed contents failures stalled form names l f g x y a b) none p
 
   -- the files of the words, and then those of the list
-  pub gathers_both : (form form' : Form) (zero_ended : Bool) (words : List (List ℕ)) (list : List ℕ) (f g h : F) (x y z : E) (a b c : Gathered)
+  pub gathers_both : (form form' : KeyForm) (zero_ended : Bool) (words : List (List ℕ)) (list : List ℕ) (f g h : F) (x y z : E) (a b c : Gathered)
       → form' ≡ form
       → Gathers step remaining reads_failed contents failures stalled form (map Word words) [] f g x y a b
       → Gathers step remaining reads_failed contents failures stalled form' (map Listed (names_in (end_byte_of_name zero_ended) list)) [] g h y z b c
@@ -120,10 +121,10 @@ module _ {F R E : Type 0} (step : F → Origin → Result R IoError → F → Ty
       })
       (subst (λ k. Gathers step remaining reads_failed contents failures stalled k more [] g h y z b c) is_form q)
 
-module _ {F R W E : Type 0} (step : F → Origin → Result R IoError → F → Type 0) (remaining : R → Option (List ℕ)) (reads_failed : R → ℕ)
+module _ {F R W E : Type 0} (step : F → Origin → Result (OpenedFile R) IoError → F → Type 0) (remaining : R → Option (List ℕ)) (reads_failed : R → ℕ)
     (held : W → Option (List ℕ)) (w-failures : W → ℕ) (w-stalled : W → Bool)
     (contents : E → Option (List ℕ)) (failures : E → ℕ) (stalled : E → Bool)
-    (plan : KeysPlan) (opener ready last : F) (list : List ℕ) (form : Form) (names : List Name) (u v : W) (x y : E) (a b : Gathered)
+    (plan : KeysPlan) (opener ready last : F) (list : List ℕ) (form : KeyForm) (names : List Name) (u v : W) (x y : E) (a b : Gathered)
     (read : ReadsList step remaining reads_failed (list_word plan) opener list ready) (is_form : form ≡ plan.form)
     (same : names ≡ names_among plan.zero (words_of_plan plan) list) (hears : a.tells ≡ true) (fresh : a.status ≡ 0) (new : classes_in a.groups ≡ [])
     (p : Gathers step remaining reads_failed contents failures stalled form names [] ready last x y a b) where

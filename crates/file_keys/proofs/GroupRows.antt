@@ -5,12 +5,13 @@ use Rattle.life_base.specs.Refusal.{fault_of}
 use Rattle.life_base.specs.declared.kind.Kind.TheVariants.{Full}
 use Rattle.file_keys.specs.Groups.{distinct_keys, group_names, groups_text, keys_in, printed_status}
 use Rattle.file_keys.specs.KeyRuns.{Listed, Taken, Word}
+use Rattle.file_keys.specs.Keys.{without_advice}
 use Rattle.file_keys.specs.declared.keys.outcome.Outcome.TheVariants.{Key, Refused, Unopened}
 
 -- two files with the key 1 171, two with the key 16, one with the key 7, and one that was refused
 abbrev taken : List Taken
 taken = record { name = Word (codes "a"); outcome = Key (1 ∷ 171 ∷ []) } ∷ record { name = Word (codes "b"); outcome = Key (16 ∷ []) }
-    ∷ record { name = Word (codes "bad"); outcome = Refused (fault_of Full) } ∷ record { name = Word (codes "c"); outcome = Key (7 ∷ []) }
+    ∷ record { name = Word (codes "bad"); outcome = Refused (without_advice (fault_of Full)) } ∷ record { name = Word (codes "c"); outcome = Key (7 ∷ []) }
     ∷ record { name = Listed (codes "d\ne"); outcome = Key (16 ∷ []) } ∷ record { name = Listed (codes "a"); outcome = Key (1 ∷ 171 ∷ []) } ∷ []
 
 keys : distinct_keys (keys_in taken) ≡ (1 ∷ 171 ∷ []) ∷ (16 ∷ []) ∷ (7 ∷ []) ∷ []

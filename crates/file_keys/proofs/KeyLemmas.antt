@@ -1,5 +1,6 @@
 -- The keys of files.
-use Rattle.std.proofs.Common.{◌≡◌, ℕ, ◌^◌, inl, inr, List, [], ap, sym, subst, ◌∙◌, true, false, Ok, Err}
+use Rattle.std.proofs.Common.{◌≡◌, ℕ, ◌^◌, inl, inr, Bool, List, [], ap, sym, subst, subst₂, ◌∙◌, true, false, Result, Ok, Err}
+use Rattle.std.specs.Prelude.{MatchBool}
 use Rattle.sha2.specs.Sha256.{sha256}
 use Rattle.life_base.specs.DeviceRuns.{SourceRun, SinkRun}
 use Rattle.life_base.specs.Refusal.{fault_of}
@@ -15,30 +16,52 @@ use Rattle.life_canon.specs.Running.{RunRefuses}
 use Rattle.life_canon.specs.Running as running
 use Rattle.life_canon.specs.Store.{IsShortageOf}
 use Rattle.pattern_sources.specs.Faults.{status_of}
-use Rattle.pattern_sources.specs.Forms.{IsTextIn}
+use Rattle.pattern_sources.specs.Forms.{IsTextAtStart, IsTextIn}
 use Rattle.pattern_sources.specs.Sources.{by_file, by_input, by_length, by_source, by_want, ComesOf, HasNoText, HasText, InputRefuses, IsTooSmallFor, RefusesInForm}
-use Rattle.file_keys.specs.Keys.{IsKeyIn, IsStatus}
+use Rattle.file_keys.specs.Keys.{IsHashedText, IsKeyIn, IsKeyOf, IsStatus}
 use Rattle.command_line.specs.declared.plans.Form.{Form}
+use Rattle.command_line.specs.declared.plans.KeyForm.{KeyForm}
 use Rattle.command_line.specs.declared.plans.Form.TheVariants.{Placed}
 use Rattle.pattern_sources.proofs.SourceLemmas.{fault_status, no_pattern}
 
--- the key of a text that a source has in a form
-key_of_text : (form : Form) (source : SourceRun) (text key : List ℕ) → HasText (IsTextIn form MAX_LEVEL) source text → key ≡ sha256 text
-    → HasText (IsKeyIn form MAX_LEVEL) source key
-key_of_text form source text key has hashed =
-    record { bytes = has.bytes; read = has.read; is = record { text = text; is_text = has.is; hashed = hashed } }
+-- the text that is hashed, by whether the generation is ignored
+abbrev hashed_by : Bool → Form → List ℕ → List ℕ → Type 0
+hashed_by ignores form bytes text = MatchBool ignores (IsTextAtStart form MAX_LEVEL bytes text) (IsTextIn form MAX_LEVEL bytes text)
+
+-- what comes of a source in one of the two ways is what is hashed in a form that has this way
+pub comes_as_hashed : {A : Type 0} (items : A → List ℕ) (form : KeyForm) (source : SourceRun) (result : Result A Fault) (ignores : Bool)
+    → form.ignores_generation ≡ ignores → ComesOf items (hashed_by ignores form.form) (RefusesInForm form.form) source result
+    → ComesOf items (IsHashedText form MAX_LEVEL) (RefusesInForm form.form) source result
+comes_as_hashed items form source result ignores is comes =
+    subst (λ (b : Bool). ComesOf items (hashed_by b form.form) (RefusesInForm form.form) source result) (sym is) comes
+
+-- the key of a pattern as it lies, in its generation
+pub comes_placed : (form : KeyForm) (source : SourceRun) (result : Result (List ℕ) Fault) → form.form ≡ Placed → form.ignores_generation ≡ false
+    → ComesOf (λ (k : List ℕ). k) (IsKeyOf (IsTextIn Placed MAX_LEVEL)) (RefusesInForm Placed) source result
+    → ComesOf (λ (k : List ℕ). k) (IsKeyIn form MAX_LEVEL) (RefusesInForm form.form) source result
+comes_placed form source result is_placed counts comes =
+    subst₂ (λ (f : Form) (b : Bool). ComesOf (λ (k : List ℕ). k) (IsKeyOf (hashed_by b f)) (RefusesInForm f) source result) (sym is_placed) (sym counts) comes
+
+-- the key of a text of a source
+key_of_text : (is_text : List ℕ → List ℕ → Type 0) (source : SourceRun) (text key : List ℕ) → HasText is_text source text → key ≡ sha256 text
+    → HasText (IsKeyOf is_text) source key
+key_of_text is_text source text key has hashed =
+    record { bytes = has.bytes; read = has.read; is = record { text = text; is = has.is; hashed = hashed } }
 
 -- so what comes of its text comes of its key
-pub comes_of_text : {A : Type 0} (items : A → List ℕ) (form : Form) (source : SourceRun) (text : A) (key : List ℕ)
-    → ComesOf items (IsTextIn form MAX_LEVEL) (RefusesInForm form) source (Ok text) → key ≡ sha256 (items text)
-    → ComesOf (λ (k : List ℕ). k) (IsKeyIn form MAX_LEVEL) (RefusesInForm form) source (Ok key)
-comes_of_text items form source text key comes hashed =
-    record { ok = key_of_text form source (items text) key comes.ok hashed; err = tt; told = λ failed. absurd (comes.told failed) }
+pub comes_of_text : {A : Type 0} (items : A → List ℕ) (form : KeyForm) (source : SourceRun) (text : A) (key : List ℕ)
+    → ComesOf items (IsHashedText form MAX_LEVEL) (RefusesInForm form.form) source (Ok text) → key ≡ sha256 (items text)
+    → ComesOf (λ (k : List ℕ). k) (IsKeyIn form MAX_LEVEL) (RefusesInForm form.form) source (Ok key)
+comes_of_text items form source text key comes hashed = record {
+  ok = key_of_text (IsHashedText form MAX_LEVEL) source (items text) key comes.ok hashed;
+  err = tt;
+  told = λ failed. absurd (comes.told failed);
+}
 
 -- and where there is no text there is no key
-pub no_text_no_key : {A : Type 0} (items : A → List ℕ) (form : Form) (source : SourceRun) (fault : Fault)
-    → ComesOf items (IsTextIn form MAX_LEVEL) (RefusesInForm form) source (Err fault)
-    → ComesOf (λ (k : List ℕ). k) (IsKeyIn form MAX_LEVEL) (RefusesInForm form) source (Err fault)
+pub no_text_no_key : {A : Type 0} (items : A → List ℕ) (form : KeyForm) (source : SourceRun) (fault : Fault)
+    → ComesOf items (IsHashedText form MAX_LEVEL) (RefusesInForm form.form) source (Err fault)
+    → ComesOf (λ (k : List ℕ). k) (IsKeyIn form MAX_LEVEL) (RefusesInForm form.form) source (Err fault)
 no_text_no_key items form source fault comes = record { ok = tt; err = comes.err; told = comes.told }
 
 -- a run into a sink that never fails is refused by its input alone
@@ -55,15 +78,15 @@ no_key source sink store fault limit works takes (running.by_writing is broke) l
 -- a run that hashes the text of a pattern as it lies
 pub placed_comes : (source : SourceRun) (text key : List ℕ) → HasText (IsTextIn Placed MAX_LEVEL) source text → (source.failures ≡ 1 → ⊥)
     → key ≡ sha256 text
-    → ComesOf (λ (k : List ℕ). k) (IsKeyIn Placed MAX_LEVEL) (RefusesInForm Placed) source (Ok key)
+    → ComesOf (λ (k : List ℕ). k) (IsKeyOf (IsTextIn Placed MAX_LEVEL)) (RefusesInForm Placed) source (Ok key)
 placed_comes source text key has whole hashed =
-    record { ok = key_of_text Placed source text key has hashed; err = tt; told = λ failed. absurd (whole failed) }
+    record { ok = key_of_text (IsTextIn Placed MAX_LEVEL) source text key has hashed; err = tt; told = λ failed. absurd (whole failed) }
 
 -- or is refused
 pub none_placed : (source : SourceRun) (sink : SinkRun) (store : Nodes) (fault : Fault) → store.limit ≡ 2 ^ 31 → sink.failures ≡ 0
     → sink.stalled ≡ false → RunRefuses MAX_LEVEL (2 ^ 30) store source sink fault
     → (fault ≡ fault_of kinds.Full → IsTooSmallFor [] source store) → (source.failures ≡ 1 → fault.kind ≡ kinds.ReadFault)
-    → ComesOf (λ (k : List ℕ). k) (IsKeyIn Placed MAX_LEVEL) (RefusesInForm Placed) source (Err fault)
+    → ComesOf (λ (k : List ℕ). k) (IsKeyOf (IsTextIn Placed MAX_LEVEL)) (RefusesInForm Placed) source (Err fault)
 none_placed source sink store fault limit works takes refuses lacks told =
     record { ok = tt; err = no_key source sink store fault limit works takes refuses lacks; told = told }
 

@@ -7,6 +7,7 @@ use Rattle.std.proofs.lemmas.Grind.{flat_map-append}
 use Rattle.std.proofs.lemmas.List.{map-append}
 use Rattle.std.specs.declared.io.Error.{Error as IoError}
 use Rattle.std.specs.declared.io.ErrorKind.TheVariants as io
+use Rattle.fault_sentences.specs.declared.foreign.Foreign.{Foreign}
 use Rattle.life_base.specs.DeviceRuns.{sink_run, source_run, SourceRun}
 use Rattle.life_base.specs.Text.{is_empty}
 use Rattle.life_base.specs.Inputs.{CameBeyond, ReadAll}
@@ -23,10 +24,12 @@ use Rattle.pattern_sources.specs.Sources.{by_length, by_source, by_want, HasNoTe
 use Rattle.file_keys.specs.KeyRuns.{broken_off, bytes_of_name, by_call, by_name, by_reading, Comes, greatest_status, IsOutcomeOf, IsToldAs, LacksBytes, LacksList, list_word, Listed, Name, names_among, names_in, names_of, outcome_status, output_line, output_of, KeysRan, ReadsList, report_line, reports_of, style_of, Taken, Takes, TakesAll, TakesFiles, TellsOn, through, Took, Word, words_of_plan, WritesFiles}
 use Rattle.command_line.specs.Origins.{OpenerGives}
 use Rattle.command_line.specs.declared.origins.Origin.{Origin}
-use Rattle.command_line.specs.declared.plans.Form.{Form}
+use Rattle.command_line.specs.declared.plans.KeyForm.{KeyForm}
 use Rattle.command_line.specs.declared.plans.KeysPlan.{KeysPlan}
-use Rattle.file_keys.specs.Keys.{end_byte_of_name, IsKeyIn, IsStatus, pieces_of}
+use Rattle.file_keys.specs.Keys.{foreign_on, end_byte_of_name, IsKeyIn, IsStatus, pieces_of}
 use Rattle.file_keys.specs.declared.keys.outcome.Outcome.{Outcome}
+use Rattle.file_keys.specs.declared.keys.refusal.OpenedFile.{OpenedFile}
+use Rattle.file_keys.specs.declared.keys.refusal.FileRefusal.{FileRefusal}
 use Rattle.file_keys.specs.declared.keys.outcome.Outcome.TheVariants.{Key, Refused, Unopened}
 use Rattle.file_keys.specs.declared.keys.outputs.Outputs.{Outputs}
 use Rattle.file_keys.specs.declared.keys.style.Style.{Style}
@@ -119,16 +122,16 @@ takes_then R a (x ∷ xs) b ys c p q = (p.0, p.1, takes_then R p.0 xs b ys c p.2
 pub one_line : (xs : List ℕ) → xs ≡ xs ++ []
 one_line xs = sym (append-nil xs)
 
-module _ {F R W E : Type 0} (step : F → Origin → Result R IoError → F → Type 0) (remaining : R → Option (List ℕ)) (reads_failed : R → ℕ)
+module _ {F R W E : Type 0} (step : F → Origin → Result (OpenedFile R) IoError → F → Type 0) (remaining : R → Option (List ℕ)) (reads_failed : R → ℕ)
     (held : W → Option (List ℕ)) (contents : E → Option (List ℕ)) (failures : E → ℕ) (stalled : E → Bool) where
   -- no file was taken yet
-  pub takes_none : (form : Form) (names : List Name) (f : F) (w : W) (e : E) (o : Outputs) → (o.tells ≡ true → failures e ≡ 0)
+  pub takes_none : (form : KeyForm) (names : List Name) (f : F) (w : W) (e : E) (o : Outputs) → (o.tells ≡ true → failures e ≡ 0)
       → TakesFiles step remaining reads_failed held contents failures stalled form names names f f w w e e o o (Ok tt)
   takes_none form names f w e o hears =
       record { taken = []; split = refl; takes = refl; writes = writes_none held contents failures stalled w e o hears }
 
   -- files, and then further ones
-  pub takes_more : (form : Form) (names rest last : List Name) (f g h : F) (u v w : W) (x y z : E) (a b c : Outputs) (result : Result (Unit {0}) Kind)
+  pub takes_more : (form : KeyForm) (names rest last : List Name) (f g h : F) (u v w : W) (x y z : E) (a b c : Outputs) (result : Result (Unit {0}) Kind)
       → b.style ≡ a.style
       → TakesFiles step remaining reads_failed held contents failures stalled form names rest f g u v x y a b (Ok tt)
       → TakesFiles step remaining reads_failed held contents failures stalled form rest last g h v w y z b c result
@@ -144,7 +147,7 @@ module _ {F R W E : Type 0} (step : F → Origin → Result R IoError → F → 
   }
 
   -- one file
-  pub takes_one : (form : Form) (name : Name) (told : Outcome) (rest : List Name) (f g : F) (u v : W) (x y : E) (a b : Outputs)
+  pub takes_one : (form : KeyForm) (name : Name) (told : Outcome) (rest : List Name) (f g : F) (u v : W) (x y : E) (a b : Outputs)
       (result : Result (Unit {0}) Kind) → Takes step remaining reads_failed form f (record { name = name; outcome = told }) g
       → WritesFiles held contents failures stalled u v x y a b result (output_line a.style (bytes_of_name name) told)
       (report_line a.style (bytes_of_name name) told) (outcome_status told)
@@ -164,20 +167,21 @@ module _ {F R W E : Type 0} (step : F → Origin → Result R IoError → F → 
       at m n s is = omega (arith, is)
 
 -- want of memory for the line of a key is a fault of its file
-pub told_comes : {F R : Type 0} (step : F → Origin → Result R IoError → F → Type 0) (remaining : R → Option (List ℕ)) (reads_failed : R → ℕ) (form : Form)
-    (given : Result R IoError) (outcome told : Outcome) → IsToldAs outcome told → Comes step remaining reads_failed form given outcome
+pub told_comes : {F R : Type 0} (step : F → Origin → Result (OpenedFile R) IoError → F → Type 0) (remaining : R → Option (List ℕ))
+    (reads_failed : R → ℕ) (form : KeyForm) (given : Result (OpenedFile R) IoError) (outcome told : Outcome) → IsToldAs outcome told
+    → Comes step remaining reads_failed form given outcome
     → Comes step remaining reads_failed form given told
 told_comes step remaining reads_failed form given outcome told (inl is) comes = subst (Comes step remaining reads_failed form given) (sym is) comes
-told_comes step remaining reads_failed form (Ok source) outcome told (inr (key, is, wants)) comes =
-    let had = subst (Comes step remaining reads_failed form (Ok source)) is comes in
-    subst (Comes step remaining reads_failed form (Ok source)) (sym wants)
-    (had.0, record { comes = by_want (inl refl); read_fault = (λ same. cc, λ failed. absurd (had.1.read_fault.1 failed)) })
+told_comes step remaining reads_failed form (Ok opened) outcome told (inr (key, is, wants)) comes =
+    let had = subst (Comes step remaining reads_failed form (Ok opened)) is comes in
+    subst (Comes step remaining reads_failed form (Ok opened)) (sym wants)
+    (had.0, record { comes = (by_want (inl refl), refl); read_fault = (λ same. cc, λ failed. absurd (had.1.read_fault.1 failed)) })
 told_comes step remaining reads_failed form (Err error) outcome told (inr (key, is, wants)) comes =
     absurd (subst (Comes step remaining reads_failed form (Err error)) is comes)
 
 -- so what is told of a file is what it comes to
-pub told_takes : {F R : Type 0} (step : F → Origin → Result R IoError → F → Type 0) (remaining : R → Option (List ℕ)) (reads_failed : R → ℕ) (form : Form)
-    (f g : F) (name : Name) (outcome told : Outcome) → IsToldAs outcome told → Takes step remaining reads_failed form f
+pub told_takes : {F R : Type 0} (step : F → Origin → Result (OpenedFile R) IoError → F → Type 0) (remaining : R → Option (List ℕ))
+    (reads_failed : R → ℕ) (form : KeyForm) (f g : F) (name : Name) (outcome told : Outcome) → IsToldAs outcome told → Takes step remaining reads_failed form f
     (record { name = name; outcome = outcome }) g
     → Takes step remaining reads_failed form f (record { name = name; outcome = told }) g
 told_takes step remaining reads_failed form f g name outcome told how (by_call origin given named called comes) =
@@ -185,12 +189,12 @@ told_takes step remaining reads_failed form f g name outcome told how (by_call o
 told_takes step remaining reads_failed form f g name outcome told (inl is) (by_name bad same) =
     by_name (bad.0, bad.1, bad.2, is ∙ bad.3) same
 told_takes step remaining reads_failed form f g name outcome told (inr (key, is, wants)) (by_name bad same) =
-    let both : Unopened io.InvalidFilename ≡ Key key = sym bad.3 ∙ is in absurd cc
+    let both : Unopened io.InvalidData ≡ Key key = sym bad.3 ∙ is in absurd cc
 
-module _ {F R W E : Type 0} (step : F → Origin → Result R IoError → F → Type 0) (remaining : R → Option (List ℕ)) (reads_failed : R → ℕ)
+module _ {F R W E : Type 0} (step : F → Origin → Result (OpenedFile R) IoError → F → Type 0) (remaining : R → Option (List ℕ)) (reads_failed : R → ℕ)
     (held : W → Option (List ℕ)) (contents : E → Option (List ℕ)) (failures : E → ℕ) (stalled : E → Bool) where
   -- files, and then the next one
-  pub takes_next : (form form' : Form) (names rest rest' : List Name) (name : Name) (bytes : List ℕ) (outcome : Outcome) (f g h : F) (u v w : W)
+  pub takes_next : (form form' : KeyForm) (names rest rest' : List Name) (name : Name) (bytes : List ℕ) (outcome : Outcome) (f g h : F) (u v w : W)
       (x y z : E) (a b c : Outputs) (result : Result (Unit {0}) Kind) → form' ≡ form → b.style ≡ a.style → rest ≡ name ∷ rest' → bytes ≡ bytes_of_name name
       → TakesFiles step remaining reads_failed held contents failures stalled form names rest f g u v x y a b (Ok tt)
       → Takes step remaining reads_failed form' g (record { name = name; outcome = outcome }) h
@@ -207,7 +211,7 @@ module _ {F R W E : Type 0} (step : F → Origin → Result R IoError → F → 
       (takes_one step remaining reads_failed held contents failures stalled form name told rest' g h v w y z b c result these lines))
 
   -- which error it is doesn't count
-  pub takes_err : (form : Form) (names rest : List Name) (f g : F) (u v : W) (x y : E) (a b : Outputs) (k k' : Kind)
+  pub takes_err : (form : KeyForm) (names rest : List Name) (f g : F) (u v : W) (x y : E) (a b : Outputs) (k k' : Kind)
       → TakesFiles step remaining reads_failed held contents failures stalled form names rest f g u v x y a b (Err k)
       → TakesFiles step remaining reads_failed held contents failures stalled form names rest f g u v x y a b (Err k')
   takes_err form names rest f g u v x y a b k k' p = record {
@@ -218,7 +222,7 @@ module _ {F R W E : Type 0} (step : F → Origin → Result R IoError → F → 
   }
 
   -- nor what follows
-  pub takes_longer : (form : Form) (names rest more : List Name) (f g : F) (u v : W) (x y : E) (a b : Outputs) (result : Result (Unit {0}) Kind)
+  pub takes_longer : (form : KeyForm) (names rest more : List Name) (f g : F) (u v : W) (x y : E) (a b : Outputs) (result : Result (Unit {0}) Kind)
       → TakesFiles step remaining reads_failed held contents failures stalled form names rest f g u v x y a b result
       → TakesFiles step remaining reads_failed held contents failures stalled form (names ++ more) (rest ++ more) f g u v x y a b result
   takes_longer form names rest more f g u v x y a b result p = record {
@@ -229,7 +233,7 @@ module _ {F R W E : Type 0} (step : F → Origin → Result R IoError → F → 
   }
 
   -- the files of the words, and then those of the list
-  pub takes_both : (form form' : Form) (is_zero : Bool) (words : List (List ℕ)) (list : List ℕ) (rest last : List Name) (f g h : F) (u v w : W)
+  pub takes_both : (form form' : KeyForm) (is_zero : Bool) (words : List (List ℕ)) (list : List ℕ) (rest last : List Name) (f g h : F) (u v w : W)
       (x y z : E) (a b c : Outputs) (result : Result (Unit {0}) Kind) → form' ≡ form → b.style ≡ a.style → rest ≡ []
       → TakesFiles step remaining reads_failed held contents failures stalled form (map Word words) rest f g u v x y a b (Ok tt)
       → TakesFiles step remaining reads_failed held contents failures stalled form' (map Listed (names_in (end_byte_of_name is_zero) list)) last g h v w y z b c
@@ -245,7 +249,7 @@ module _ {F R W E : Type 0} (step : F → Origin → Result R IoError → F → 
       is_style first second
 
   -- a flush hands on what was written, or fails, and then all of it was written
-  pub takes_flushed : (form : Form) (names rest : List Name) (f g : F) (u v w : W) (x y : E) (a b : Outputs) (result : Result (Unit {0}) Kind)
+  pub takes_flushed : (form : KeyForm) (names rest : List Name) (f g : F) (u v w : W) (x y : E) (a b : Outputs) (result : Result (Unit {0}) Kind)
       → TakesFiles step remaining reads_failed held contents failures stalled form names rest f g u v x y a b (Ok tt) → Keeps (held v) (held w)
       → TakesFiles step remaining reads_failed held contents failures stalled form names rest f g u w x y a b result
   takes_flushed form names rest f g u v w x y a b result p keeps = record {
@@ -279,20 +283,21 @@ words_next words i d lt = ap (λ l. map Word (map (λ (word : Bor (List ℕ)). w
     ∙ ap (λ n. Word (get_or words i d).now ∷ map Word (map (λ (word : Bor (List ℕ)). word.now) (drop n words))) (sym (add-one i))
 
 -- the list of a run was read
-pub list_read : {F R B : Type 0} (step : F → Origin → Result R IoError → F → Type 0) (remaining : R → Option (List ℕ)) (reads_failed : R → ℕ)
-    (from : Option (List ℕ)) (word : List ℕ) (before after : F) (source end : R) (items : B → List ℕ) (result : Result B Kind) → from ≡ Some word
-    → OpenerGives step word before (Ok source) after → IfOk result (λ bytes. ReadAll (2 ^ 30) (remaining source) (remaining end) (items bytes))
+pub list_read : {F R B : Type 0} (step : F → Origin → Result (OpenedFile R) IoError → F → Type 0) (remaining : R → Option (List ℕ)) (reads_failed : R → ℕ)
+    (from : Option (List ℕ)) (word : List ℕ) (before after : F) (opened : OpenedFile R) (end : R) (items : B → List ℕ) (result : Result B Kind)
+    → from ≡ Some word → OpenerGives step word before (Ok opened) after
+    → IfOk result (λ bytes. ReadAll (2 ^ 30) (remaining opened.source) (remaining end) (items bytes))
     → OnOk result (reads_failed end ≡ 0) → IfOk result (λ bytes. ReadsList step remaining reads_failed from before (items bytes) after)
-list_read step remaining reads_failed from word before after source end items (Ok bytes) some gives read works =
-    subst (λ w. ReadsList step remaining reads_failed w before (items bytes) after) (sym some) (source, end, gives, read, works)
-list_read step remaining reads_failed from word before after source end items (Err kind) some gives read works = tt
+list_read step remaining reads_failed from word before after opened end items (Ok bytes) some gives read works =
+    subst (λ w. ReadsList step remaining reads_failed w before (items bytes) after) (sym some) (opened, end, gives, read, works)
+list_read step remaining reads_failed from word before after opened end items (Err kind) some gives read works = tt
 
 -- or not
-pub list_lacks : {F R B : Type 0} (step : F → Origin → Result R IoError → F → Type 0) (remaining : R → Option (List ℕ)) (reads_failed : R → ℕ)
-    (word : List ℕ) (before after : F) (source end : R) (result : Result B Kind) → OpenerGives step word before (Ok source) after
-    → IfErr result (LacksBytes (source_run remaining reads_failed source end)) → IfErr result (LacksList step remaining reads_failed word before)
-list_lacks step remaining reads_failed word before after source end (Ok bytes) gives lacks = tt
-list_lacks step remaining reads_failed word before after source end (Err kind) gives lacks = by_reading source after end gives lacks
+pub list_lacks : {F R B : Type 0} (step : F → Origin → Result (OpenedFile R) IoError → F → Type 0) (remaining : R → Option (List ℕ)) (reads_failed : R → ℕ)
+    (word : List ℕ) (before after : F) (opened : OpenedFile R) (end : R) (result : Result B Kind) → OpenerGives step word before (Ok opened) after
+    → IfErr result (LacksBytes (source_run remaining reads_failed opened.source end)) → IfErr result (LacksList step remaining reads_failed word before)
+list_lacks step remaining reads_failed word before after opened end (Ok bytes) gives lacks = tt
+list_lacks step remaining reads_failed word before after opened end (Err kind) gives lacks = by_reading opened after end gives lacks
 
 -- why a source has no bytes of a list
 pub lacks_bytes : {B : Type 0} (source : SourceRun) (result : Result B Kind) → IfErr result (λ kind. kind ≡ kinds.ReadFault → source.failures ≡ 1)
@@ -318,15 +323,16 @@ unfailed n false most is fails = at n most (λ one. let bad : false ≡ true = i
     at (suc (suc n)) most other = absurd (omega (arith, most))
 
 -- what comes of a source that has a key
-pub outcome_of_key : (form : Form) (source : SourceRun) (key : List ℕ) → HasText (IsKeyIn form MAX_LEVEL) source key
-    → (source.failures ≡ 1 → ⊥) → IsOutcomeOf form source (Key key)
-outcome_of_key form source key has whole = record { comes = has; read_fault = (λ none. absurd none, whole) }
+pub outcome_of_key : (form : KeyForm) (foreign : Option Foreign) (source : SourceRun) (key : List ℕ) → HasText (IsKeyIn form MAX_LEVEL) source key
+    → (source.failures ≡ 1 → ⊥) → IsOutcomeOf form foreign source (Key key)
+outcome_of_key form foreign source key has whole = record { comes = has; read_fault = (λ none. absurd none, whole) }
 
 -- what comes of a source that has no key
-pub outcome_of_fault : RefusalsHaveKinds MAX_LEVEL → (form : Form) (source : SourceRun) (fault : Fault) → HasNoText (RefusesInForm form) source fault
-    → (source.failures ≡ 1 → fault.kind ≡ kinds.ReadFault) → IsOutcomeOf form source (Refused fault)
-outcome_of_fault law form source fault refuses told =
-    record { comes = refuses; read_fault = (read_failed law form source fault refuses, told) }
+pub outcome_of_fault : RefusalsHaveKinds MAX_LEVEL → (form : KeyForm) (foreign : Option Foreign) (source : SourceRun) (refusal : FileRefusal)
+    → HasNoText (RefusesInForm form.form) source refusal.fault → refusal.foreign ≡ foreign_on refusal.fault.kind foreign
+    → (source.failures ≡ 1 → refusal.fault.kind ≡ kinds.ReadFault) → IsOutcomeOf form foreign source (Refused refusal)
+outcome_of_fault law form foreign source refusal refuses is told =
+    record { comes = (refuses, is); read_fault = (read_failed law form.form source refusal.fault refuses, told) }
 
 pub on_ok : {A B : Type 0} (P : Type 0) (r : Result A B) → P → OnOk r P
 on_ok P (Ok a) p = p
@@ -338,7 +344,7 @@ err_by P Q (Err e) f p = f e p
 
 outcome_is : (outcome : Outcome) → IsStatus (outcome_status outcome)
 outcome_is (Key key) = inl refl
-outcome_is (Refused fault) = kind_status fault.kind
+outcome_is (Refused refusal) = kind_status refusal.fault.kind
 outcome_is (Unopened kind) = inr (inr (inl refl))
 
 greater : (m n : ℕ) → IsStatus m → IsStatus n → IsStatus (max m n)
@@ -384,11 +390,11 @@ names_same z z' words words' list list' p q r = ap (λ e. names_among e (map (λ
 pub from_none : (m n g : ℕ) → n ≡ max m g → m ≡ 0 → n ≡ g
 from_none m n g is none = omega (arith, is, none)
 
-module _ {F R W E : Type 0} (step : F → Origin → Result R IoError → F → Type 0) (remaining : R → Option (List ℕ)) (reads_failed : R → ℕ)
+module _ {F R W E : Type 0} (step : F → Origin → Result (OpenedFile R) IoError → F → Type 0) (remaining : R → Option (List ℕ)) (reads_failed : R → ℕ)
     (held : W → Option (List ℕ)) (w-failures : W → ℕ) (w-stalled : W → Bool)
     (contents : E → Option (List ℕ)) (failures : E → ℕ) (stalled : E → Bool) where
   -- the files that a run took, from those that were taken after its list was read
-  took_of : (plan : KeysPlan) (opener ready last : F) (list : List ℕ) (form : Form) (names rest : List Name) (u v : W) (x y : E) (a b : Outputs)
+  took_of : (plan : KeysPlan) (opener ready last : F) (list : List ℕ) (form : KeyForm) (names rest : List Name) (u v : W) (x y : E) (a b : Outputs)
       (result : Result (Unit {0}) Kind) → ReadsList step remaining reads_failed (list_word plan) opener list ready → form ≡ plan.form
       → names ≡ names_among plan.zero (words_of_plan plan) list
       → (p : TakesFiles step remaining reads_failed held contents failures stalled form names rest ready last u v x y a b result)
@@ -403,7 +409,7 @@ module _ {F R W E : Type 0} (step : F → Origin → Result R IoError → F → 
   }
 
   -- a run that comes to its end
-  pub ran_through : (plan : KeysPlan) (opener ready last : F) (list : List ℕ) (form : Form) (names rest : List Name) (u v : W) (x y : E) (a b : Outputs)
+  pub ran_through : (plan : KeysPlan) (opener ready last : F) (list : List ℕ) (form : KeyForm) (names rest : List Name) (u v : W) (x y : E) (a b : Outputs)
       (flushed : Bool) → ReadsList step remaining reads_failed (list_word plan) opener list ready → form ≡ plan.form
       → names ≡ names_among plan.zero (words_of_plan plan) list → a.style ≡ style_of plan → a.tells ≡ true → a.status ≡ 0 → rest ≡ []
       → TakesFiles step remaining reads_failed held contents failures stalled form names rest ready last u v x y a b (Ok tt) → flushed ≡ true
@@ -418,7 +424,7 @@ module _ {F R W E : Type 0} (step : F → Origin → Result R IoError → F → 
       (from_none a.status b.status (greatest_status p.taken) p.writes.status none)
 
   -- a run that is broken off
-  pub ran_broken : (plan : KeysPlan) (opener ready last : F) (list : List ℕ) (form : Form) (names rest : List Name) (u v : W) (x y z : E) (a b : Outputs)
+  pub ran_broken : (plan : KeysPlan) (opener ready last : F) (list : List ℕ) (form : KeyForm) (names rest : List Name) (u v : W) (x y z : E) (a b : Outputs)
       (flushed : Bool) (kind : Kind) (status : ℕ) → ReadsList step remaining reads_failed (list_word plan) opener list ready → form ≡ plan.form
       → names ≡ names_among plan.zero (words_of_plan plan) list → a.style ≡ style_of plan → a.tells ≡ true
       → TakesFiles step remaining reads_failed held contents failures stalled form names rest ready last u v x y a b (Err kind)
@@ -436,7 +442,7 @@ module _ {F R W E : Type 0} (step : F → Origin → Result R IoError → F → 
       (is_status ∙ ap status_of is)
 
   -- and the status of one that comes to its end
-  pub status_is : (form : Form) (names rest : List Name) (f g : F) (u v : W) (x y : E) (a b : Outputs) (result : Result (Unit {0}) Kind) → a.status ≡ 0
+  pub status_is : (form : KeyForm) (names rest : List Name) (f g : F) (u v : W) (x y : E) (a b : Outputs) (result : Result (Unit {0}) Kind) → a.status ≡ 0
       → TakesFiles step remaining reads_failed held contents failures stalled form names rest f g u v x y a b result → IsStatus b.status
   status_is form names rest f g u v x y a b result none p =
       subst IsStatus (sym (from_none a.status b.status (greatest_status p.taken) p.writes.status none)) (greatest_is p.taken)

@@ -5,7 +5,7 @@ use Rattle.std.specs.declared.io.ErrorKind.TheVariants as io
 use Rattle.life_base.specs.Refusal.{fault_of}
 use Rattle.life_base.specs.declared.kind.Kind.TheVariants.{Full}
 use Rattle.file_keys.specs.KeyRuns.{errors_of, greatest_status, Listed, names_among, output_of, reports_of, Taken, Word}
-use Rattle.file_keys.specs.Keys.{escaped_name, name_mark, pieces_of, end_byte_of_name}
+use Rattle.file_keys.specs.Keys.{escaped_name, name_mark, pieces_of, end_byte_of_name, without_advice}
 use Rattle.file_keys.specs.declared.keys.outcome.Outcome.TheVariants.{Key, Refused, Unopened}
 use Rattle.file_keys.specs.declared.keys.style.Style.TheVariants.{Lines, Zero, Json}
 
@@ -43,7 +43,8 @@ names : names_among false (codes "a" ∷ codes "-" ∷ []) (codes "\nb\n\nc") �
 names = refl
 
 abbrev taken : List Taken
-taken = record { name = Word (codes "a"); outcome = Key (1 ∷ 171 ∷ []) } ∷ record { name = Word (codes "b"); outcome = Refused (fault_of Full) }
+taken = record { name = Word (codes "a"); outcome = Key (1 ∷ 171 ∷ []) }
+    ∷ record { name = Word (codes "b"); outcome = Refused (without_advice (fault_of Full)) }
     ∷ record { name = Listed (codes "c\nd"); outcome = Unopened io.NotFound } ∷ record { name = Listed (codes "e"); outcome = Key (16 ∷ []) } ∷ []
 
 -- their lines in their order, and the greatest status, which isn't the last one

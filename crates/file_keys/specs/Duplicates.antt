@@ -17,9 +17,10 @@ use Rattle.file_keys.specs.declared.duplicates.groups.Group.{Group}
 use Rattle.file_keys.specs.declared.duplicates.groups.Groups.{Groups}
 use Rattle.file_keys.specs.declared.duplicates.runs.Gathering.{Gathering}
 use Rattle.file_keys.specs.declared.keys.outcome.Outcome.{Outcome}
+use Rattle.file_keys.specs.declared.keys.refusal.OpenedFile.{OpenedFile}
 use Rattle.file_keys.specs.declared.keys.outcome.Outcome.TheVariants.{Key, Refused, Unopened}
 use Rattle.command_line.specs.declared.origins.Origin.{Origin}
-use Rattle.command_line.specs.declared.plans.Form.{Form}
+use Rattle.command_line.specs.declared.plans.KeyForm.{KeyForm}
 use Rattle.command_line.specs.declared.plans.KeysPlan.{KeysPlan}
 
 -- the files with one key: the key, and their names
@@ -74,10 +75,10 @@ pub record CanGather {F : Type 0} (is_callable : F → Type 0) (run : Gathering 
   pub callable : is_callable run.files.opener
   pub hears : run.gathered.tells ≡ true → err_failures ≡ 0
 
-module _ {F R E : Type 0} (step : F → Origin → Result R IoError → F → Type 0) (remaining : R → Option (List ℕ)) (reads_failed : R → ℕ)
+module _ {F R E : Type 0} (step : F → Origin → Result (OpenedFile R) IoError → F → Type 0) (remaining : R → Option (List ℕ)) (reads_failed : R → ℕ)
     (contents : E → Option (List ℕ)) (failures : E → ℕ) (stalled : E → Bool) where
   -- Files were taken, one after another, in the order of these names, but for the last names, `rest`; and this was reported and kept of them.
-  pub record Gathers (form : Form) (names rest : List Name) (opener_old opener_new : F) (err_old err_new : E) (old new : Gathered) : Type 0 where
+  pub record Gathers (form : KeyForm) (names rest : List Name) (opener_old opener_new : F) (err_old err_new : E) (old new : Gathered) : Type 0 where
     pub taken : List Taken
     pub split : names ≡ names_of taken ++ rest
     pub takes : TakesAll step remaining reads_failed form opener_old taken opener_new
@@ -85,7 +86,7 @@ module _ {F R E : Type 0} (step : F → Origin → Result R IoError → F → Ty
     pub status : new.status ≡ max old.status (greatest_status taken)
     pub kept : KeepsClasses old.groups new.groups taken
 
-module _ {F R : Type 0} (step : F → Origin → Result R IoError → F → Type 0) (remaining : R → Option (List ℕ)) (reads_failed : R → ℕ) where
+module _ {F R : Type 0} (step : F → Origin → Result (OpenedFile R) IoError → F → Type 0) (remaining : R → Option (List ℕ)) (reads_failed : R → ℕ) where
   -- What a run did with its files and outputs, and the status that it answered. A file for whose key or name memory was refused is one that was
   -- refused with `Memory`. Before all files were taken nothing was written.
   pub data RanDuplicates (plan : KeysPlan) (opener : F) (output error : SinkRun) (flushed : Bool) (status : ℕ) : Type 0 where

@@ -5,6 +5,7 @@ use Rattle.std.specs.IoError.{error_kind}
 use Rattle.std.specs.Io.KnownBytes.{Appends}
 use Rattle.std.specs.declared.io.Error.{Error as IoError}
 use Rattle.std.specs.declared.io.ErrorKind.TheVariants as io
+use Rattle.fault_sentences.specs.declared.foreign.Foreign.{Foreign}
 use Rattle.life_base.specs.DeviceRuns.{SinkRun, SourceRun, source_run}
 use Rattle.life_base.specs.Inputs.{ReadAll}
 use Rattle.life_base.specs.Refusal.{fault_of}
@@ -15,10 +16,11 @@ use Rattle.life_base.specs.declared.kind.Kind.{Kind}
 use Rattle.life_base.specs.declared.kind.Kind.TheVariants as kinds
 use Rattle.pattern_sources.specs.Faults.{fault_line, refusal_of, status_of, Reports}
 use Rattle.pattern_sources.specs.Sources.{HasNoText, HasText, InputRefuses, RefusesInForm}
-use Rattle.file_keys.specs.Keys.{end_byte_of_name, IsKeyIn, key_line, pieces_of, refused_line, unopened_line}
+use Rattle.file_keys.specs.Keys.{foreign_on, without_advice, end_byte_of_name, IsKeyIn, key_line, pieces_of, refused_line, unopened_line}
 use Rattle.file_keys.specs.Objects.{object_text}
 use Rattle.command_line.specs.Origins.{OpenerGives, IsOriginOf}
 use Rattle.file_keys.specs.declared.keys.outputs.Outputs.{Outputs}
+use Rattle.file_keys.specs.declared.keys.refusal.OpenedFile.{OpenedFile}
 use Rattle.file_keys.specs.declared.keys.runs.KeyRun.{KeyRun}
 use Rattle.file_keys.specs.declared.keys.style.Style.{Style}
 use Rattle.file_keys.specs.declared.keys.style.Style.TheVariants.{Lines, Zero, Json}
@@ -26,7 +28,7 @@ use Rattle.file_keys.specs.declared.keys.outcome.Outcome.{Outcome}
 use Rattle.file_keys.specs.declared.keys.outcome.Outcome.TheVariants.{Key, Refused, Unopened}
 use Rattle.command_line.specs.declared.origins.Origin.{Origin}
 use Rattle.command_line.specs.declared.origins.Origin.TheVariants.{Standard, File}
-use Rattle.command_line.specs.declared.plans.Form.{Form}
+use Rattle.command_line.specs.declared.plans.KeyForm.{KeyForm}
 use Rattle.command_line.specs.declared.plans.KeysPlan.{KeysPlan}
 
 -- a name of a run: a word of the command line, or a name in a list
@@ -65,7 +67,7 @@ output_line Json name outcome = object_text name outcome
 -- why a file has no key
 abbrev pub error_line : List ℕ → Outcome → List ℕ
 error_line name (Key key) = []
-error_line name (Refused fault) = refused_line name fault
+error_line name (Refused refusal) = refused_line name refusal
 error_line name (Unopened kind) = unopened_line name kind
 
 -- what standard error gets of a file: why it has no key, unless its object says so
@@ -77,7 +79,7 @@ report_line Json name outcome = []
 -- the status of a file
 abbrev pub outcome_status : Outcome → ℕ
 outcome_status (Key key) = 0
-outcome_status (Refused fault) = status_of fault.kind
+outcome_status (Refused refusal) = status_of refusal.fault.kind
 outcome_status (Unopened kind) = 3
 
 -- the lines of the files on standard output, in their order
@@ -120,7 +122,7 @@ pub record WritesFiles {W E : Type 0} (held : W → Option (List ℕ)) (contents
 
 -- what is reported of a file: what it came to, or that memory was refused for the line of its key
 abbrev pub IsToldAs : Outcome → Outcome → Type 0
-IsToldAs outcome told = (told ≡ outcome) ⊎ ((key : List ℕ) × (outcome ≡ Key key) × (told ≡ Refused (fault_of kinds.Memory)))
+IsToldAs outcome told = (told ≡ outcome) ⊎ ((key : List ℕ) × (outcome ≡ Key key) × (told ≡ Refused (without_advice (fault_of kinds.Memory))))
 
 -- what a name names: of a list always a file, and nothing where it is no UTF-8 text
 abbrev pub NamesOrigin : Name → Origin → Type 0
@@ -130,36 +132,37 @@ NamesOrigin (Listed name) (File text) = text.now ≡ name
 
 -- a name in a list that is no UTF-8 text can't be opened
 abbrev pub IsNoText : Taken → Type 0
-IsNoText taken = (bytes : List ℕ) × (taken.name ≡ Listed bytes) × (¬ IsUtf8 bytes) × (taken.outcome ≡ Unopened io.InvalidFilename)
+IsNoText taken = (bytes : List ℕ) × (taken.name ≡ Listed bytes) × (¬ IsUtf8 bytes) × (taken.outcome ≡ Unopened io.InvalidData)
 
--- what comes of a source that was opened: its key in the form, or why it has none
-abbrev pub ComesOfSource : Form → SourceRun → Outcome → Type 0
-ComesOfSource form source (Key key) = HasText (IsKeyIn form MAX_LEVEL) source key
-ComesOfSource form source (Refused fault) = HasNoText (RefusesInForm form) source fault
-ComesOfSource form source (Unopened kind) = ⊥
+-- what comes of a source that was opened: its key in the form; or why it has none, with what the opener said of the file
+abbrev pub ComesOfSource : KeyForm → Option Foreign → SourceRun → Outcome → Type 0
+ComesOfSource form foreign source (Key key) = HasText (IsKeyIn form MAX_LEVEL) source key
+ComesOfSource form foreign source (Refused refusal) =
+    HasNoText (RefusesInForm form.form) source refusal.fault × (refusal.foreign ≡ foreign_on refusal.fault.kind foreign)
+ComesOfSource form foreign source (Unopened kind) = ⊥
 
 -- the file is reported as one of which a read failed
 abbrev pub IsReadFault : Outcome → Type 0
-IsReadFault (Refused fault) = fault.kind ≡ kinds.ReadFault
+IsReadFault (Refused refusal) = refusal.fault.kind ≡ kinds.ReadFault
 IsReadFault _ = ⊥
 
 -- This comes of a source that was opened, and it is reported as a read fault exactly where a read of it failed.
-pub record IsOutcomeOf (form : Form) (source : SourceRun) (outcome : Outcome) : Type 0 where
-  pub comes : ComesOfSource form source outcome
+pub record IsOutcomeOf (form : KeyForm) (foreign : Option Foreign) (source : SourceRun) (outcome : Outcome) : Type 0 where
+  pub comes : ComesOfSource form foreign source outcome
   pub read_fault : IsReadFault outcome ↔ (source.failures ≡ 1)
 
-module _ {F R : Type 0} (step : F → Origin → Result R IoError → F → Type 0) (remaining : R → Option (List ℕ)) (reads_failed : R → ℕ)
-    (form : Form) where
+module _ {F R : Type 0} (step : F → Origin → Result (OpenedFile R) IoError → F → Type 0) (remaining : R → Option (List ℕ)) (reads_failed : R → ℕ)
+    (form : KeyForm) where
   -- What comes of what an opener gave. A source that was opened is `end` after it was read. A contract says this for every type R, so that it can
   -- have an `end` that has failed only from a read that failed.
-  abbrev pub Comes : Result R IoError → Outcome → Type 0
-  Comes (Ok source) outcome = (end : R) × IsOutcomeOf form (source_run remaining reads_failed source end) outcome
+  abbrev pub Comes : Result (OpenedFile R) IoError → Outcome → Type 0
+  Comes (Ok opened) outcome = (end : R) × IsOutcomeOf form opened.foreign (source_run remaining reads_failed opened.source end) outcome
   Comes (Err error) (Unopened kind) = kind ≡ error_kind error
   Comes _ _ = ⊥
 
   -- a file was taken: the opener was called for what the name names, and this came of it; or the name is no text, and it wasn't called
   pub data Takes (before : F) (taken : Taken) (after : F) : Type 0 where
-    by_call : (origin : Origin) (given : Result R IoError) → NamesOrigin taken.name origin → step before origin given after
+    by_call : (origin : Origin) (given : Result (OpenedFile R) IoError) → NamesOrigin taken.name origin → step before origin given after
         → Comes given taken.outcome → Takes before taken after
     by_name : IsNoText taken → after ≡ before → Takes before taken after
 
@@ -194,18 +197,18 @@ pub record LacksBytes (source : SourceRun) (kind : Kind) : Type 0 where
   pub why : InputRefuses source (fault_of kind) ⊎ (kind ≡ kinds.Memory)
   pub read_fault : (kind ≡ kinds.ReadFault) ↔ (source.failures ≡ 1)
 
-module _ {F R : Type 0} (step : F → Origin → Result R IoError → F → Type 0) (remaining : R → Option (List ℕ)) (reads_failed : R → ℕ) where
+module _ {F R : Type 0} (step : F → Origin → Result (OpenedFile R) IoError → F → Type 0) (remaining : R → Option (List ℕ)) (reads_failed : R → ℕ) where
   -- the bytes of the list that a word names, of which no read failed; without such a word there are none
   abbrev pub ReadsList : Option (List ℕ) → F → List ℕ → F → Type 0
   ReadsList None before bytes after = (bytes ≡ []) × (after ≡ before)
-  ReadsList (Some word) before bytes after = (source : R) × (end : R) × OpenerGives step word before (Ok source) after
-      × ReadAll (2 ^ 30) (remaining source) (remaining end) bytes × (reads_failed end ≡ 0)
+  ReadsList (Some word) before bytes after = (opened : OpenedFile R) × (end : R) × OpenerGives step word before (Ok opened) after
+      × ReadAll (2 ^ 30) (remaining opened.source) (remaining end) bytes × (reads_failed end ≡ 0)
 
   -- why there is no list: it can't be opened, or it was opened and isn't read
   pub data LacksList (word : List ℕ) (before : F) (kind : Kind) : Type 0 where
     by_opening : (error : IoError) (after : F) → OpenerGives step word before (Err error) after → kind ≡ kinds.ReadFault → LacksList word before kind
-    by_reading : (source : R) (after : F) (end : R) → OpenerGives step word before (Ok source) after
-        → LacksBytes (source_run remaining reads_failed source end) kind → LacksList word before kind
+    by_reading : (opened : OpenedFile R) (after : F) (end : R) → OpenerGives step word before (Ok opened) after
+        → LacksBytes (source_run remaining reads_failed opened.source end) kind → LacksList word before kind
 
   -- After the list was read files were taken, one after another, in the order of the names, but for the last names, `rest`.
   pub record Took (plan : KeysPlan) (opener : F) (taken : List Taken) (rest : List Name) : Type 0 where
@@ -232,10 +235,10 @@ module _ {F R : Type 0} (step : F → Origin → Result R IoError → F → Type
         → Reports error (fault_line (refusal_of (fault_of kind))) → status ≡ status_of kind → output.after ≡ output.before
         → KeysRan plan opener output error flushed status
 
-module _ {F R W E : Type 0} (step : F → Origin → Result R IoError → F → Type 0) (remaining : R → Option (List ℕ)) (reads_failed : R → ℕ)
+module _ {F R W E : Type 0} (step : F → Origin → Result (OpenedFile R) IoError → F → Type 0) (remaining : R → Option (List ℕ)) (reads_failed : R → ℕ)
     (held : W → Option (List ℕ)) (contents : E → Option (List ℕ)) (failures : E → ℕ) (stalled : E → Bool) where
   -- Files were taken, one after another, in the order of these names, but for the last names, `rest`; and this was written of them.
-  pub record TakesFiles (form : Form) (names rest : List Name) (opener_old opener_new : F) (out_old out_new : W) (err_old err_new : E)
+  pub record TakesFiles (form : KeyForm) (names rest : List Name) (opener_old opener_new : F) (out_old out_new : W) (err_old err_new : E)
       (old new : Outputs) (result : Result (Unit {0}) Kind) : Type 0 where
     pub taken : List Taken
     pub split : names ≡ names_of taken ++ rest
@@ -244,7 +247,7 @@ module _ {F R W E : Type 0} (step : F → Origin → Result R IoError → F → 
         (reports_of old.style taken) (greatest_status taken)
 
   -- The same of all these names, or at a refusal of the first ones.
-  abbrev pub TakesNames : Form → List Name → (opener_old opener_new : F) (out_old out_new : W) (err_old err_new : E) (old new : Outputs)
+  abbrev pub TakesNames : KeyForm → List Name → (opener_old opener_new : F) (out_old out_new : W) (err_old err_new : E) (old new : Outputs)
       → Result (Unit {0}) Kind → Type 0
   TakesNames form names opener_old opener_new out_old out_new err_old err_new old new result =
       (rest : List Name) × OnOk result (rest ≡ []) × TakesFiles form names rest opener_old opener_new out_old out_new err_old err_new old new result

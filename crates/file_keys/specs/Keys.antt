@@ -1,24 +1,38 @@
 -- The keys of files, and the lines of the command `keys`. The project's own; the lines are those of `sha256sum`, of coreutils 9.
-use Rattle.std.specs.Prelude.{◌≡◌, ◌⊎◌, ◌==◌, ◌||◌, ℕ, Bool, true, false, List, [], ◌∷◌, ◌++◌, codes, if◌then◌else◌}
+use Rattle.std.specs.Prelude.{◌≡◌, ◌⊎◌, ◌==◌, ◌||◌, ℕ, Bool, true, false, List, [], ◌∷◌, ◌++◌, Option, Some, None, MatchBool, codes, if◌then◌else◌}
 use Rattle.std.specs.List.{list_any}
 use Rattle.std.specs.Str.{byte}
 use Rattle.std.specs.declared.io.ErrorKind.{ErrorKind}
 use Rattle.std.specs.declared.io.ErrorKind.TheVariants as io
+use Rattle.fault_sentences.specs.Foreign.{advice_of}
 use Rattle.fault_sentences.specs.Sentences.{sentence_of}
+use Rattle.fault_sentences.specs.declared.foreign.Foreign.{Foreign}
 use Rattle.hex.specs.Hex.{encode_lower}
 use Rattle.sha2.specs.Sha256.{sha256}
 use Rattle.life_base.specs.Kinds.{kind_name}
 use Rattle.life_base.specs.Text.{onto_first}
 use Rattle.life_base.specs.declared.fault.Fault.{Fault}
+use Rattle.life_base.specs.declared.kind.Kind.{Kind}
+use Rattle.life_base.specs.declared.kind.Kind.TheVariants as kinds
 use Rattle.pattern_sources.specs.Faults.{place_text}
-use Rattle.pattern_sources.specs.Forms.{IsTextIn}
-use Rattle.command_line.specs.declared.plans.Form.{Form}
+use Rattle.pattern_sources.specs.Forms.{IsTextAtStart, IsTextIn}
+use Rattle.command_line.specs.declared.plans.KeyForm.{KeyForm}
+use Rattle.file_keys.specs.declared.keys.refusal.FileRefusal.{FileRefusal}
 
--- the bytes are a file, and this is the SHA-256 of the text of its pattern in the form
-pub record IsKeyIn (form : Form) (top : ℕ) (bytes key : List ℕ) : Type 0 where
+-- the bytes are a file, and this is the text that is hashed: that of its pattern in the form, or, where the generation is ignored, that of its pattern in
+-- the form with generation 0
+abbrev pub IsHashedText : KeyForm → ℕ → List ℕ → List ℕ → Type 0
+IsHashedText form top bytes text = MatchBool form.ignores_generation (IsTextAtStart form.form top bytes text) (IsTextIn form.form top bytes text)
+
+-- the key is the SHA-256 of a text of the bytes
+pub record IsKeyOf (is_text : List ℕ → List ℕ → Type 0) (bytes key : List ℕ) : Type 0 where
   pub text : List ℕ
-  pub is_text : IsTextIn form top bytes text
+  pub is : is_text bytes text
   pub hashed : key ≡ sha256 text
+
+-- the bytes are a file, and this is the key of its pattern
+abbrev pub IsKeyIn : KeyForm → ℕ → List ℕ → List ℕ → Type 0
+IsKeyIn form top bytes key = IsKeyOf (IsHashedText form top) bytes key
 
 -- the bytes of a name that aren't written as they are: backslash, LF and CR
 abbrev pub is_special : ℕ → Bool
@@ -43,20 +57,42 @@ abbrev pub key_line : Bool → List ℕ → List ℕ → List ℕ
 key_line false key name = name_mark name ++ (encode_lower key ++ (codes "  " ++ (escaped_name name ++ codes "\n")))
 key_line true key name = encode_lower key ++ (codes "  " ++ (name ++ 0 ∷ []))
 
--- the report of a fault: its line, where it names one, its kind, and what that means
-abbrev pub fault_text : Fault → List ℕ
-fault_text fault =
-    place_text false fault.place.line ++ (kind_name fault.kind ++ (codes ": " ++ (sentence_of fault.kind ++ codes "\n")))
+-- what is said of what a file is where a fault of this kind is reported: nothing where the file was not read to its end
+abbrev pub foreign_on : Kind → Option Foreign → Option Foreign
+foreign_on kinds.ReadFault foreign = None
+foreign_on kinds.Full foreign = None
+foreign_on kinds.Memory foreign = None
+foreign_on _ foreign = foreign
+
+-- a fault of which nothing more is said
+abbrev pub without_advice : Fault → FileRefusal
+without_advice fault = record { fault = fault; foreign = None }
+
+-- what comes between the sentence on a fault and the one on what the file is, and that one
+abbrev pub advice_lead : Option Foreign → List ℕ
+advice_lead None = []
+advice_lead (Some foreign) = codes " "
+
+abbrev pub advice_words : Option Foreign → List ℕ
+advice_words None = []
+advice_words (Some foreign) = advice_of foreign
+
+-- the report of a fault: its line, where it names one, its kind, what that means, and what the file is, if that is something else than a pattern
+abbrev pub fault_text : FileRefusal → List ℕ
+fault_text refusal =
+    place_text false refusal.fault.place.line ++ (kind_name refusal.fault.kind ++ (codes ": " ++ (sentence_of refusal.fault.kind
+    ++ (advice_lead refusal.foreign ++ (advice_words refusal.foreign ++ codes "\n")))))
 
 -- the line of a file that is refused, or for which room or memory is wanted
-abbrev pub refused_line : List ℕ → Fault → List ℕ
-refused_line name fault = escaped_name name ++ (codes ": " ++ fault_text fault)
+abbrev pub refused_line : List ℕ → FileRefusal → List ℕ
+refused_line name refusal = escaped_name name ++ (codes ": " ++ fault_text refusal)
 
--- why a file can't be opened, by what the system says
+-- why a file can't be opened, by what the system says; `InvalidData`, which no system says of a file that it opens, is for a name that is no UTF-8 text
 abbrev pub reason_of : ErrorKind → List ℕ
 reason_of io.NotFound = codes "no such file"
 reason_of io.PermissionDenied = codes "permission denied"
 reason_of io.IsADirectory = codes "is a folder"
+reason_of io.InvalidData = codes "the name isn't UTF-8 text (collection.py reads such files)"
 reason_of _ = codes "can't be opened"
 
 -- the line of a file that can't be opened

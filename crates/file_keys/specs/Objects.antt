@@ -1,10 +1,11 @@
 -- The objects of the command `keys`, with --json: JSON as RFC 8259 has it. Their members are the project's own.
-use Rattle.std.specs.Prelude.{◌==◌, ◌++◌, [], ℕ, List, codes, decimal, if◌then◌else◌}
+use Rattle.std.specs.Prelude.{◌==◌, ◌++◌, [], ℕ, List, Option, None, codes, decimal, if◌then◌else◌}
 use Rattle.hex.specs.Hex.{encode_lower}
 use Rattle.life_base.specs.Kinds.{kind_name}
 use Rattle.file_keys.specs.Json.{json_text, json_name}
-use Rattle.file_keys.specs.Keys.{reason_of}
+use Rattle.file_keys.specs.Keys.{advice_lead, advice_words, reason_of}
 use Rattle.fault_sentences.specs.Sentences.{sentence_of}
+use Rattle.fault_sentences.specs.declared.foreign.Foreign.{Foreign}
 use Rattle.file_keys.specs.declared.keys.outcome.Outcome.{Outcome}
 use Rattle.file_keys.specs.declared.keys.outcome.Outcome.TheVariants.{Key, Refused, Unopened}
 
@@ -24,19 +25,21 @@ kind_member kind = codes "\",\"kind\":\"" ++ (json_text kind ++ codes "\"")
 abbrev pub line_member : ℕ → List ℕ
 line_member line = if line == 0 then [] else codes ",\"line\":" ++ decimal line
 
--- why a file has no key, and the end of its object
-abbrev pub reason_member : List ℕ → List ℕ
-reason_member reason = codes ",\"reason\":\"" ++ (json_text reason ++ codes "\"}\n")
+-- why a file has no key, and what the file is, if that is something else than a pattern, and the end of its object
+abbrev pub reason_member : List ℕ → Option Foreign → List ℕ
+reason_member reason foreign =
+    codes ",\"reason\":\"" ++ (json_text reason ++ (json_text (advice_lead foreign) ++ (json_text (advice_words foreign) ++ codes "\"}\n")))
 
 -- the rest of the object of a file without a key
-abbrev pub fault_members : (kind : List ℕ) (line : ℕ) (reason : List ℕ) → List ℕ
-fault_members kind line reason = kind_member kind ++ (line_member line ++ reason_member reason)
+abbrev pub fault_members : (kind : List ℕ) (line : ℕ) (reason : List ℕ) → Option Foreign → List ℕ
+fault_members kind line reason foreign = kind_member kind ++ (line_member line ++ reason_member reason foreign)
 
 -- the rest of the object of a file, by what it came to
 abbrev pub members_text : Outcome → List ℕ
 members_text (Key key) = key_members key
-members_text (Refused fault) = fault_members (kind_name fault.kind) fault.place.line (sentence_of fault.kind)
-members_text (Unopened kind) = fault_members (codes "ReadFault") 0 (reason_of kind)
+members_text (Refused refusal) =
+    fault_members (kind_name refusal.fault.kind) refusal.fault.place.line (sentence_of refusal.fault.kind) refusal.foreign
+members_text (Unopened kind) = fault_members (codes "ReadFault") 0 (reason_of kind) None
 
 -- the object of a file, a line
 abbrev pub object_text : List ℕ → Outcome → List ℕ

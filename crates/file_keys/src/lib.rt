@@ -8,4 +8,4 @@ pub mod laws;
 mod text_sink;
 
 pub use duplicates::write_duplicates;
-pub use keys::write_keys;
+pub use keys::{OpenedFile, write_keys};

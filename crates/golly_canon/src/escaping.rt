@@ -49,12 +49,20 @@ pub(crate) fn push_name(text: &mut Vec<u8>, name: &str) -> Result<(), AllocError
     Ok(())
 }
 
-/// Adds characters, of which backslash and control characters are escaped.
+/// Whether a character turns the direction of text, or ends a line of it, and so changes what is read on a terminal.
+fn turns_text(character: char) -> bool {
+    matches!(
+        character,
+        '\u{61C}' | '\u{200E}' | '\u{200F}' | '\u{2028}'..='\u{202E}' | '\u{2066}'..='\u{2069}'
+    )
+}
+
+/// Adds characters, of which backslash, control characters and those that turn the direction of text are escaped.
 fn push_characters(text: &mut Vec<u8>, characters: &str) -> Result<(), AllocError> {
     for character in characters.chars() {
         let mut buffer = [0; 4];
         let bytes = character.encode_utf8(&mut buffer).as_bytes();
-        if character == '\\' || character.is_control() {
+        if character == '\\' || character.is_control() || turns_text(character) {
             push_escaped(text, bytes)?;
         } else {
             text.extend_from_slice(bytes)?;
@@ -63,8 +71,8 @@ fn push_characters(text: &mut Vec<u8>, characters: &str) -> Result<(), AllocErro
     Ok(())
 }
 
-/// Adds text without control characters: backslash, LF and CR are escaped as in a name, and each other control character and what is no UTF-8 text is
-/// written as `\xHH`, byte by byte.
+/// Adds text without control characters: backslash, LF and CR are escaped as in a name. Each other control character, each one that turns the direction of text
+/// or ends a line, and what is no UTF-8 text is written as `\xHH`, byte by byte.
 pub(crate) fn push_visible(text: &mut Vec<u8>, bytes: &[u8]) -> Result<(), AllocError> {
     for chunk in bytes.utf8_chunks() {
         push_characters(text, chunk.valid())?;

@@ -1,12 +1,12 @@
 //! What is said of a fault after its own line: the file, the line's text, a sentence, and what to do; and the warning of a file after the answer.
 
 use crate::escaping::{push_all, push_visible};
-use crate::foreign::Foreign;
 use crate::item_marks::push_item_mark;
 use crate::opening::ReservedStreams;
 use crate::rereading::{SHOWN, foreign, line, reopen, unreadable};
-use crate::watching::Warning;
-use fault_sentences::sentence;
+use crate::watching::push_warning;
+use fault_sentences::{Foreign, sentence};
+use file_hints::{Warning, is_text};
 use life_base::{Device, Fault, Kind};
 use life_cli::plans::{Form, Task, TaskPlan};
 use life_cli::{Refusal, Seeds, carry_out};
@@ -238,7 +238,7 @@ fn explanation(
     push_place(rt, &mut text, place, at.line)?;
     push_sentence(&mut text, sentence(kind))?;
     let (advice, is_text) = match place.foreign(rt) {
-        Some(foreign) => (foreign.advice, foreign.is_text),
+        Some(foreign) => (foreign.advice(), is_text(foreign)),
         None => (advice(kind), true),
     };
     if is_text {
@@ -325,7 +325,7 @@ pub(crate) fn explain(
 fn warning_line(rt: &HostRuntime, name: &str, warning: Warning) -> Result<Vec<u8>, AllocError> {
     let mut line = Vec::new(rt.alloc());
     push_file(&mut line, name)?;
-    warning.push(&mut line)?;
+    push_warning(&mut line, warning)?;
     Ok(line)
 }
 

@@ -15,6 +15,8 @@ pub(crate) struct Found {
     pub list: Option<String>,
     /// The names among them that can't be opened, and why, where that is known already.
     unopened: BTreeMap<String, ErrorKind>,
+    /// How many devices, pipes and sockets are in the folders.
+    pub devices: usize,
 }
 
 /// A name in a folder.
@@ -31,8 +33,10 @@ enum Sort {
     Folder,
     /// A file, or what can't be looked at, so that opening it says why.
     File,
-    /// What isn't read: a link, a device, a pipe or a socket.
-    Other,
+    /// A link, which is passed over.
+    Link,
+    /// A device, a pipe or a socket, which is left out, because reading it might never end.
+    Device,
 }
 
 /// A copy of a name.
@@ -47,6 +51,7 @@ impl Found {
             files: Vec::new(rt.alloc()),
             list: None,
             unopened: BTreeMap::new(rt.alloc()),
+            devices: 0,
         }
     }
 
@@ -81,7 +86,8 @@ impl Found {
 fn sort_of(rt: &HostRuntime, path: &str) -> Sort {
     match fs::symlink_metadata(rt, path) {
         Ok(metadata) if metadata.is_dir() => Sort::Folder,
-        Ok(metadata) if !metadata.is_file() => Sort::Other,
+        Ok(metadata) if metadata.is_symlink() => Sort::Link,
+        Ok(metadata) if !metadata.is_file() => Sort::Device,
         _ => Sort::File,
     }
 }
@@ -185,13 +191,17 @@ fn take_entry(
 ) -> Result<(), AllocError> {
     let Entry { path, is_text } = entry;
     if !is_text {
-        found.note(rt, path.as_str(), ErrorKind::InvalidFilename)?;
+        found.note(rt, path.as_str(), ErrorKind::InvalidData)?;
         return found.push(path);
     }
     match sort_of(rt, path.as_str()) {
         Sort::Folder => open_folder(rt, path, left, found),
         Sort::File => found.push(path),
-        Sort::Other => Ok(()),
+        Sort::Link => Ok(()),
+        Sort::Device => {
+            found.devices = found.devices.saturating_add(1);
+            Ok(())
+        }
     }
 }
 
@@ -221,7 +231,7 @@ pub(crate) fn take_list(
 }
 
 /// Adds the files that the words name: each word that names a folder represents the files in it and below it, in the order of their names, byte by byte.
-/// Links in a folder are passed over.
+/// Links in a folder are passed over; devices, pipes and sockets in one are left out and counted.
 pub(crate) fn take_words(
     rt: &HostRuntime,
     words: &[&str],

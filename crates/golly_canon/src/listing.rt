@@ -3,17 +3,18 @@
 use crate::closing::{Hints, Tally};
 use crate::counting::NameCount;
 use crate::folders::{Found, take_list, take_words};
-use crate::opening::{Input, ReservedStreams, open_no_folder};
+use crate::opening::{Input, ReservedStreams, hint_before, open_no_folder};
 use crate::outputs::{Errors, Listed, Output, Visible};
 use crate::progress::ProgressLine;
-use crate::watching::{Watch, Watched, Watcher, watch_opened};
-use file_keys::{write_duplicates, write_keys};
+use crate::recognizing::Recognized;
+use crate::watching::{Watch, Watched, Watcher, push_warning, watch_opened};
+use file_keys::{OpenedFile, write_duplicates, write_keys};
 use life_base::{Device, Kind};
 use life_cli::plans::KeysPlan;
 use life_cli::{Opened, Origin, Seeds, refuse};
 use std::alloc::AllocError;
 use std::cell::Cell;
-use std::io::{IsTerminal, Result as IoResult, Write};
+use std::io::{ErrorKind, IsTerminal, Result as IoResult, Write};
 use std::rt::{Stderr, Stdout};
 
 /// What is written of the files.
@@ -45,6 +46,22 @@ struct Run<'a> {
     report_lines: NameCount,
     /// How many of them came before the file that was opened last.
     earlier_reports: Cell<usize>,
+    /// How many files have a name that is UTF-8 text, so that they could be tried.
+    tried: Cell<usize>,
+}
+
+/// A file that was opened, or the list.
+type OpenedInput<'a> = OpenedFile<Device<Recognized<Watched<'a, Input>>>>;
+
+/// What was opened, and what it is if it is something that the program doesn't read.
+fn recognize_opened<'a>(opened: Opened<Watched<'a, Input>>) -> OpenedInput<'a> {
+    let Opened { input, bytes } = opened;
+    let input = Recognized::new(input);
+    let foreign = input.foreign();
+    OpenedFile {
+        source: Device::new(input).expecting(bytes),
+        foreign,
+    }
 }
 
 /// Opens what a name represents, unless it is known that it can't be opened.
@@ -62,6 +79,22 @@ fn open_found(
     open_no_folder(rt, streams, origin)
 }
 
+/// Whether a file wasn't tried, because its name isn't UTF-8 text.
+fn has_no_text<T>(opened: &IoResult<T>) -> bool {
+    match opened {
+        Ok(_) => false,
+        Err(error) => matches!(error.kind(), ErrorKind::InvalidData),
+    }
+}
+
+/// The line that says how many of something were left out, or no text where none were.
+fn left_out_line(rt: &HostRuntime, what: &str, count: usize) -> Result<String, AllocError> {
+    if count == 0 {
+        return Ok(String::new(rt.alloc()));
+    }
+    format!(in rt.alloc(); "{what}: {count}.\n")
+}
+
 /// The name of what is opened.
 fn name_of(origin: Origin<'_>) -> &str {
     match origin {
@@ -74,12 +107,9 @@ impl<'a> Run<'a> {
     /// Standard output, whose lines come in place of the line of progress.
     fn out(&self, rt: &HostRuntime) -> Output<'_, Visible<'_, Stdout>> {
         let stream = rt.stdout();
+        let progress = self.progress.is_shared.then_some(&self.progress);
         Output {
-            stream: Visible {
-                stream,
-                is_terminal: stream.is_terminal(),
-                progress: self.progress.is_shared.then_some(&self.progress),
-            },
+            stream: Visible::new(stream, stream.is_terminal(), progress),
             is_left: &self.is_left,
             listed: Some(&self.listed),
         }
@@ -88,11 +118,7 @@ impl<'a> Run<'a> {
     /// Standard error, whose lines do too.
     fn stderr(&self, rt: &HostRuntime) -> Visible<'_, Stderr> {
         let stream = rt.stderr();
-        Visible {
-            stream,
-            is_terminal: stream.is_terminal(),
-            progress: Some(&self.progress),
-        }
+        Visible::new(stream, stream.is_terminal(), Some(&self.progress))
     }
 
     /// The same for reports, each of which says that a file is passed over.
@@ -123,7 +149,7 @@ impl<'a> Run<'a> {
             return;
         }
         if let Ok(mut line) = self.watcher.line.try_borrow_mut() {
-            if warning.push(&mut line).is_ok() {
+            if push_warning(&mut line, warning).is_ok() {
                 self.say(rt, line.as_slice());
             }
         }
@@ -138,17 +164,28 @@ impl<'a> Run<'a> {
         None
     }
 
+    /// Counts a file that was tried, whether or not it could be opened.
+    fn count<T>(&self, opened: &IoResult<T>) {
+        if !has_no_text(opened) {
+            self.tried.set(self.tried.get().saturating_add(1));
+        }
+    }
+
     /// Opens a file, or the list.
-    fn open(&self, rt: &HostRuntime, origin: Origin<'_>) -> IoResult<Device<Watched<'_, Input>>> {
+    fn open(&self, rt: &HostRuntime, origin: Origin<'_>) -> IoResult<OpenedInput<'_>> {
         self.warn(rt);
         self.progress.advance(rt, self.names.count.get());
         let names = self.watch(name_of(origin));
+        if let Some(hint) = hint_before(rt, origin) {
+            self.say(rt, hint.as_slice());
+        }
         let opened = open_found(rt, self.streams, self.found, origin);
         if names.is_none() {
             self.hints.take(origin, &opened);
+            self.count(&opened);
         }
         let opened = watch_opened(opened?, &self.watcher.watch, names);
-        Ok(Device::new(opened.input).expecting(opened.bytes))
+        Ok(recognize_opened(opened))
     }
 
     /// Writes what is wanted of the plan's files, and between their lines how far that is.
@@ -164,21 +201,45 @@ impl<'a> Run<'a> {
         }
     }
 
+    /// How many files the plan and its list name.
+    fn named(&self, plan: &KeysPlan<'_>) -> usize {
+        plan.files.len().saturating_add(self.names.count.get())
+    }
+
     /// How many of the plan's files are duplicates.
     fn tally(&self, plan: &KeysPlan<'_>) -> Tally {
         let refusals = self.report_lines.count.get();
-        let all = plan.files.len().saturating_add(self.names.count.get());
         Tally {
-            files: all.saturating_sub(refusals),
+            files: self.named(plan).saturating_sub(refusals),
             refusals,
             duplicates: self.listed.names.count.get(),
             groups: self.listed.names.groups(),
         }
     }
 
-    /// Says on a terminal what to change in the arguments, and how many files are duplicates.
+    /// Says after a run over folders how many files were left out because their names aren't UTF-8 text, and how many because they are devices, pipes or
+    /// sockets, if any were.
+    fn close_folders(&self, rt: &HostRuntime, plan: &KeysPlan<'_>) {
+        if !plan.recursive {
+            return;
+        }
+        let unnamed = self.named(plan).saturating_sub(self.tried.get());
+        let no_text = "Files and folders left out because the name isn't UTF-8 text";
+        let devices = "Devices, pipes and sockets left out";
+        for (what, count) in [(no_text, unnamed), (devices, self.found.devices)] {
+            if let Ok(line) = left_out_line(rt, what, count) {
+                self.say(rt, line.as_bytes());
+            }
+        }
+    }
+
+    /// Says what was left out, and on a terminal what to change in the arguments, and how many files are duplicates.
     fn close(&self, rt: &HostRuntime, plan: &KeysPlan<'_>, listing: Listing) {
-        if !self.listed.is_whole.get() || !rt.stderr().is_terminal() {
+        if !self.listed.is_whole.get() {
+            return;
+        }
+        self.close_folders(rt, plan);
+        if !rt.stderr().is_terminal() {
             return;
         }
         self.say(rt, self.hints.of_folder().as_bytes());
@@ -219,6 +280,7 @@ fn write_listing(
         is_left: Cell::new(false),
         report_lines: NameCount::new(false),
         earlier_reports: Cell::new(0),
+        tried: Cell::new(0),
     };
     let status = run.write(rt, &seeds, plan, listing);
     run.warn(rt);

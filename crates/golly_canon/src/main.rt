@@ -7,13 +7,14 @@ mod counting;
 mod escaping;
 mod explaining;
 mod folders;
-mod foreign;
 mod item_marks;
 mod listing;
 mod opening;
 mod outputs;
 mod progress;
+mod recognizing;
 mod rereading;
+mod rle_watching;
 mod tasks;
 mod watching;
 
@@ -49,11 +50,7 @@ fn print_error(rt: &HostRuntime, error: &Error) -> IoResult<()> {
         return error.print(rt);
     }
     let text = format!(in rt.alloc(); "{error}")?;
-    let mut terminal = Visible {
-        stream,
-        is_terminal: true,
-        progress: None,
-    };
+    let mut terminal = Visible::new(stream, true, None);
     terminal.write_all(text.as_bytes())
 }
 
@@ -149,7 +146,7 @@ fn list(
 ) -> Result<u8, AllocError> {
     let mut found = Found::new(rt);
     for word in damaged {
-        found.note(rt, word.as_str(), IoErrorKind::InvalidFilename)?;
+        found.note(rt, word.as_str(), IoErrorKind::InvalidData)?;
     }
     match damaged {
         [word, ..] if !are_files(plan, &found, damaged.len()) => refuse_word(rt, word.as_str()),

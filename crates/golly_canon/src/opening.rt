@@ -1,10 +1,12 @@
 //! The files that the words name.
 
+use crate::escaping::push_visible;
 use life_cli::{Opened, Origin};
 use std::fs;
 use std::fs::{File, Metadata};
-use std::io::{ErrorKind, Read, Result};
+use std::io::{ErrorKind, IsTerminal, Read, Result};
 use std::os::fd::AsRawFd;
+use std::os::unix::fs::FileTypeExt;
 use std::rt::Stdin;
 
 /// A file, or standard input.
@@ -48,6 +50,37 @@ pub(crate) fn reserve_closed_streams(rt: &HostRuntime) -> ReservedStreams {
 /// A folder that stays open.
 fn reserve_stream(rt: &HostRuntime) -> Option<File> {
     File::open(rt, "/").ok()
+}
+
+/// Whether a name is that of a pipe. One that a shell made for a command, which has no name of its own, is none.
+fn is_named_pipe(rt: &HostRuntime, name: &str) -> bool {
+    if name.starts_with("/dev/") || name.starts_with("/proc/") {
+        return false;
+    }
+    match fs::metadata(rt, name) {
+        Ok(metadata) => metadata.file_type().is_fifo(),
+        Err(_) => false,
+    }
+}
+
+/// The line that says that a name is that of a pipe.
+fn pipe_line(rt: &HostRuntime, name: &str) -> Option<Vec<u8>> {
+    let mut line = Vec::new(rt.alloc());
+    push_visible(&mut line, name.as_bytes()).ok()?;
+    line.extend_from_slice(b" is a pipe: it is read when a program writes to it.\n")
+        .ok()?;
+    Some(line)
+}
+
+/// What is said before a word is opened: if standard error is a terminal and the word names a pipe, that it is one, because opening it waits for a program
+/// that writes to it.
+pub(crate) fn hint_before(rt: &HostRuntime, origin: Origin<'_>) -> Option<Vec<u8>> {
+    match origin {
+        Origin::File(name) if rt.stderr().is_terminal() && is_named_pipe(rt, name) => {
+            pipe_line(rt, name)
+        }
+        _ => None,
+    }
 }
 
 /// Opens what a word names.

@@ -1,5 +1,7 @@
 //! Standard output, whose reader may leave before the end; standard error, to which that isn't reported; and what a terminal gets of both.
 
+ghost use Rattle.std.specs.Io.{WritesAtMost};
+
 use crate::counting::NameCount;
 use crate::escaping::hexadecimal;
 use crate::progress::ProgressLine;
@@ -111,33 +113,72 @@ impl<'a, W: Write> Write for Errors<'a, W> {
     }
 }
 
-/// How many bytes the control character has that a text begins with and that a terminal might act on, or 0 if it begins with another one. A line feed ends a
-/// line, and a NUL does nothing.
+/// How many bytes the character has that a text begins with, if a terminal might act on it or it turns the direction of text, or 0 if it is another one. A
+/// line feed ends a line, and a NUL does nothing.
 fn control_length(text: &[u8]) -> usize {
     match text {
-        [0xC2, 0x80..=0x9F, ..] => 2,
+        [0xC2, 0x80..=0x9F, ..] | [0xD8, 0x9C, ..] => 2,
+        [0xE2, 0x80, 0x8E | 0x8F | 0xA8..=0xAE, ..] | [0xE2, 0x81, 0xA6..=0xA9, ..] => 3,
         [b'\n' | b'\0', ..] => 0,
         [byte, ..] if byte.is_ascii_control() => 1,
         _ => 0,
     }
 }
 
-/// A standard stream whose lines come in place of the line of progress. If it is a terminal, its control characters are written as `\xHH`, byte by byte.
+/// How many bytes at the beginning of a text belong to such a character that began in the two bytes before it.
+fn continued_length(before: [u8; 2], text: &[u8]) -> usize {
+    let next = [text.first(), text.get(1)].map(|byte| byte.copied().unwrap_or(0));
+    if control_length(&[before[0], before[1], next[0]]) == 3 {
+        return 1;
+    }
+    control_length(&[before[1], next[0], next[1]]).saturating_sub(1)
+}
+
+/// A standard stream whose lines come in place of the line of progress. If it is a terminal, its control characters, and those that turn the direction of
+/// text or end a line, are written as `\xHH`, byte by byte.
 #[derive(Drop)]
 pub(crate) struct Visible<'a, W> {
-    pub stream: W,
-    pub is_terminal: bool,
+    stream: W,
+    is_terminal: bool,
     /// The line of progress, if it is on the terminal of the stream.
-    pub progress: Option<&'a ProgressLine>,
+    progress: Option<&'a ProgressLine>,
+    /// The last two bytes that the terminal got as they are, in which a character may have begun.
+    before: [u8; 2],
 }
 
 impl<'a, W: Write> Visible<'a, W> {
+    /// A stream to which nothing was written.
+    pub(crate) fn new(
+        stream: W,
+        is_terminal: bool,
+        progress: Option<&'a ProgressLine>,
+    ) -> Visible<'a, W> {
+        Visible {
+            stream,
+            is_terminal,
+            progress,
+            before: [0; 2],
+        }
+    }
+
     /// Writes so many bytes at the beginning of a text as `\xHH`.
     fn write_escaped(&mut self, text: &[u8], count: usize) -> Result<()> {
         for byte in text.iter().take(count) {
             self.stream.write_all(&hexadecimal(*byte))?;
         }
+        self.before = [0; 2];
         Ok(())
+    }
+
+    /// Writes a text as it is.
+    fn write_plain(&mut self, text: &[u8]) -> Result<usize>
+        ensures bound { WritesAtMost result text.now }
+    {
+        let count = self.stream.write(text)?;
+        for byte in text.iter().take(count) {
+            self.before = [self.before[1], *byte];
+        }
+        Ok(count)
     }
 }
 
@@ -149,17 +190,22 @@ impl<'a, W: Write> Write for Visible<'a, W> {
         if !self.is_terminal {
             return self.stream.write(buf);
         }
+        let continued = continued_length(self.before, buf).min(buf.len());
+        if continued > 0 {
+            self.write_escaped(buf, continued)?;
+            return Ok(continued);
+        }
         for at in 0..buf.len() {
             let count = control_length(&buf[at..]);
             if count > 0 && at > 0 {
-                return self.stream.write(&buf[..at]);
+                return self.write_plain(&buf[..at]);
             }
             if count > 0 {
                 self.write_escaped(buf, count)?;
                 return Ok(count.min(buf.len()));
             }
         }
-        self.stream.write(buf)
+        self.write_plain(buf)
     }
 
     fn flush(&mut self) -> Result<()> {

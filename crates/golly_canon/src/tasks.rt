@@ -4,14 +4,14 @@ ghost use Rattle.std.specs.Prelude.{◌↔◌, IsSome};
 ghost use Rattle.life_cli.specs.Plans.{HasSecond};
 
 use crate::explaining::{explain, explain_unread, warn};
-use crate::opening::{Input, ReservedStreams, open};
+use crate::opening::{Input, ReservedStreams, hint_before, open};
 use crate::outputs::Output;
 use crate::watching::{Watch, Watched, watch_opened};
 use life_base::{Device, Fault, Kind};
 use life_cli::plans::{Task, TaskPlan};
 use life_cli::{Opened, Origin, Refusal, Seeds, carry_out, open_files, refuse, status, tell};
 use std::cell::Cell;
-use std::io::{IsTerminal, Result as IoResult};
+use std::io::{IsTerminal, Result as IoResult, Write};
 
 /// Whether sentences come after the line of a fault, or after the answer.
 fn is_explained(rt: &HostRuntime, plan: &TaskPlan) -> bool {
@@ -61,6 +61,9 @@ impl Watches {
         } else {
             &self.first
         };
+        if let Some(hint) = hint_before(rt, origin) {
+            let _ = rt.stderr().write_all(hint.as_slice());
+        }
         Ok(watch_opened(open(rt, origin)?, watch, None))
     }
 

@@ -3,52 +3,12 @@
 use crate::counting::NameCount;
 use crate::escaping::{push_all, push_name};
 use crate::opening::Input;
+use crate::rle_watching::RleWatch;
+use file_hints::Warning;
 use life_cli::Opened;
 use std::alloc::AllocError;
 use std::cell::{Cell, RefCell};
 use std::io::{Read, Result as IoResult};
-
-/// Why a file is probably meant otherwise than it is read.
-#[derive(Clone, Copy)]
-pub(crate) enum Warning {
-    /// It is macrocell, and its first line has a carriage return inside it.
-    Return,
-    /// It is macrocell, and has no line of squares.
-    NoSquares,
-    /// It is macrocell, and a line before its squares would be a rule or a generation if it had a space.
-    Comment,
-    /// It is RLE, and its header gives a size above 0, but none of its cells is in another state than 0.
-    NoCells,
-}
-
-impl Warning {
-    /// The warning, as a sentence.
-    fn text(self) -> &'static str {
-        match self {
-            Warning::Return => concat!(
-                "line 1 has a carriage return inside it: the file seems to have lost its line ends, so that most of it is ",
-                "read as a comment",
-            ),
-            Warning::NoSquares => concat!(
-                "the file has no line of squares, so it is the blank pattern; a macrocell file that lost its line ends ",
-                "looks like this",
-            ),
-            Warning::Comment => concat!(
-                "a line such as `#RB36/S23` or `#G7`, without a space, is a comment here, and a rule or a generation in ",
-                "Golly",
-            ),
-            Warning::NoCells => concat!(
-                "the header gives the pattern a size, but no cell is alive, so it is the blank pattern; a file that lost its ",
-                "rows looks like this",
-            ),
-        }
-    }
-
-    /// Adds the warning after the name of a file, and ends the line.
-    pub(crate) fn push(self, line: &mut Vec<u8>) -> Result<(), AllocError> {
-        push_all(line, &[b": warning: ", self.text().as_bytes(), b"\n"])
-    }
-}
 
 /// What is known of a file by its bytes so far.
 #[derive(Clone, Copy)]
@@ -83,20 +43,8 @@ pub(crate) enum Watch {
     Rest,
     /// A line is a comment, and would be a rule or a generation if it had a space.
     Meant,
-    /// A line of RLE begins, and no header came before.
-    RleStart,
-    /// A line of RLE is a comment, and no header came before.
-    RleComment,
-    /// They are in the header of RLE, which gives no size above 0 so far.
-    Header,
-    /// They are in the header of RLE, which gives a size above 0.
-    SizedHeader,
-    /// A line begins after such a header, and no live cell came before.
-    ItemsStart,
-    /// A line after such a header is a comment, and no live cell came before.
-    ItemsComment,
-    /// They are among the items after such a header, and no live cell came before.
-    Items,
+    /// They aren't macrocell.
+    Rle(RleWatch),
     /// It is known whether there is a warning.
     Known(Option<Warning>),
 }
@@ -105,7 +53,7 @@ impl Watch {
     /// What is known after one byte more.
     fn after(self, byte: u8) -> Watch {
         match (self, byte) {
-            (Watch::Known(_), _) => self,
+            (Watch::Known(_) | Watch::Rle(_), _) => self,
             // The mark `[M2]`, and the line that it begins.
             (Watch::Start, b'[') => Watch::Bracket,
             (Watch::Bracket, b'M') => Watch::Letter,
@@ -116,23 +64,6 @@ impl Watch {
             (Watch::FirstLine | Watch::FirstReturn, b'\r') => Watch::FirstReturn,
             (Watch::FirstLine, _) => Watch::FirstLine,
             (Watch::FirstReturn, _) => Watch::Known(Some(Warning::Return)),
-            // RLE before its header.
-            (Watch::Start | Watch::RleStart | Watch::RleComment, b'\n') => Watch::RleStart,
-            (Watch::Start | Watch::RleStart, b'x') => Watch::Header,
-            (Watch::Start | Watch::RleStart | Watch::RleComment, _) => Watch::RleComment,
-            // A header. Before its rule, which begins with `r`, all digits are those of sizes.
-            (Watch::SizedHeader, b'\n') => Watch::ItemsStart,
-            (Watch::SizedHeader, _) | (Watch::Header, b'1'..=b'9') => Watch::SizedHeader,
-            (Watch::Header, b'r' | b'\n') => Watch::Known(None),
-            (Watch::Header, _) => Watch::Header,
-            // After a header with a size. All letters but `b` are those of live cells, or come before one.
-            (Watch::ItemsStart | Watch::ItemsComment | Watch::Items, b'\n') => Watch::ItemsStart,
-            (Watch::ItemsComment, _) | (Watch::ItemsStart, b'#') => Watch::ItemsComment,
-            (Watch::ItemsStart | Watch::Items, b'!') => Watch::Known(Some(Warning::NoCells)),
-            (Watch::ItemsStart | Watch::Items, b'o' | b'p'..=b'y' | b'A'..=b'X') => Watch::Known(
-                None,
-            ),
-            (Watch::ItemsStart | Watch::Items, _) => Watch::Items,
             // A line of macrocell that isn't the first.
             (Watch::Meant, b'\n') => Watch::Known(Some(Warning::Comment)),
             (_, b'\n') => Watch::LineStart,
@@ -151,8 +82,27 @@ impl Watch {
         }
     }
 
+    /// What is known by what is known of RLE.
+    fn of_rle(watch: RleWatch) -> Watch {
+        match watch.warning() {
+            Some(warning) => Watch::Known(Some(warning)),
+            None => Watch::Rle(watch),
+        }
+    }
+
     /// What is known after these bytes more.
     fn after_all(self, bytes: &[u8]) -> Watch {
+        match self {
+            Watch::Rle(watch) => Watch::of_rle(watch.after_all(bytes)),
+            Watch::Start if !bytes.starts_with(b"[") => {
+                Watch::of_rle(RleWatch::new().after_all(bytes))
+            }
+            _ => self.after_each(bytes),
+        }
+    }
+
+    /// What is known after each of these bytes, where the file is macrocell, or may be.
+    fn after_each(self, bytes: &[u8]) -> Watch {
         let mut watch = self;
         for byte in bytes {
             if matches!(watch, Watch::Known(_)) {
@@ -168,10 +118,7 @@ impl Watch {
         match self {
             Watch::Known(_) => self,
             Watch::Start | Watch::Bracket | Watch::Letter | Watch::Digit => Watch::Known(None),
-            Watch::RleStart | Watch::RleComment | Watch::Header => Watch::Known(None),
-            Watch::SizedHeader | Watch::ItemsStart | Watch::ItemsComment | Watch::Items => {
-                Watch::Known(Some(Warning::NoCells))
-            }
+            Watch::Rle(watch) => Watch::Known(watch.at_end()),
             _ => Watch::Known(Some(Warning::NoSquares)),
         }
     }
@@ -183,6 +130,14 @@ impl Watch {
             _ => None,
         }
     }
+}
+
+/// Adds a warning after the name of a file, and ends the line.
+pub(crate) fn push_warning(line: &mut Vec<u8>, warning: Warning) -> Result<(), AllocError> {
+    push_all(
+        line,
+        &[b": warning: ", warning.sentence().as_bytes(), b"\n"],
+    )
 }
 
 /// What is watched of the file that a run reads.

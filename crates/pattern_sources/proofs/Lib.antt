@@ -1,2 +1,3 @@
 pub mod FormLemmas
 pub mod SourceLemmas
+pub mod StartLemmas

@@ -35,3 +35,15 @@ abbrev pub IsTextIn : Form → ℕ → List ℕ → List ℕ → Type 0
 IsTextIn Placed top bytes text = IsCanonical top bytes text
 IsTextIn Moved top bytes text = SaysText Moved (IsMovedText top) top bytes text
 IsTextIn Turned top bytes text = SaysText Turned (IsTurnedText top) top bytes text
+
+-- the same rule and cells, in generation 0
+abbrev pub at_start : Universe → Universe
+at_start u = record { rule = u.rule; generation = 0; cell = u.cell }
+
+-- The bytes are a file, and this is the text in the form of its pattern with generation 0: that of a file, `start`, which says the same with generation 0.
+pub record IsTextAtStart (form : Form) (top : ℕ) (bytes text : List ℕ) : Type 0 where
+  pub universe : Universe
+  pub reads : Reads top bytes universe
+  pub start : List ℕ
+  pub says : Reads top start (at_start universe)
+  pub is : IsTextIn form top start text

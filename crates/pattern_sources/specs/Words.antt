@@ -9,5 +9,5 @@ pub use Rattle.life_forms.specs.Needed.{HasLargeForm}
 pub use Rattle.life_quad.specs.Cells.{population}
 pub use Rattle.life_quad.specs.Store.{stored_squares}
 pub use Rattle.pattern_sources.specs.Faults.{fault_line, is_of_table, line_word, refusal_of, status_of, Reports}
-pub use Rattle.pattern_sources.specs.Forms.{IsMovedText, IsTextIn}
+pub use Rattle.pattern_sources.specs.Forms.{IsMovedText, IsTextAtStart, IsTextIn}
 pub use Rattle.pattern_sources.specs.Sources.{AreOfInput, ComesOf, HoldsOneFile, RefusesInForm}

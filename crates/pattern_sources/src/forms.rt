@@ -27,7 +27,12 @@ fn moved_text(alloc: Global, store: &Shared, pattern: &Pattern) -> Result<Vec<u8
 }
 
 /// The text of a file's pattern in a form.
-fn text_in(alloc: Global, store: &Shared, form: Form, pattern: &Pattern) -> Result<Vec<u8>, Fault>
+pub(crate) fn text_in(
+    alloc: Global,
+    store: &Shared,
+    form: Form,
+    pattern: &Pattern,
+) -> Result<Vec<u8>, Fault>
     requires read { IsOfFile MAX_LEVEL store.now pattern.now }
     requires limit { store.now.limit ≡ 2 ^ 31 }
     ensures text { IfOk result (λ text. (bytes : List ℕ)

@@ -78,12 +78,15 @@ fn new_command<'a>(alloc: Global, name: &'a str, help: Help) -> Command<'a>
         .after_long_help(help.notes)
 }
 
-/// A command with one argument more.
-fn with_argument<'a>(command: Command<'a>, argument: Arg<'a>) -> Result<Command<'a>, AllocError>
-    ensures { (line : App) (rule : Rule) → ReadsAs line command.entry → HasRule rule argument.entry
-        → IfOk result (ReadsAs (with_rule line rule)) }
+/// A command with one argument more, where the command was made.
+fn with_argument<'a>(
+    command: Result<Command<'a>, AllocError>,
+    argument: Arg<'a>,
+) -> Result<Command<'a>, AllocError>
+    ensures { (line : App) (rule : Rule) → IfOk command.entry (ReadsAs line)
+        → HasRule rule argument.entry → IfOk result (ReadsAs (with_rule line rule)) }
 {
-    command.arg(argument)
+    command?.arg(argument)
 }
 
 /// The flag that asks for a sentence about an error.
@@ -98,8 +101,11 @@ On a terminal this is the default.";
 }
 
 /// A command with that flag too.
-fn with_explain<'a>(alloc: Global, command: Command<'a>) -> Result<Command<'a>, AllocError>
-    ensures { (line : App) → ReadsAs line command.entry
+fn with_explain<'a>(
+    alloc: Global,
+    command: Result<Command<'a>, AllocError>,
+) -> Result<Command<'a>, AllocError>
+    ensures { (line : App) → IfOk command.entry (ReadsAs line)
         → IfOk result (ReadsAs (with_explain line)) }
 {
     with_argument(command, explain(alloc))
@@ -110,23 +116,23 @@ fn one_file<'a>(alloc: Global, name: &'a str, help: Help) -> Result<Command<'a>,
     ensures { IfOk result (ReadsAs (one_file_line name.entry.now)) }
 {
     let file = file(alloc, "FILE", "The pattern file, or - for standard input");
-    with_argument(new_command(alloc, name, help), file)
+    with_argument(Ok(new_command(alloc, name, help)), file)
 }
 
 fn canon<'a>(alloc: Global) -> Result<Command<'a>, AllocError>
     ensures { IfOk result (ReadsAs canon_line) }
 {
-    let command = one_file(alloc, "canon", CANON)?;
-    let command = with_argument(command, form(alloc, PLACED_UNLESS_GIVEN))?;
+    let command = one_file(alloc, "canon", CANON);
+    let command = with_argument(command, form(alloc, PLACED_UNLESS_GIVEN));
     with_explain(alloc, command)
 }
 
 fn convert<'a>(alloc: Global) -> Result<Command<'a>, AllocError>
     ensures { IfOk result (ReadsAs convert_line) }
 {
-    let command = one_file(alloc, "convert", CONVERT)?;
+    let command = one_file(alloc, "convert", CONVERT);
     let help = "The format to write: rle or mc";
-    let command = with_argument(command, needed_option(alloc, "to", "FORMAT", help))?;
+    let command = with_argument(command, needed_option(alloc, "to", "FORMAT", help));
     with_explain(alloc, command)
 }
 
@@ -135,7 +141,7 @@ fn two_files<'a>(alloc: Global, name: &'a str, help: Help) -> Result<Command<'a>
     ensures { IfOk result (ReadsAs (two_files_line name.entry.now)) }
 {
     let first = file(alloc, "A", "A pattern file, or - for standard input");
-    let command = with_argument(new_command(alloc, name, help), first)?;
+    let command = with_argument(Ok(new_command(alloc, name, help)), first);
     let second = file(alloc, "B", "Another one; only one of the two may be -");
     with_argument(command, second)
 }
@@ -143,15 +149,15 @@ fn two_files<'a>(alloc: Global, name: &'a str, help: Help) -> Result<Command<'a>
 fn same<'a>(alloc: Global) -> Result<Command<'a>, AllocError>
     ensures { IfOk result (ReadsAs same_line) }
 {
-    let command = two_files(alloc, "same", SAME)?;
-    let command = with_argument(command, form(alloc, PLACED_UNLESS_GIVEN))?;
+    let command = two_files(alloc, "same", SAME);
+    let command = with_argument(command, form(alloc, PLACED_UNLESS_GIVEN));
     with_explain(alloc, command)
 }
 
 fn show<'a>(alloc: Global) -> Result<Command<'a>, AllocError>
     ensures { IfOk result (ReadsAs show_line) }
 {
-    let command = one_file(alloc, "show", SHOW)?;
+    let command = one_file(alloc, "show", SHOW);
     with_explain(alloc, command)
 }
 
@@ -165,12 +171,14 @@ fn any_files<'a>(
     ensures { IfOk result (ReadsAs (files_line name.entry.now)) }
 {
     let files = files(alloc, "Pattern files; one of them may be -, standard input");
-    let command = with_argument(new_command(alloc, name, help), files)?;
-    let command = with_argument(command, form(alloc, form_help))?;
+    let command = with_argument(Ok(new_command(alloc, name, help)), files);
+    let command = with_argument(command, form(alloc, form_help));
+    let help = "Take each pattern as if its generation were 0";
+    let command = with_argument(command, flag(alloc, "ignore-generation", help));
     let help = "End names in NUL, and write them as they are";
-    let command = with_argument(command, flag(alloc, "zero", help))?;
+    let command = with_argument(command, flag(alloc, "zero", help));
     let help = "Take the files that LIST names too, a file or -: a name a line";
-    let command = with_argument(command, option(alloc, "from", "LIST", help))?;
+    let command = with_argument(command, option(alloc, "from", "LIST", help));
     let help = "Take the files in a folder and below it, where a FILE is a folder";
     with_argument(command, short_flag(alloc, "recursive", 'r', help))
 }
@@ -178,7 +186,7 @@ fn any_files<'a>(
 fn keys<'a>(alloc: Global) -> Result<Command<'a>, AllocError>
     ensures { IfOk result (ReadsAs keys_line) }
 {
-    let command = any_files(alloc, "keys", KEYS, PLACED_UNLESS_GIVEN)?;
+    let command = any_files(alloc, "keys", KEYS, PLACED_UNLESS_GIVEN);
     let help = "Write an object of JSON for each file, one a line";
     with_argument(command, flag(alloc, "json", help))
 }
@@ -186,9 +194,9 @@ fn keys<'a>(alloc: Global) -> Result<Command<'a>, AllocError>
 fn step<'a>(alloc: Global) -> Result<Command<'a>, AllocError>
     ensures { IfOk result (ReadsAs step_line) }
 {
-    let command = one_file(alloc, "step", STEP)?;
+    let command = one_file(alloc, "step", STEP);
     let help = "A rule table, a .rule file; only one of the two may be -";
-    let command = with_argument(command, option(alloc, "table", "RULE", help))?;
+    let command = with_argument(command, option(alloc, "table", "RULE", help));
     with_explain(alloc, command)
 }
 
@@ -200,29 +208,30 @@ fn bare<'a>(alloc: Global) -> Result<Command<'a>, AllocError>
     command.subcommand_required(true).bin_name("golly_canon")
 }
 
-/// A command with one command more, where that was made.
+/// A command with one command more, where both were made.
 fn with_command<'a>(
-    command: Command<'a>,
-    made: Result<Command<'a>, AllocError>,
+    command: Result<Command<'a>, AllocError>,
+    added: Result<Command<'a>, AllocError>,
 ) -> Result<Command<'a>, AllocError>
-    ensures { (line added : App) → ReadsAs line command.entry → IfOk made.entry (ReadsAs added)
-        → IfOk result (ReadsAs (with_subcommand line added.top)) }
+    ensures { (line more : App) → IfOk command.entry (ReadsAs line)
+        → IfOk added.entry (ReadsAs more)
+        → IfOk result (ReadsAs (with_subcommand line more.top)) }
 {
-    let more = made?;
-    command.subcommand(more)
+    let command = command?;
+    command.subcommand(added?)
 }
 
 /// The program.
 fn golly_canon<'a>(alloc: Global) -> Result<Command<'a>, AllocError>
     ensures { IfOk result (λ command. ReadsAs program command) }
 {
-    let command = bare(alloc)?;
-    let command = with_command(command, canon(alloc))?;
-    let command = with_command(command, convert(alloc))?;
-    let command = with_command(command, same(alloc))?;
-    let command = with_command(command, show(alloc))?;
-    let command = with_command(command, step(alloc))?;
-    let command = with_command(command, keys(alloc))?;
+    let command = bare(alloc);
+    let command = with_command(command, canon(alloc));
+    let command = with_command(command, convert(alloc));
+    let command = with_command(command, same(alloc));
+    let command = with_command(command, show(alloc));
+    let command = with_command(command, step(alloc));
+    let command = with_command(command, keys(alloc));
     let duplicates = any_files(alloc, "duplicates", DUPLICATES, MOVED_UNLESS_GIVEN);
     with_command(command, duplicates)
 }

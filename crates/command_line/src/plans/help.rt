@@ -8,7 +8,7 @@ pub struct Help {
     pub notes: &'static str,
 }
 
-/// The notes of a command over one file: its own, which end within the list of its statuses, and the end that these commands share.
+/// The notes of a command over one file that takes no form: its own, which end within the list of its statuses, and the end that these commands share.
 macro_rules! notes_over_one_file {
     ($own:literal) => {
         concat!(
@@ -48,7 +48,8 @@ Exit status:
   2  a file or a rule table was refused, or the pattern can't be written as RLE
      or has no next generation
   3  a file can't be opened or read, or the output can't be written
-  4  there isn't enough memory, or more than 2^31 squares are needed
+  4  there isn't enough memory, or more than 2^31 squares are needed, or more than
+     2^21 in a form
   5  the command line isn't understood
 
 With the statuses 2 to 4 one line on standard error says why. It is `line N: KIND` for
@@ -137,8 +138,7 @@ have the same turned text exactly if a turn or a reflection, followed by a shift
 one to the other. The rule and the generation stay as they are, even if the rule
 distinguishes directions. The form is refused (Full) if the moved pattern has more than
 2^21 different squares; for `turned`, if any of the eight moved patterns has so many.",
-    notes: notes_over_one_file!(
-        "Examples:
+    notes: "Examples:
   golly_canon canon glider.rle
   golly_canon canon - < glider.mc
   golly_canon canon glider.rle | sha256sum
@@ -149,8 +149,12 @@ distinguishes directions. The form is refused (Full) if the moved pattern has mo
 Exit status:
   0  the text was written
   2  the file was refused
-"
-    ),
+  3  the file can't be opened or read, or the output can't be written
+  4  there isn't enough memory, or more than 2^31 squares are needed, or more than
+     2^21 in a form
+  5  the command line isn't understood
+
+See `golly_canon --help` for the lines on standard error.",
 };
 
 pub const CONVERT: Help = Help {
@@ -277,6 +281,10 @@ placed  a pattern as it lies (the default)
 moved   a pattern and its shifts
 turned  a pattern, its turns and its reflections, and the shifts of all these
 
+The generation that a file gives counts too: the text has it in its line #G. With
+--ignore-generation the key is that of the text without this line, as if the generation
+were 0.
+
 A file that is refused or can't be opened is reported on standard error, by its name, and
 passed over. In a name, a backslash, a line feed and a carriage return are written as
 \\\\, \\n and \\r, and the line then begins with a backslash.
@@ -305,6 +313,7 @@ replaces the bytes that aren't UTF-8 text. Each object ends in a line feed, even
   golly_canon keys *.rle *.mc
   golly_canon keys -r patterns > keys
   golly_canon keys --form turned *.rle
+  golly_canon keys --form turned --ignore-generation *.rle
   golly_canon keys --json -r patterns > keys.jsonl
   find . -name '*.rle' -print0 | golly_canon keys --zero --from - > keys
 
@@ -314,7 +323,8 @@ Exit status:
   0  each file has its key
   2  a file was refused
   3  a file can't be opened or read, or the output can't be written
-  4  there isn't enough memory, or more than 2^31 squares are needed, for a file
+  4  there isn't enough memory, or more than 2^31 squares are needed, or more than
+     2^21 in a form, for a file
   5  the command line isn't understood, no file is named, or - is named twice
 
 If several of these apply, the status is the greatest of them; but if the output can't
@@ -348,7 +358,8 @@ moved   a pattern and its shifts (the default)
 turned  a pattern, its turns and its reflections, and the shifts of all these
 
 The default is `moved`, because Golly writes the .rle file and the .mc file of one pattern
-at different places.
+at different places. With --ignore-generation, files that differ only in the generation
+are in one group too.
 
 A file that is refused or can't be opened is in no group. It is reported on standard error
 as by `golly_canon keys`, and passed over. Nothing is written to standard output before
@@ -369,6 +380,7 @@ the name of a file, and not standard input.",
   golly_canon duplicates *.rle *.mc
   golly_canon duplicates -r patterns
   golly_canon duplicates -r patterns --form turned
+  golly_canon duplicates -r patterns --ignore-generation
   golly_canon duplicates -r mine theirs > /dev/null || echo 'no two are the same, or an error'
   find . -name '*.rle' -print0 | golly_canon duplicates --zero --from - > groups
 
@@ -377,7 +389,8 @@ Exit status:
   1  there is none
   2  a file was refused
   3  a file can't be opened or read, or the output can't be written
-  4  there isn't enough memory, or more than 2^31 squares are needed, for a file
+  4  there isn't enough memory, or more than 2^31 squares are needed, or more than
+     2^21 in a form, for a file
   5  the command line isn't understood, no file is named, or - is named twice
 
 If several of these apply, the status is the greatest of them, so 0 and 1 mean that each

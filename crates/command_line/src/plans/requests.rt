@@ -5,7 +5,7 @@ ghost use Rattle.command_line.specs.Words.{bytes_eq, found_of, first_of, rows_of
 ghost use Rattle.clap.specs.Words.{fault_of, kind_of};
 
 use super::commands::parse;
-use super::{Form, Job, KeysPlan, Plan, Request, Target, Task, TaskPlan, Usage};
+use super::{Form, Job, KeyForm, KeysPlan, Plan, Request, Target, Task, TaskPlan, Usage};
 use clap::error::ErrorKind;
 use clap::{ArgMatches, Command, Error};
 use std::alloc::Global;
@@ -244,7 +244,10 @@ fn any_files<'a>(
         Err(usage) => return Err(usage),
     };
     Ok(KeysPlan {
-        form,
+        form: KeyForm {
+            form,
+            ignores_generation: is_set(found, "ignore-generation"),
+        },
         zero: is_set(found, "zero"),
         json: is_set(found, "json"),
         recursive: is_set(found, "recursive"),
@@ -287,63 +290,58 @@ fn names_input_twice(found: &ArgMatches<'_>) -> bool
     files + pair + table + list > 1
 }
 
-/// The plan of matches that name standard input once at most.
-fn from_command(alloc: Global, matches: &ArgMatches<'_>) -> Result<TaskPlan, Usage>
-    requires task { AreOfTask (subcommand_rows_of matches.now) }
-    requires once { ¬ NamesInputTwice (subcommand_rows_of matches.now) }
-    ensures ok { IfOk result (IsTaskPlanOf (subcommand_rows_of matches.now)) }
-    ensures refused { IfErr result (Explains [] (subcommand_rows_of matches.now)) }
+/// The plan of a command for a task, with what was found for it, where standard input is named once at most.
+fn from_command(alloc: Global, command: &str, found: &ArgMatches<'_>) -> Result<TaskPlan, Usage>
+    requires task { AreOfTask (Some (command.now, rows_of (found_of found.now))) }
+    requires once { ¬ NamesInputTwice (Some (command.now, rows_of (found_of found.now))) }
+    ensures ok { IfOk result (IsTaskPlanOf (Some (command.now, rows_of (found_of found.now)))) }
+    ensures refused { IfErr result
+        (Explains [] (Some (command.now, rows_of (found_of found.now)))) }
 {
-    if let Some(found) = matches.subcommand_matches("canon") {
-        return over_file(
-            alloc,
-            found,
-            Task::Canon(form(alloc, found, Form::Placed, CANON)?),
-        );
+    match command {
+        "canon" => match form(alloc, found, Form::Placed, CANON) {
+            Ok(form) => over_file(alloc, found, Task::Canon(form)),
+            Err(usage) => Err(usage),
+        },
+        "convert" => match target(alloc, found) {
+            Ok(target) => over_file(alloc, found, Task::Convert(target)),
+            Err(usage) => Err(usage),
+        },
+        "same" => match form(alloc, found, Form::Placed, SAME) {
+            Ok(form) => over_files(alloc, found, Task::Same(form), "A", "B"),
+            Err(usage) => Err(usage),
+        },
+        "show" => over_file(alloc, found, Task::Show),
+        "step" => step(alloc, found),
+        _ => unreachable!(),
     }
-    if let Some(found) = matches.subcommand_matches("convert") {
-        return over_file(alloc, found, Task::Convert(target(alloc, found)?));
-    }
-    if let Some(found) = matches.subcommand_matches("same") {
-        return over_files(
-            alloc,
-            found,
-            Task::Same(form(alloc, found, Form::Placed, SAME)?),
-            "A",
-            "B",
-        );
-    }
-    if let Some(found) = matches.subcommand_matches("show") {
-        return over_file(alloc, found, Task::Show);
-    }
-    if let Some(found) = matches.subcommand_matches("step") {
-        return step(alloc, found);
-    }
-    unreachable!()
 }
 
-/// What matches ask for that name standard input once at most.
-fn request_of<'a>(alloc: Global, matches: &ArgMatches<'a>) -> Result<Request<'a>, Usage>
-    requires whole { AreWhole (subcommand_rows_of matches.now) }
-    requires once { ¬ NamesInputTwice (subcommand_rows_of matches.now) }
-    ensures ok { IfOk result (IsRequestOf (subcommand_rows_of matches.now)) }
-    ensures refused { IfErr result (Explains [] (subcommand_rows_of matches.now)) }
+/// What a command asks for, with what was found for it, where standard input is named once at most.
+fn request_of<'a>(
+    alloc: Global,
+    command: &str,
+    found: &ArgMatches<'a>,
+) -> Result<Request<'a>, Usage>
+    requires whole { AreWhole (Some (command.now, rows_of (found_of found.now))) }
+    requires once { ¬ NamesInputTwice (Some (command.now, rows_of (found_of found.now))) }
+    ensures ok { IfOk result (IsRequestOf (Some (command.now, rows_of (found_of found.now)))) }
+    ensures refused { IfErr result
+        (Explains [] (Some (command.now, rows_of (found_of found.now)))) }
 {
-    if let Some(found) = matches.subcommand_matches("keys") {
-        return match any_files(alloc, found, Form::Placed, KEYS) {
+    match command {
+        "keys" => match any_files(alloc, found, Form::Placed, KEYS) {
             Ok(plan) => Ok(Request::Keys(plan)),
             Err(usage) => Err(usage),
-        };
-    }
-    if let Some(found) = matches.subcommand_matches("duplicates") {
-        return match any_files(alloc, found, Form::Moved, DUPLICATES) {
+        },
+        "duplicates" => match any_files(alloc, found, Form::Moved, DUPLICATES) {
             Ok(plan) => Ok(Request::Duplicates(plan)),
             Err(usage) => Err(usage),
-        };
-    }
-    match from_command(alloc, matches) {
-        Ok(plan) => Ok(Request::Work(plan)),
-        Err(usage) => Err(usage),
+        },
+        _ => match from_command(alloc, command, found) {
+            Ok(plan) => Ok(Request::Work(plan)),
+            Err(usage) => Err(usage),
+        },
     }
 }
 
@@ -354,12 +352,13 @@ fn from_matches<'a>(alloc: Global, matches: &ArgMatches<'a>) -> Result<Request<'
     ensures once { OnOk result (¬ NamesInputTwice (subcommand_rows_of matches.now)) }
     ensures refused { IfErr result (Explains [] (subcommand_rows_of matches.now)) }
 {
-    if let Some((_, found)) = matches.subcommand() {
-        if names_input_twice(found) {
-            return Err(Usage::TwoInputs);
-        }
+    let Some((command, found)) = matches.subcommand() else {
+        unreachable!()
+    };
+    if names_input_twice(found) {
+        return Err(Usage::TwoInputs);
     }
-    request_of(alloc, matches)
+    request_of(alloc, command, found)
 }
 
 /// What the words ask for. They begin with the program's own name.

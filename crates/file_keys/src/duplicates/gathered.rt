@@ -6,6 +6,7 @@ ghost use Rattle.file_keys.specs.Words.{classes_in, is_empty, IsToldAs, kept_gro
 use super::groups::Groups;
 use crate::keys::outcome::Outcome;
 use crate::keys::outputs::tell_outcome;
+use crate::keys::refusal::FileRefusal;
 use life_base::{Fault, Kind, Sink};
 use pattern_sources::Seeds;
 use std::alloc::Global;
@@ -30,7 +31,7 @@ fn keep<'a>(groups: &mut Groups<'a>, name: &'a [u8], outcome: Outcome) -> Outcom
     };
     match groups.add(key, name) {
         Ok(()) => outcome,
-        Err(_) => Outcome::Refused(Fault::of(Kind::Memory)),
+        Err(_) => Outcome::Refused(FileRefusal::of(Fault::of(Kind::Memory))),
     }
 }
 

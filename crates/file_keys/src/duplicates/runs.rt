@@ -8,6 +8,7 @@ use super::texts::write_groups;
 use crate::keys::files::Files;
 use crate::keys::names::first_name;
 use crate::keys::outputs::break_off;
+use crate::keys::refusal::OpenedFile;
 use command_line::{KeysPlan, Origin, origin_of};
 use life_base::{Sink, Source};
 use pattern_sources::{Seeds, refuse};
@@ -21,7 +22,10 @@ pub struct Gathering<'a, F> {
     gathered: Gathered<'a>,
 }
 
-impl<'a, R: Source + Drop, F: FnMut(Origin<'_>) -> IoResult<R> + Drop> Gathering<'a, F> {
+impl<'a, R: Source + Drop, F: FnMut(Origin<'_>) -> IoResult<OpenedFile<R>> + Drop> Gathering<
+    'a,
+    F,
+> {
     /// Takes the files that the words name.
     fn take_words<E: Sink>(&mut self, words: &[&'a str], err: &mut E)
         requires { CanGather F.IsAlwaysCallable self.old (E.failures err.old) }
@@ -74,7 +78,7 @@ pub fn write_duplicates<R, F, W, E>(
 ) -> u8
 where
     R: Source + Drop,
-    F: FnMut(Origin<'_>) -> IoResult<R> + Drop,
+    F: FnMut(Origin<'_>) -> IoResult<OpenedFile<R>> + Drop,
     W: Sink,
     E: Sink,
     requires { CanBegin F.IsAlwaysCallable W.failures W.stalled E.failures E.stalled

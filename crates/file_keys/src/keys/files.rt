@@ -5,7 +5,9 @@ ghost use Rattle.file_keys.specs.Words.{source_run, Comes, IsOutcomeOf, LacksByt
 
 use super::key_of;
 use super::outcome::Outcome;
-use command_line::{Form, Origin, origin_of};
+use super::refusal::{FileRefusal, OpenedFile, foreign_on};
+use command_line::{KeyForm, Origin, origin_of};
+use fault_sentences::Foreign;
 use life_base::{Fault, Kind, Source, read_within};
 use life_canon::laws::refusals_have_kinds;
 use pattern_sources::Seeds;
@@ -15,26 +17,38 @@ use std::io::{ErrorKind, Result as IoResult};
 /// The most bytes of a list.
 const LONGEST_LIST: u64 = 1 << 30;
 
-/// How the files of a run are opened, and in which form their patterns are taken.
+/// How the files of a run are opened, and in which form their patterns are hashed.
 #[derive(Drop)]
 pub(crate) struct Files<F> {
     pub alloc: Global,
     pub seeds: Seeds,
-    pub form: Form,
+    pub form: KeyForm,
     pub opener: F,
 }
 
 /// The key of a source's pattern, or why it has none: `ReadFault` exactly where a read of it failed.
-fn source_outcome<R: Source>(alloc: Global, seeds: &Seeds, form: Form, source: &mut R) -> Outcome
-    ensures { IsOutcomeOf form (source_run R.remaining R.failures source.old source.new) result }
+fn source_outcome<R: Source>(
+    alloc: Global,
+    seeds: &Seeds,
+    form: KeyForm,
+    source: &mut R,
+    foreign: Option<Foreign>,
+) -> Outcome
+    ensures { IsOutcomeOf form foreign
+        (source_run R.remaining R.failures source.old source.new) result }
 {
     refusals_have_kinds();
     if source.failed() {
-        return Outcome::Refused(Fault::of(Kind::ReadFault));
+        let fault = Fault::of(Kind::ReadFault);
+        let foreign = None;
+        return Outcome::Refused(FileRefusal { fault, foreign });
     }
     match key_of(alloc, seeds, form, source) {
         Ok(key) => Outcome::Key(key),
-        Err(fault) => Outcome::Refused(fault),
+        Err(fault) => {
+            let foreign = foreign_on(fault.kind, foreign);
+            Outcome::Refused(FileRefusal { fault, foreign })
+        }
     }
 }
 
@@ -52,7 +66,7 @@ fn list_bytes<R: Source>(alloc: Global, source: &mut R) -> Result<Vec<u8>, Kind>
     read_within(alloc, source, LONGEST_LIST)
 }
 
-impl<R: Source + Drop, F: FnMut(Origin<'_>) -> IoResult<R> + Drop> Files<F> {
+impl<R: Source + Drop, F: FnMut(Origin<'_>) -> IoResult<OpenedFile<R>> + Drop> Files<F> {
     /// Opens what a name names, and reads it to its end.
     pub(crate) fn outcome(&mut self, origin: Origin<'_>) -> Outcome
         requires callable { F.IsAlwaysCallable self.old.opener }
@@ -62,7 +76,16 @@ impl<R: Source + Drop, F: FnMut(Origin<'_>) -> IoResult<R> + Drop> Files<F> {
         ensures form { self.new.form ≡ self.old.form }
     {
         match (self.opener)(origin) {
-            Ok(mut source) => source_outcome(self.alloc, &self.seeds, self.form, &mut source),
+            Ok(opened) => {
+                let mut source = opened.source;
+                source_outcome(
+                    self.alloc,
+                    &self.seeds,
+                    self.form,
+                    &mut source,
+                    opened.foreign,
+                )
+            }
             Err(error) => Outcome::Unopened(error.kind()),
         }
     }
@@ -77,7 +100,7 @@ impl<R: Source + Drop, F: FnMut(Origin<'_>) -> IoResult<R> + Drop> Files<F> {
     {
         match str::from_utf8(name) {
             Ok(text) => self.outcome(Origin::File(text)),
-            Err(_) => Outcome::Unopened(ErrorKind::InvalidFilename),
+            Err(_) => Outcome::Unopened(ErrorKind::InvalidData),
         }
     }
 
@@ -96,9 +119,10 @@ impl<R: Source + Drop, F: FnMut(Origin<'_>) -> IoResult<R> + Drop> Files<F> {
         let Some(name) = from else {
             return Ok(Vec::new(self.alloc));
         };
-        let Ok(mut source) = (self.opener)(origin_of(name)) else {
+        let Ok(opened) = (self.opener)(origin_of(name)) else {
             return Err(Kind::ReadFault);
         };
+        let mut source = opened.source;
         list_bytes(self.alloc, &mut source)
     }
 }

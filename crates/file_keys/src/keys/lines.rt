@@ -4,9 +4,10 @@ ghost use Rattle.std.specs.Prelude.{◌≡◌, ◌<◌, ◌≤◌, ◌⊎◌, []
 ghost use Rattle.file_keys.specs.Words.{list_any, LeavesSink, WritesText, error_line, escaped_name, escaped_byte, fault_text, is_special, key_line, name_mark, reason_of, refused_line, unopened_line, IsMemory};
 
 use super::outcome::Outcome;
+use super::refusal::{FileRefusal, lead, words};
 use fault_sentences::sentence;
 use itoa::Buffer;
-use life_base::{Fault, Kind, Sink, append, write_text, write_texts};
+use life_base::{Kind, Sink, append, write_text, write_texts};
 use memchr::memchr3;
 use std::io::ErrorKind;
 
@@ -144,31 +145,39 @@ fn write_name<E: Sink>(err: &mut E, name: &[u8]) -> Result<(), Kind>
 }
 
 /// Writes the report of a fault.
-fn write_fault<E: Sink>(err: &mut E, fault: &Fault) -> Result<(), Kind>
+fn write_fault<E: Sink>(err: &mut E, refusal: &FileRefusal) -> Result<(), Kind>
     requires { E.failures err.old ≡ 0 }
-    ensures text { WritesText (E.contents err.old) (E.contents err.new) (fault_text fault.now)
+    ensures text { WritesText (E.contents err.old) (E.contents err.new) (fault_text refusal.now)
         result }
     ensures sink { LeavesSink E.failures E.stalled err.old err.new result }
 {
+    let FileRefusal { fault, foreign } = *refusal;
     let kind = fault.kind.name().as_bytes();
     let meaning = sentence(fault.kind).as_bytes();
+    let (lead, words) = (lead(foreign), words(foreign));
     if fault.place.line == 0 {
-        return write_texts(err, &[kind, b": ", meaning, b"\n"]);
+        return write_texts(err, &[kind, b": ", meaning, lead, words, b"\n"]);
     }
     let mut buffer = Buffer::new();
     let line = buffer.format(fault.place.line).as_bytes();
-    write_texts(err, &[b"line ", line, b": ", kind, b": ", meaning, b"\n"])
+    write_texts(
+        err,
+        &[
+            b"line ", line, b": ", kind, b": ", meaning, lead, words, b"\n",
+        ],
+    )
 }
 
-/// Writes the line of a file that is refused: its name, the line of the fault where it names one, the kind, and a sentence on it.
-fn write_refused<E: Sink>(err: &mut E, name: &[u8], fault: &Fault) -> Result<(), Kind>
+/// Writes the line of a file that is refused: its name, the line of the fault where it names one, the kind, a sentence on it, and what the file is if that
+/// is known.
+fn write_refused<E: Sink>(err: &mut E, name: &[u8], refusal: &FileRefusal) -> Result<(), Kind>
     requires { E.failures err.old ≡ 0 }
     ensures text { WritesText (E.contents err.old) (E.contents err.new)
-        (refused_line name.now fault.now) result }
+        (refused_line name.now refusal.now) result }
     ensures sink { LeavesSink E.failures E.stalled err.old err.new result }
 {
     write_name(err, name)?;
-    write_fault(err, fault)
+    write_fault(err, refusal)
 }
 
 /// Why a file isn't opened, in words.
@@ -179,6 +188,7 @@ pub(super) fn reason(kind: ErrorKind) -> &'static str
         ErrorKind::NotFound => "no such file",
         ErrorKind::PermissionDenied => "permission denied",
         ErrorKind::IsADirectory => "is a folder",
+        ErrorKind::InvalidData => "the name isn't UTF-8 text (collection.py reads such files)",
         _ => "can't be opened",
     }
 }
@@ -217,7 +227,7 @@ pub(super) fn write_error_line<E: Sink>(
 {
     match outcome {
         Outcome::Key(_) => Ok(()),
-        Outcome::Refused(fault) => write_refused(err, name, fault),
+        Outcome::Refused(refusal) => write_refused(err, name, refusal),
         Outcome::Unopened(kind) => write_unopened(err, name, *kind),
     }
 }

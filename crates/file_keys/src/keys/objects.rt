@@ -5,9 +5,10 @@ ghost use Rattle.file_keys.specs.Words.{LeavesSink, WritesText, fault_members, k
 
 use super::lines::reason;
 use super::outcome::Outcome;
+use super::refusal::{FileRefusal, lead, words};
 use crate::json::{Piece, write_pieces};
 use crate::text_sink::TextSink;
-use fault_sentences::sentence;
+use fault_sentences::{Foreign, sentence};
 use itoa::Buffer;
 use life_base::{Kind, Sink, write_text, write_texts};
 use std::alloc::Global;
@@ -73,10 +74,10 @@ fn write_line<W: Sink>(out: &mut W, line: u64) -> Result<(), Kind>
 }
 
 /// Writes why a file has no key, and the end of its object.
-fn write_reason<W: Sink>(out: &mut W, reason: &[u8]) -> Result<(), Kind>
+fn write_reason<W: Sink>(out: &mut W, reason: &[u8], foreign: Option<Foreign>) -> Result<(), Kind>
     requires { W.failures out.old ≡ 0 }
     ensures text { WritesText (W.contents out.old) (W.contents out.new)
-        (reason_member reason.now) result }
+        (reason_member reason.now foreign) result }
     ensures sink { LeavesSink W.failures W.stalled out.old out.new result }
 {
     write_pieces(
@@ -84,20 +85,27 @@ fn write_reason<W: Sink>(out: &mut W, reason: &[u8]) -> Result<(), Kind>
         &[
             Piece::Plain(b",\"reason\":\""),
             Piece::Text(reason),
+            Piece::Text(lead(foreign)),
+            Piece::Text(words(foreign)),
             Piece::Plain(b"\"}\n"),
         ],
     )
 }
 
 /// Writes the line of a fault, unless that is 0, and then why the file has no key.
-fn write_line_and_reason<W: Sink>(out: &mut W, line: u64, reason: &[u8]) -> Result<(), Kind>
+fn write_line_and_reason<W: Sink>(
+    out: &mut W,
+    line: u64,
+    reason: &[u8],
+    foreign: Option<Foreign>,
+) -> Result<(), Kind>
     requires { W.failures out.old ≡ 0 }
     ensures text { WritesText (W.contents out.old) (W.contents out.new)
-        (line_member line ++ reason_member reason.now) result }
+        (line_member line ++ reason_member reason.now foreign) result }
     ensures sink { LeavesSink W.failures W.stalled out.old out.new result }
 {
     write_line(out, line)?;
-    write_reason(out, reason)
+    write_reason(out, reason, foreign)
 }
 
 /// Writes the rest of the object of a file without a key.
@@ -106,14 +114,15 @@ fn write_fault_members<W: Sink>(
     kind: &[u8],
     line: u64,
     reason: &[u8],
+    foreign: Option<Foreign>,
 ) -> Result<(), Kind>
     requires { W.failures out.old ≡ 0 }
     ensures text { WritesText (W.contents out.old) (W.contents out.new)
-        (fault_members kind.now line reason.now) result }
+        (fault_members kind.now line reason.now foreign) result }
     ensures sink { LeavesSink W.failures W.stalled out.old out.new result }
 {
     write_kind(out, kind)?;
-    write_line_and_reason(out, line, reason)
+    write_line_and_reason(out, line, reason, foreign)
 }
 
 /// Writes the rest of the object of a file.
@@ -125,14 +134,15 @@ fn write_members<W: Sink>(out: &mut W, outcome: &Outcome) -> Result<(), Kind>
 {
     match outcome {
         Outcome::Key(key) => write_key_members(out, key),
-        Outcome::Refused(fault) => write_fault_members(
+        Outcome::Refused(FileRefusal { fault, foreign }) => write_fault_members(
             out,
             fault.kind.name().as_bytes(),
             fault.place.line,
             sentence(fault.kind).as_bytes(),
+            *foreign,
         ),
         Outcome::Unopened(kind) => {
-            write_fault_members(out, b"ReadFault", 0, reason(*kind).as_bytes())
+            write_fault_members(out, b"ReadFault", 0, reason(*kind).as_bytes(), None)
         }
     }
 }

@@ -3,7 +3,7 @@
 ghost use Rattle.std.specs.Prelude.{◌≡◌};
 ghost use Rattle.file_keys.specs.Words.{outcome_status};
 
-use life_base::Fault;
+use super::refusal::FileRefusal;
 use pattern_sources::status;
 use std::io::ErrorKind;
 
@@ -12,8 +12,8 @@ use std::io::ErrorKind;
 pub enum Outcome {
     /// It has this key.
     Key([u8; 32]),
-    /// It has none because of this fault; a full store and memory that ran out are faults too.
-    Refused(Fault),
+    /// It has none because of a fault; a full store and memory that ran out are faults too.
+    Refused(FileRefusal),
     /// It can't be opened.
     Unopened(ErrorKind),
 }
@@ -25,7 +25,7 @@ impl Outcome {
     {
         match self {
             Outcome::Key(_) => 0,
-            Outcome::Refused(fault) => status(fault.kind),
+            Outcome::Refused(refusal) => status(refusal.fault.kind),
             Outcome::Unopened(_) => 3,
         }
     }

@@ -6,6 +6,7 @@ ghost use Rattle.file_keys.specs.Words.{LeavesSink, sink_run, fault_of, fault_li
 use super::lines::{append_key_line, write_error_line};
 use super::objects::write_object_whole;
 use super::outcome::Outcome;
+use super::refusal::FileRefusal;
 use super::style::Style;
 use life_base::{Fault, Kind, Sink, write_text};
 use pattern_sources::{refuse, status};
@@ -37,7 +38,7 @@ fn make_line(room: &mut Vec<u8>, name: &[u8], outcome: Outcome, zero: bool) -> O
         return outcome;
     }
     room.clear();
-    Outcome::Refused(Fault::of(Kind::Memory))
+    Outcome::Refused(FileRefusal::of(Fault::of(Kind::Memory)))
 }
 
 /// Reports why a file has no key, unless `tells` says that `err` takes no more reports, and returns whether it takes more.

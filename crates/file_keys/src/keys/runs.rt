@@ -6,6 +6,7 @@ ghost use Rattle.file_keys.specs.Words.{sink_run, CanBegin, CanTake, LeavesSink,
 use super::files::Files;
 use super::names::first_name;
 use super::outputs::Outputs;
+use super::refusal::OpenedFile;
 use super::style::Style;
 use command_line::{KeysPlan, Origin, origin_of};
 use life_base::{Kind, Sink, Source};
@@ -20,7 +21,7 @@ pub struct KeyRun<F> {
     outputs: Outputs,
 }
 
-impl<R: Source + Drop, F: FnMut(Origin<'_>) -> IoResult<R> + Drop> KeyRun<F> {
+impl<R: Source + Drop, F: FnMut(Origin<'_>) -> IoResult<OpenedFile<R>> + Drop> KeyRun<F> {
     /// Takes the files that the words name.
     fn take_words<W: Sink, E: Sink>(
         &mut self,
@@ -114,7 +115,7 @@ pub fn write_keys<R, F, W, E>(
 ) -> u8
 where
     R: Source + Drop,
-    F: FnMut(Origin<'_>) -> IoResult<R> + Drop,
+    F: FnMut(Origin<'_>) -> IoResult<OpenedFile<R>> + Drop,
     W: Sink,
     E: Sink,
     requires { CanBegin F.IsAlwaysCallable W.failures W.stalled E.failures E.stalled

@@ -4,5 +4,5 @@ use Rattle.command_line.proofs.plans.commands.canon.Goals as goal
 
 pub returns : goal.returns
 returns c =
-    let one = c.in_ok-command-2.ensures (one_file_line (codes "canon")) (option (codes "form")) c.in_ok-command.ensures c.form.ensures in
+    let one = c.with_argument-command.ensures (one_file_line (codes "canon")) (option (codes "form")) c.one_file-command.ensures c.form.ensures in
     c.with_explain.ensures _ one

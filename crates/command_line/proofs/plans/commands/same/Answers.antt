@@ -4,5 +4,5 @@ use Rattle.command_line.proofs.plans.commands.same.Goals as goal
 
 pub returns : goal.returns
 returns c =
-    let one = c.in_ok-command-2.ensures (two_files_line (codes "same")) (option (codes "form")) c.in_ok-command.ensures c.form.ensures in
+    let one = c.with_argument-command.ensures (two_files_line (codes "same")) (option (codes "form")) c.two_files-command.ensures c.form.ensures in
     c.with_explain.ensures _ one

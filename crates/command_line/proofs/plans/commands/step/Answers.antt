@@ -4,5 +4,5 @@ use Rattle.command_line.proofs.plans.commands.step.Goals as goal
 
 pub returns : goal.returns
 returns c =
-    let one = c.in_ok-command-2.ensures (one_file_line (codes "step")) (option (codes "table")) c.in_ok-command.ensures c.option.ensures in
+    let one = c.with_argument-command.ensures (one_file_line (codes "step")) (option (codes "table")) c.one_file-command.ensures c.option.ensures in
     c.with_explain.ensures _ one

@@ -12,11 +12,11 @@ returns-in_default-opener-clause-err g c = (
 )
 
 pub returns-clause-ok : goal.returns-clause-ok
-returns-clause-ok g c = list_read (goal.F-step g) g.R.Source.remaining g.R.Source.failures _ _ c.args.self.now.opener c.opener.new.self c.in-Ok.source
+returns-clause-ok g c = list_read (goal.F-step g) g.R.Source.remaining g.R.Source.failures _ _ c.args.self.now.opener c.opener.new.self c.in-Ok.opened
     c.list_bytes.new.source _ c.list_bytes.result (ap (option_map (λ word. word.now)) c.in-Some.is)
     (c.origin_of.result, c.origin_of.ensures, rw c.in-Ok.is at c.opener.ensures) c.list_bytes.ensures.ok c.list_bytes.ensures.works
 
 pub returns-clause-err : goal.returns-clause-err
 returns-clause-err g c = err_by _ _ c.list_bytes.result (λ kind lacks. (c.in-Some.name.now, ap (option_map (λ word. word.now)) c.in-Some.is, lacks))
-    (list_lacks _ _ _ _ _ _ c.in-Ok.source c.list_bytes.new.source c.list_bytes.result
+    (list_lacks _ _ _ _ _ _ c.in-Ok.opened c.list_bytes.new.source c.list_bytes.result
     (c.origin_of.result, c.origin_of.ensures, rw c.in-Ok.is at c.opener.ensures) c.list_bytes.ensures.err)

@@ -1,0 +1,3 @@
+pub mod Recognition
+pub mod Warnings
+pub mod Words

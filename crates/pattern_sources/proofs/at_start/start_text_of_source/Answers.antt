@@ -1,0 +1,27 @@
+use Rattle.std.proofs.Common.{◌∙◌}
+use Rattle.std.proofs.lemmas.Result.{err_from_is_err_and}
+use Rattle.life_base.specs.declared.cell.TheConstants.{MAX_LEVEL}
+use Rattle.pattern_sources.specs.Forms.{IsTextAtStart}
+use Rattle.pattern_sources.specs.Sources.{RefusesInForm}
+use Rattle.pattern_sources.proofs.SourceLemmas.{comes_of_pattern, nothing_comes, refused_in, refused_text}
+use Rattle.pattern_sources.proofs.at_start.start_text_of_source.Goals as goal
+
+pub returns-in_err-pattern : goal.returns-in_err-pattern
+returns-in_err-pattern g c =
+    let p = err_from_is_err_and c.from_residual.result c.from_residual.ensures.1 in
+    rw (p.1, p.2) (nothing_comes _ (IsTextAtStart c.args.form MAX_LEVEL)
+    (RefusesInForm c.args.form) _ _ _ _ c.seeded-store.ensures.most c.seeded-store.ensures.stored
+    c.pattern_of.ensures.squares (λ bytes refuses. refused_in c.args.form bytes _ refuses) c.in_err-pattern.ensures.reads)
+
+pub text_at_start-requires-clause-read : goal.text_at_start-requires-clause-read
+text_at_start-requires-clause-read g c = (c.in_ok-pattern.ensures.reads.pattern.bytes, c.in_ok-pattern.ensures.reads.pattern.is)
+
+pub text_at_start-requires-clause-limit : goal.text_at_start-requires-clause-limit
+text_at_start-requires-clause-limit g c = c.pattern_of.ensures.reads.reads.keeps.limit ∙ c.seeded-store.ensures.most
+
+pub returns : goal.returns
+returns g c =
+    comes_of_pattern _ (IsTextAtStart c.args.form MAX_LEVEL) (RefusesInForm c.args.form) _ c.pattern_of.new.store c.in_ok-pattern.pattern
+    c.text_at_start.result c.in_ok-pattern.ensures.reads.pattern c.in_ok-pattern.ensures.reads.works c.text_at_start.ensures.text
+    (refused_text c.args.form _ _ c.pattern_of.new.store c.in_ok-pattern.pattern c.text_at_start.result c.in_ok-pattern.ensures.only
+    c.text_at_start.ensures.fault)
