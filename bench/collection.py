@@ -46,14 +46,14 @@ def timed(folder, shares, work, of_workers):
     path = os.path.join(folder, "timed.sqlite")
     if os.path.exists(path):
         os.remove(path)
-    table = collection.Table(path, shares, "placed")
+    table = collection.Table(path, shares)
     before, own, start = of_workers(), time.process_time(), time.monotonic()
     failed = collection.run(table, shares, work)
     took, own = time.monotonic() - start, time.process_time() - own
     spent = of_workers() - before
     if failed:
         sys.exit(f"shares failed: {failed}")
-    return took, spent, own, table.database.execute("SELECT path, member, key, kind, line FROM file ORDER BY id").fetchall()
+    return took, spent, own, table.database.execute(f"SELECT {', '.join(collection.COLUMNS)} FROM file ORDER BY id").fetchall()
 
 
 def main(words):
@@ -61,7 +61,7 @@ def main(words):
         sys.exit(__doc__)
     folder = words[1]
     files, size = (int(words[at]) if at < len(words) else default for at, default in ((2, 1_000_000), (3, 5000)))
-    shares = collection.shares_of(archives(folder, files, size), "placed", True)
+    shares = collection.shares_of(archives(folder, files, size), True)
     took, _, alone, wanted = timed(folder, shares, collection.by_this_process, lambda: 0.0)
     print("| | files in a second | processor time of the workers for a file | of the process that writes |\n|---|---|---|---|")
     print(f"| one process, without Dask | {files / took:,.0f} | | {alone / files * 1e6:.0f} us with all |", flush=True)

@@ -1,7 +1,10 @@
 #!/usr/bin/env python3
 """The keys of a collection of pattern files, by the processes of a machine or by a cluster, in one table with its duplicates.
 
-usage: collection.py --table OUT.sqlite [--form placed|moved|turned] [--archive] [--workers N | --scheduler ADDRESS] FILE.. | --from LIST
+usage: collection.py --table OUT.sqlite [--form placed|moved|turned] [--zero] [--archive] [--workers N | --scheduler ADDRESS] FILE.. | --from LIST
+
+The table has the keys of all three forms of each pattern. `--form` says in which of them the duplicates are listed: without it as the command `duplicates`
+of the program lists them, wherever a pattern is (`moved`).
 
 The list is cut into shares. A worker turns a share into rows and keeps nothing; this process alone writes, and a share's rows come into the table
 all or none, with the mark that it is done. So a worker that dies, a share that is done twice and a scheduler that starts again change nothing, and a
@@ -11,6 +14,7 @@ run that was cut off continues when the same command is started again. docs/COLL
 from __future__ import annotations
 
 import argparse
+import errno
 import functools
 import gzip
 import hashlib
@@ -31,11 +35,16 @@ import zlib
 from typing import Any, BinaryIO, Callable, Dict, Iterable, Iterator, List, Optional, Sequence, Tuple, Union
 
 # Shares and rows are plain tuples, so that any system can send them.
-Share = Tuple[int, str, Tuple[str, ...], bool, str]  # its number; the folder from which its paths go, the paths, whether they are archives; the form
-Row = Tuple[str, Optional[str], Optional[bytes], Optional[str], Optional[int], Optional[str]]  # path, member of the archive, key, kind, line, why
+Share = Tuple[int, bytes, Tuple[bytes, ...], bool]  # its number; the folder from which its paths go, the paths, and whether they are archives
+Key = Optional[bytes]
+Row = Tuple[str, Optional[str], Key, Key, Key, Optional[str], Optional[int], Optional[str]]  # as the columns of a row of the table
 Done = Tuple[int, Union[List[Row], str]]  # the number of a share, and its rows or why it has none
 Work = Callable[[Sequence[Share]], Iterator[Done]]
 
+COLUMNS = ("path", "member", "placed", "moved", "turned", "kind", "line", "why")
+FORMS = COLUMNS[2:5]  # in each of which a pattern has a key
+FORM = "moved"  # in which duplicates are listed if none is named, here and by the command `duplicates` of the program
+LEFT = 141  # the status where the reader of standard output has left, as a shell reports it of a program that SIGPIPE ends
 SIZE = 1000  # of a share, in files; an archive is a share by itself
 TRIES = 3  # of a share that raises
 MOST_FAILED = 10  # shares, after which a run stops
@@ -44,36 +53,107 @@ SPOKEN = 10.0  # the seconds between two lines that say how far the run is
 UNSETTLED = ("Memory", "ReadFault")  # kinds that lie with the machine, so that the next run tries again
 WITHOUT_DASK = (f"Dask isn't installed for {sys.executable}: install it (`apt-get install python3-distributed` for /usr/bin/python3, `pip install distributed` "
                 "for another one), or do all in one process, with --workers 0")
-UNREAD = (OSError, EOFError, zlib.error, lzma.LZMAError, zipfile.BadZipFile, tarfile.TarError, RuntimeError)
+UNREAD = (OSError, EOFError, zlib.error, lzma.LZMAError, zipfile.BadZipFile, tarfile.TarError, RuntimeError, ValueError)
+
+# How a file begins that is something else than a pattern, and what to do with it: what `golly_canon canon --explain` says of it, and more that a collection
+# may have. It is looked at no further than that command does.
+HEAD = 512
+GOLLY = "open it in Golly, and save it as RLE or as a macrocell file."
+BINARY = (
+    (b"\x1f\x8b", "This is a gzip file: unpack it first, with gunzip."),
+    (b"BZh", "This is a bzip2 file: unpack it first, with bunzip2."),
+    (b"\xfd7zXZ\0", "This is an xz file: unpack it first, with unxz."),
+    (b"PK", "This is a zip file: unpack it first, with unzip. With --archive its files are read."),
+    (b"(?s:.{257}ustar)", "This is a tar file: unpack it first, with tar -xf. With --archive its files are read."),
+    (b"\\(\xb5/\xfd", "This is a zstd file: unpack it first, with unzstd."),
+    (b"7z\xbc\xaf\x27\x1c", "This is a 7z file: unpack it first, with 7z."),
+    (b"Rar!\x1a\x07", "This is a rar file: unpack it first, with unrar."),
+    (b"\x89PNG|GIF8|\xff\xd8\xff|BM(?s:.{4})\0|RIFF(?s:.{4})WEBP|II\\*\0|MM\0\\*", "This is an image, not a pattern file."),
+    (b"%PDF-", "This is a PDF file, so it is no pattern file."),
+    (b"(?s:.*)\0", "This isn't a text file, so it is no pattern file."),
+)
+TEXTS = (
+    (b"\\Z", "The file is empty: save it or download it again."),
+    (b"\\s*<", "This is a web page (HTML): download the file that it links to."),
+    (b"\xef\xbb\xbf", "The file begins with a UTF-8 byte order mark: remove it, or save the file as UTF-8 without one."),
+    (b"#Life 1\\.05", f"This is a Life 1.05 file: {GOLLY}"),
+    (b"#Life 1\\.06", f"This is a Life 1.06 file: {GOLLY}"),
+    (b"#MCell", f"This is an MCell file: {GOLLY}"),
+    (b"@RULE", "This is a rule table, not a pattern: name it after the option --table of step."),
+    (b"!|[.O*\r]+(?:\n|\\Z)", f"This is a plaintext file (.cells): {GOLLY}"),
+    (b"(?:(?:#[^\n]*)?\n)*(?=[^o\n]*o)[0-9bo$!. \t\r\f]+(?:\n|\\Z)",
+     "The header is missing: put one before the items, such as x = 0, y = 0, rule = B3/S23."),
+    (b"[^\r\n]*\r[^\n]*\\Z", "The lines end in a carriage return alone: turn each into a line feed, with tr '\\r' '\\n'."),
+)
+FORMATS = [(re.compile(beginning), what) for beginning, what in BINARY + TEXTS]
+
+# What is escaped in a name: control characters, those that end a line or turn the direction of text, and bytes that are no UTF-8 text.
+HIDDEN = "\\x00-\\x1f\\x7f-\\x9f\\u061c\\u200e\\u200f\\u2028-\\u202e\\u2066-\\u2069\\udc80-\\udcff"
+HIDDEN_IN_TEXT, HIDDEN_IN_NAME = re.compile(f"[{HIDDEN}]"), re.compile(rf"[{HIDDEN}\\]")
+ESCAPE = re.compile(rb"\\(?:x([0-9a-f]{2})|(.))")
+EQUALS = re.compile("(?<= )=|=(?= )")  # which would look like the one between two names
+
+
+# ---- names, as the table and all lines have them
+
+
+def text_of(name: bytes) -> str:
+    r"""A name as it is written, here and in the table, so that it is one line and does nothing to a terminal. It is what the program writes on a terminal: a
+    backslash as \\, LF as \n, CR as \r, and each byte of another character of HIDDEN as \xHH. `name_of` turns it back."""
+    return HIDDEN_IN_NAME.sub(escaped, name.decode("utf-8", "surrogateescape"))
+
+
+def escaped(found: "re.Match[str]") -> str:
+    """A character of a name as it is escaped."""
+    short = {"\\": "\\\\", "\n": "\\n", "\r": "\\r"}.get(found[0])
+    return short or "".join(f"\\x{byte:02x}" for byte in found[0].encode("utf-8", "surrogateescape"))
+
+
+def name_of(text: str) -> bytes:
+    """The name that is written as this text: its bytes, as the system has them."""
+    return ESCAPE.sub(lambda it: bytes.fromhex(it[1].decode()) if it[1] else {b"n": b"\n", b"r": b"\r"}.get(it[2], it[2]), text.encode())
+
+
+def line_of(first: str, other: str) -> bytes:
+    r"""The line of two files, whose texts these are. A `=` in a name with a space next to it is written as \x3d, so that there is one ` = `."""
+    first, other = (EQUALS.sub(r"\\x3d", it) for it in (first, other))
+    return f"{first} = {other}\n".encode()
+
+
+def names_of(first: str, other: str) -> bytes:
+    r"""The names of two files, as the system has them, each ended by NUL. A NUL that a name in an archive has is written as \x00."""
+    return b"".join(name_of(it).replace(b"\0", b"\\x00") + b"\0" for it in (first, other))
 
 
 # ---- what a worker does: from a share to its rows, by nothing but the share and the files
 
 
-def members_of(path: str) -> Iterator[Tuple[str, Callable[[], bytes]]]:
+def members_of(path: bytes) -> Iterator[Tuple[bytes, Callable[[], bytes]]]:
     """The files of an archive, each with a call that reads it: of a zip, or of a tar, which gzip, bzip2 or xz may have packed."""
-    if zipfile.is_zipfile(path):
-        with zipfile.ZipFile(path) as packed:
-            for it in packed.infolist():
-                if not it.is_dir():
-                    yield it.filename, functools.partial(packed.read, it)
-    else:
-        with tarfile.open(path, "r|*") as archive:
+    with open(path, "rb") as whole:
+        if zipfile.is_zipfile(whole):
+            with zipfile.ZipFile(whole) as packed:
+                for it in packed.infolist():
+                    if not it.is_dir():
+                        yield it.filename.encode(), functools.partial(packed.read, it)
+            return
+        whole.seek(0)
+        with tarfile.open(fileobj=whole, mode="r|*", encoding="utf-8", errors="surrogateescape") as archive:
             for entry in archive:
                 file = archive.extractfile(entry) if entry.isfile() else None
                 if file is not None:
-                    yield entry.name, file.read
+                    yield entry.name.encode("utf-8", "surrogateescape"), file.read
                 archive.members = []  # type: ignore[attr-defined]  # which would hold every entry until the end
 
 
-def contents(path: str) -> bytes:
+def contents(path: bytes) -> bytes:
     """The bytes of a file."""
     with open(path, "rb") as file:
         return file.read()
 
 
-def row_of(path: str, member: Optional[str], read: Callable[[], bytes], form: str) -> Row:
-    """The row of a file: its key, with a warning where the file seems to have lost its line ends, or why it has none. A file that gzip packed is
+def row_of(path: str, member: Optional[str], read: Callable[[], bytes]) -> Row:
+    """The row of a file: its keys, with a warning where it probably isn't what its author meant, or why it has none. A file that gzip packed is
     unpacked."""
     import golly_canon  # the process that starts the run needs no library
 
@@ -82,39 +162,80 @@ def row_of(path: str, member: Optional[str], read: Callable[[], bytes], form: st
         data = gzip.decompress(data) if data[:2] == b"\x1f\x8b" else data
         with warnings.catch_warnings():  # the row has the warning
             warnings.simplefilter("ignore", golly_canon.PatternWarning)
-            key = golly_canon.key(data, form)
-        return path, member, key, None, None, golly_canon.warning_of(data)
-    except golly_canon.Refused as why:
-        return path, member, None, why.kind, why.line, f"{why}: {why.sentence}"
+            keys, fault = keys_of(data)
     except MemoryError:
-        return path, member, None, "Memory", None, "Memory"
+        return row_without_key(path, member, "Memory", "Memory")
     except UNREAD as why:
-        return path, member, None, "ReadFault", None, words_of_fault(why)
+        return row_without_key(path, member, "ReadFault", words_of_fault(why, name_of(path)))
+    kind, line, said = fault or (None, None, golly_canon.warning_of(data))
+    return (path, member, *keys, kind, line, said)
 
 
-def words_of_fault(why: BaseException) -> str:
-    """What the system says of a file that can't be read."""
-    return text_of(str(why)) or type(why).__name__
+def keys_of(data: bytes) -> Tuple[Tuple[Key, Key, Key], Optional[Tuple[str, Optional[int], str]]]:
+    """The key of a file in each form; and the kind and the line of the first fault, with what is said of it. A file that is refused in its place is refused in
+    the other forms too, and these may refuse more (`Full`)."""
+    import golly_canon
+
+    keys: List[Key] = []
+    fault = None
+    for form in FORMS:
+        try:
+            keys.append(golly_canon.key(data, form))
+        except golly_canon.Refused as why:
+            if not any(keys):
+                return (None, None, None), (why.kind, why.line, f"{why}: {why.sentence}{advice_of(why.kind, data)}")
+            keys.append(None)
+            fault = fault or (why.kind, why.line, f"{form}: {why}: {why.sentence}")
+    placed, moved, turned = keys
+    return (placed, moved, turned), fault
 
 
-def text_of(name: str) -> str:
-    r"""A name as the table has it: a byte that is no UTF-8 as \xNN."""
-    return name.encode("utf-8", "surrogateescape").decode("utf-8", "backslashreplace")
+def advice_of(kind: str, data: bytes) -> str:
+    """What a refused file is, with a space before it, if it is something else than a pattern."""
+    head = data[:HEAD]
+    return "" if kind in ("Full", "Memory") else next((f" {what}" for beginning, what in FORMATS if beginning.match(head)), "")
+
+
+def row_without_key(path: str, member: Optional[str], kind: str, why: str) -> Row:
+    """The row of a file that isn't read."""
+    return path, member, None, None, None, kind, None, why
+
+
+def words_of_fault(why: BaseException, name: bytes) -> str:
+    """Why a file can't be read: in the words of the program, or else what the system says."""
+    if isinstance(why, UnicodeError):
+        return "a name in the archive isn't UTF-8 text"
+    if isinstance(why, OSError) and why.errno in (errno.EILSEQ, errno.EINVAL) and not is_text(name):
+        return "the name isn't UTF-8 text"
+    for kind, words in ((FileNotFoundError, "no such file"), (PermissionError, "permission denied"), (IsADirectoryError, "is a folder")):
+        if isinstance(why, kind):
+            return words
+    said = why.strerror if isinstance(why, OSError) else None
+    return text_of(os.fsencode(said or str(why))) or type(why).__name__
+
+
+def is_text(name: bytes) -> bool:
+    """Whether a name is UTF-8 text."""
+    try:
+        name.decode()
+    except UnicodeError:
+        return False
+    return True
 
 
 def rows_of(share: Share) -> List[Row]:
     """The rows of a share, in their order: the same ones wherever and however often it is done, if the files are the same."""
-    _, folder, paths, is_archive, form = share
+    _, folder, paths, is_archive = share
     rows: List[Row] = []
     for path in paths:
         place, name = os.path.join(folder, path), text_of(path)
         if not is_archive:
-            rows.append(row_of(name, None, functools.partial(contents, place), form))
+            rows.append(row_of(name, None, functools.partial(contents, place)))
             continue
         try:
-            rows.extend(row_of(name, text_of(member), read, form) for member, read in members_of(place))
+            rows.extend(row_of(name, text_of(member), read) for member, read in members_of(place))
         except UNREAD as why:  # after the members that could be read
-            rows.append((name, None, None, "ReadFault", None, words_of_fault(why)))
+            rows.append(row_without_key(name, None, "ReadFault", words_of_fault(why, path)))
     return rows
 
 
@@ -128,7 +249,14 @@ def packed_rows_of(share: Share) -> bytes:
 
 def by_this_process(shares: Sequence[Share]) -> Iterator[Done]:
     """Does the shares here, one after another, without Dask."""
-    return ((share[0], rows_of(share)) for share in shares)
+    for share in shares:
+        try:
+            found: Union[List[Row], str] = rows_of(share)
+        except ImportError:  # the library isn't there, for any share
+            raise
+        except Exception as why:  # as Dask has it
+            found = f"{type(why).__name__}: {why}"
+        yield share[0], found
 
 
 def by_dask(connect: Callable[[], Any]) -> Work:
@@ -216,20 +344,21 @@ def dask_on(address: Optional[str], workers: int) -> Work:
 class Table:
     """The result in one SQLite file, which also says which shares are done.
 
-    `file` has a row for each file, in the order of the list; `doubles` has the files of which there is another one, each with the number of the first
-    that is the same pattern.
+    `file` has a row for each file, in the order of the list. `duplicates` has the files of which there is another one, once for each form in which they are
+    the same pattern, each with the number of the first of them.
     """
 
-    SCHEMA = """
-        CREATE TABLE run (list BLOB NOT NULL, form TEXT NOT NULL, shares INTEGER NOT NULL);
-        CREATE TABLE share (number INTEGER PRIMARY KEY, files INTEGER NOT NULL, unread INTEGER NOT NULL);
-        CREATE TABLE file (id INTEGER PRIMARY KEY, path TEXT NOT NULL, member TEXT, key BLOB, kind TEXT, line INTEGER, why TEXT);
-        CREATE VIEW doubles AS SELECT first, id, path, member, key
-            FROM (SELECT key, min(id) AS first FROM file WHERE key IS NOT NULL GROUP BY key HAVING count(*) > 1) JOIN file USING (key)
-            ORDER BY first, id;
-    """
+    SCHEMA = ";".join([
+        "CREATE TABLE run (list BLOB NOT NULL, shares INTEGER NOT NULL)",
+        "CREATE TABLE share (number INTEGER PRIMARY KEY, files INTEGER NOT NULL, unread INTEGER NOT NULL)",
+        "CREATE TABLE file (id INTEGER PRIMARY KEY, path TEXT NOT NULL, member TEXT, placed BLOB, moved BLOB, turned BLOB, kind TEXT, line INTEGER, why TEXT)",
+        "CREATE VIEW duplicates AS " + " UNION ALL ".join(
+            f"SELECT '{form}' AS form, first, id, path, member, {form} AS key FROM "
+            f"(SELECT {form}, min(id) AS first FROM file WHERE {form} IS NOT NULL GROUP BY {form} HAVING count(*) > 1) JOIN file USING ({form})"
+            for form in FORMS),
+    ])
 
-    def __init__(self, path: str, shares: Sequence[Share], form: str) -> None:
+    def __init__(self, path: str, shares: Sequence[Share]) -> None:
         """Opens the table of these shares, or makes it. Raises ValueError where the file is another table."""
         self.database = sqlite3.connect(path, timeout=60, isolation_level=None)
         with self.database as it:
@@ -238,10 +367,12 @@ class Table:
             if not it.execute("SELECT 1 FROM sqlite_master").fetchone():
                 for statement in self.SCHEMA.split(";"):
                     it.execute(statement)
-                it.execute("INSERT INTO run VALUES (?, ?, ?)", (mark, form, len(shares)))
-            is_ours = it.execute("SELECT 1 FROM sqlite_master WHERE name = 'run'").fetchone()
-            if not is_ours or it.execute("SELECT list FROM run").fetchone() != (mark,):
-                raise ValueError("it is the table of another list, form or size of shares: name another table, or remove this one")
+                it.execute("INSERT INTO run VALUES (?, ?)", (mark, len(shares)))
+            columns = {name for _, name, *_ in it.execute("PRAGMA table_info(run)")}
+            if "form" in columns:
+                raise ValueError("it is a table of an older collection.py, with the keys of one form: name another table, or remove this one")
+            if "list" not in columns or it.execute("SELECT list FROM run").fetchone() != (mark,):
+                raise ValueError("it is the table of another list or size of shares: name another table, or remove this one")
 
     def left(self, shares: Sequence[Share]) -> List[Share]:
         """The shares that are not done, or in which a file couldn't be read."""
@@ -250,45 +381,64 @@ class Table:
 
     def take(self, number: int, rows: Sequence[Row]) -> None:
         """Puts the rows of a share into the table, all or none. A share that is done stays as it is."""
-        first, unread = number << 32, sum(row[3] in UNSETTLED for row in rows)
+        first, unread = number << 32, sum(row[5] in UNSETTLED for row in rows)
         with self.database as it:
             it.execute("BEGIN IMMEDIATE")
             if it.execute("SELECT 1 FROM share WHERE number = ? AND unread = 0", (number,)).fetchone():
                 return
             it.execute("DELETE FROM file WHERE id >= ? AND id < ?", (first, first + (1 << 32)))
-            it.executemany("INSERT INTO file VALUES (?, ?, ?, ?, ?, ?, ?)", ((at, *row) for at, row in enumerate(rows, first)))
+            it.executemany("INSERT INTO file VALUES (?, ?, ?, ?, ?, ?, ?, ?, ?)", ((at, *row) for at, row in enumerate(rows, first)))
             it.execute("INSERT OR REPLACE INTO share VALUES (?, ?, ?)", (number, len(rows), unread))
 
-    def counted(self) -> Dict[str, int]:
-        """How many files there are, how many of them have a key, are refused or could not be read, and how many patterns and groups of duplicates."""
-        self.database.execute("CREATE INDEX IF NOT EXISTS file_by_key ON file (key)")
+    def counted(self, form: str = FORM) -> Dict[str, int]:
+        """How many files there are, how many of them have a key in a form, are refused or could not be read, and how many patterns and groups of duplicates."""
+        self.order(form)
         marks = ", ".join(f"'{it}'" for it in UNSETTLED)
-        row = self.database.execute(f"""SELECT count(*), count(key), coalesce(sum(kind NOT IN ({marks})), 0), coalesce(sum(kind IN ({marks})), 0),
-            count(DISTINCT key), (SELECT count(DISTINCT first) FROM doubles) FROM file""").fetchone()
+        row = self.database.execute(f"""SELECT count(*), count({form}), coalesce(sum({form} IS NULL AND kind NOT IN ({marks})), 0),
+            coalesce(sum({form} IS NULL AND kind IN ({marks})), 0), count(DISTINCT {form}),
+            (SELECT count(DISTINCT first) FROM duplicates WHERE form = '{form}') FROM file""").fetchone()
         return dict(zip(("files", "keys", "refused", "unread", "patterns", "groups"), row))
 
-    def doubles(self) -> Iterator[Tuple[str, str]]:
-        """Each file that is the same pattern as an earlier one, after the first such one."""
+    def duplicates(self, form: str = FORM) -> Iterator[Tuple[str, str]]:
+        """Each file that is the same pattern as an earlier one, in a form, after the first such one."""
+        self.order(form)
         first = ""
-        for number, own, path, member in self.database.execute("SELECT first, id, path, member FROM doubles"):
-            name = path if member is None else f"{path}/{member}"
+        for number, own, path, member in self.database.execute(
+                "SELECT first, id, path, member FROM duplicates WHERE form = ? ORDER BY first, id", (form,)):
+            name = whole_name(path, member)
             if number == own:
                 first = name
             else:
                 yield first, name
+
+    def unread(self) -> Iterator[Tuple[str, str]]:
+        """Each file that couldn't be read, and why."""
+        for path, member, why in self.database.execute("SELECT path, member, why FROM file WHERE kind IN (?, ?) ORDER BY id", UNSETTLED):
+            yield whole_name(path, member), why
+
+    def order(self, form: str) -> None:
+        """Orders the files by their keys in a form, so that equal ones are found."""
+        if form not in FORMS:
+            raise ValueError(f"a form is placed, moved or turned, and not {form!r}")
+        self.database.execute(f"CREATE INDEX IF NOT EXISTS file_by_{form} ON file ({form})")
 
     def write_parquet(self, path: str) -> None:
         """Writes the rows of the files as Parquet, by pyarrow. The file is there when it is whole."""
         import pyarrow
         import pyarrow.parquet
 
-        kinds = {"path": pyarrow.string(), "member": pyarrow.string(), "key": pyarrow.binary(32), "kind": pyarrow.string(), "line": pyarrow.int64(),
-                 "why": pyarrow.string()}
+        special = {"line": pyarrow.int64(), **{form: pyarrow.binary(32) for form in FORMS}}
+        kinds = {name: special.get(name, pyarrow.string()) for name in COLUMNS}
         rows = self.database.execute(f"SELECT {', '.join(kinds)} FROM file ORDER BY id")
         with pyarrow.parquet.ParquetWriter(f"{path}.new", pyarrow.schema(kinds)) as writer:
             for some in iter(lambda: rows.fetchmany(100_000), []):
                 writer.write_table(pyarrow.table({name: pyarrow.array(column, kind) for (name, kind), column in zip(kinds.items(), zip(*some))}))
         os.replace(f"{path}.new", path)
+
+
+def whole_name(path: str, member: Optional[str]) -> str:
+    """The text of a file's name, or of that of an archive and of a file in it."""
+    return path if member is None else f"{path}/{member}"
 
 
 # ---- the run
@@ -297,31 +447,37 @@ class Table:
 def digest_of(shares: Sequence[Share]) -> bytes:
     """What is different for two different lists of shares, by their whole paths."""
     found = hashlib.sha256()
-    for number, folder, paths, is_archive, form in shares:
-        found.update(f"{number} {is_archive} {form}\0".encode())
-        found.update(b"".join(os.fsencode(os.path.join(folder, it)) + b"\0" for it in paths))
+    for number, folder, paths, is_archive in shares:
+        found.update(f"{number} {is_archive}\0".encode())
+        found.update(b"".join(os.path.join(folder, it) + b"\0" for it in paths))
     return found.digest()
 
 
-def shares_of(paths: Sequence[str], form: str, is_archive: bool, size: int = SIZE) -> List[Share]:
+def shares_of(paths: Sequence[Union[str, bytes]], is_archive: bool, size: int = SIZE) -> List[Share]:
     """A list in shares. An archive is one by itself, since its files are found by reading it."""
-    size, folder = 1 if is_archive else size, os.getcwd()
-    return [(number, folder, tuple(paths[at:at + size]), is_archive, form) for number, at in enumerate(range(0, len(paths), size))]
+    size, folder = 1 if is_archive else size, os.getcwdb()
+    return [(number, folder, tuple(map(os.fsencode, paths[at:at + size])), is_archive) for number, at in enumerate(range(0, len(paths), size))]
 
 
-def listed(file: BinaryIO) -> List[str]:
+def listed(file: BinaryIO) -> List[bytes]:
     """The paths of a list: one on each line, or with a NUL after each, as `find -print0` writes them."""
     data = file.read()
-    return [os.fsdecode(it) for it in data.split(b"\0" if b"\0" in data else b"\n") if it]
+    return [it for it in data.split(b"\0" if b"\0" in data else b"\n") if it]
 
 
-def shown(name: str) -> str:
-    """A name as a terminal may show it: a control character, or one that turns the direction of text, as its number."""
-    return re.sub("[\\x00-\\x1f\\x7f-\\x9f\\u200e\\u200f\\u202a-\\u202e\\u2066-\\u2069]", lambda it: f"\\u{ord(it[0]):04x}", name)
+def shown(argument: Union[str, bytes]) -> str:
+    """A file that an argument or a list names, as it is written."""
+    return text_of(os.fsencode(argument))
 
 
 def tell(what: str) -> None:
-    print(f"collection: {what}", file=sys.stderr, flush=True)
+    """Writes a line to standard error, as far as that takes it."""
+    if sys.stderr is None:  # it was closed from the start
+        return
+    try:
+        print(f"collection: {HIDDEN_IN_TEXT.sub(escaped, what)}", file=sys.stderr, flush=True)
+    except OSError:
+        sys.stderr = None  # type: ignore[assignment]  # so that nothing is tried again at the end
 
 
 def run(table: Table, shares: Sequence[Share], work: Work) -> List[int]:
@@ -338,9 +494,9 @@ def run(table: Table, shares: Sequence[Share], work: Work) -> List[int]:
         else:
             table.take(number, found)
             files += len(found)
-            for path, member, key, _, _, why in found:
-                if key is not None and why is not None:
-                    tell(f"warning: {shown(path if member is None else f'{path}/{member}')}: {why}")
+            for path, member, *_, kind, _, why in found:
+                if kind is None and why is not None:
+                    tell(f"warning: {whole_name(path, member)}: {why}")
         if time.monotonic() - spoken > SPOKEN:
             spoken = time.monotonic()
             tell(f"{count} of {len(shares)} shares, {files} files, {files / (spoken - start):.0f} in a second")
@@ -350,21 +506,61 @@ def run(table: Table, shares: Sequence[Share], work: Work) -> List[int]:
 def shares_text(shares: Sequence[Share], number: int) -> str:
     """The first and the last path of a share."""
     paths = next(it[2] for it in shares if it[0] == number)
-    return paths[0] if len(paths) == 1 else f"{paths[0]} to {paths[-1]}"
+    return text_of(paths[0]) if len(paths) == 1 else f"{text_of(paths[0])} to {text_of(paths[-1])}"
+
+
+def write_duplicates(table: Table, form: str, is_zero: bool) -> None:
+    """Writes the duplicates in a form to standard output. Raises OSError where it takes no more."""
+    if sys.stdout is None:  # it was closed from the start
+        raise OSError(errno.EBADF, "it is closed")
+    written = names_of if is_zero else line_of
+    with open(sys.stdout.fileno(), "wb", closefd=False) as output:
+        for first, other in table.duplicates(form):
+            output.write(written(first, other))
+
+
+def status_of_output(why: OSError, more: str) -> int:
+    """The status where standard output takes no more, after a line that says so, unless its reader has left."""
+    if isinstance(why, BrokenPipeError):
+        return LEFT
+    tell(f"standard output can't be written: {why.strerror}{more}")
+    return 1
+
+
+class Parser(argparse.ArgumentParser):
+    """A parser whose errors show arguments as names are written. It ends quietly where its texts can't be written."""
+
+    def error(self, message: str) -> Any:
+        super().error(HIDDEN_IN_TEXT.sub(escaped, message))
+
+    def _print_message(self, message: str, file: Any = None) -> None:
+        if file is None:  # it was closed from the start
+            return
+        try:
+            print(message, end="", file=file, flush=True)
+        except OSError as why:
+            if file is not sys.stdout:
+                sys.stderr = None  # type: ignore[assignment]
+                return
+            sys.stdout = None  # type: ignore[assignment]  # so that nothing is tried again at the end
+            sys.exit(status_of_output(why, ""))
 
 
 def words_of(arguments: Optional[Sequence[str]]) -> argparse.Namespace:
     """The arguments."""
-    parser = argparse.ArgumentParser(
-        prog="collection.py", description="The keys and the duplicates of a collection of pattern files, in one SQLite table. Each duplicate is written as "
-        "`FIRST = OTHER`.", epilog="The status is 0; 1 where a share isn't done or a file can't be read, which the same command tries again; 2 for arguments "
-        "that can't be followed; 130 after Ctrl-C. A file that seems to have lost its line ends has a warning, here and in the column `why`.")
+    program = os.path.basename(sys.argv[0])
+    parser = Parser(
+        prog=program, description="The keys and the duplicates of a collection of pattern files, in one SQLite table. Each duplicate is written as "
+        "`FIRST = OTHER`.", epilog="The status is 0; 1 where a share isn't done, a file can't be read or the output can't be written; 2 for arguments "
+        "that can't be followed; 130 after Ctrl-C; 141 where the reader of the output has left. The same command continues a run that was cut off, and tries "
+        "again what couldn't be read. A file that seems to have lost its line ends, or has a line such as `#RB36/S23`, has a warning, here and in the "
+        "column `why`.")
     parser.add_argument("files", nargs="*", metavar="FILE", help="a pattern file, which gzip may have packed; with --archive an archive of them")
-    parser.add_argument("--from", dest="list", metavar="LIST", help="takes the paths from a file: one on a line, or a NUL behind each; - is standard "
-                        "input")
+    parser.add_argument("--from", dest="list", metavar="LIST", help="takes the paths from a file: one on a line, or a NUL after each; - is standard input")
     parser.add_argument("--archive", action="store_true", help="each FILE is a zip or a tar, also one that is packed by gzip, bzip2 or xz")
-    parser.add_argument("--form", choices=("placed", "moved", "turned"), default="placed", help="what one pattern is: as it lies (placed, if none is "
-                        "named), wherever it lies (moved), or however it is turned or reflected too (turned)")
+    parser.add_argument("--form", choices=FORMS, default=FORM, help="which files are duplicates: those of one pattern as it lies (placed), wherever it is "
+                        f"(moved), or however it is turned or reflected too (turned); {FORM} if none is named. The table has the keys of all three")
+    parser.add_argument("--zero", action="store_true", help="writes each duplicate as two names that each end in NUL, FIRST and OTHER, without escapes")
     parser.add_argument("--table", required=True, metavar="OUT.sqlite", help="the table, which is made, or goes on")
     parser.add_argument("--parquet", metavar="OUT.parquet", help="writes the rows of the files as Parquet too, which takes pyarrow")
     parser.add_argument("--share", type=int, default=SIZE, metavar="FILES", help=f"the files of a share, {SIZE} if no number is named")
@@ -377,7 +573,7 @@ def words_of(arguments: Optional[Sequence[str]]) -> argparse.Namespace:
         parser.error("name files, or a list by --from")
     folder = next(filter(os.path.isdir, words.files), None)
     if folder is not None:
-        parser.error(f"{shown(folder)} is a folder: name its files, as find {shown(folder)} -type f -print0 | collection.py --from - does")
+        parser.error(f"{shown(folder)} is a folder: name its files, as find {shown(folder)} -type f -print0 | {program} --from - does")
     if words.share < 1 or (words.workers or 0) < 0:
         parser.error("--share takes a number above 0, and --workers one of 0 or more")
     if words.parquet is not None:
@@ -387,47 +583,56 @@ def words_of(arguments: Optional[Sequence[str]]) -> argparse.Namespace:
             parser.error("--parquet takes pyarrow, which isn't installed")
     if words.list is not None:
         try:
-            with sys.stdin.buffer if words.list == "-" else open(words.list, "rb") as it:
+            with open(0 if words.list == "-" else words.list, "rb", closefd=words.list != "-") as it:
                 words.files = listed(it)
         except OSError as why:
-            parser.error(f"{words.list}: {why.strerror}")
+            parser.error(f"{shown(words.list)}: {why.strerror}")
     return words
 
 
 def main(arguments: Optional[Sequence[str]] = None) -> int:
     words = words_of(arguments)
-    shares = shares_of(words.files, words.form, words.archive, words.share)
+    shares = shares_of(words.files, words.archive, words.share)
     workers = os.cpu_count() or 1 if words.workers is None else words.workers
     wants_dask = words.scheduler is not None or workers > 0
     if wants_dask and not os.path.exists(words.table) and importlib.util.find_spec("distributed") is None:
-        tell(WITHOUT_DASK)  # before there is a table, so that the next command may have another list or form
+        tell(WITHOUT_DASK)  # before there is a table, so that the next command may have another list
         return 1
     try:
-        table = Table(words.table, shares, words.form)
+        table = Table(words.table, shares)
     except (sqlite3.Error, ValueError) as why:
-        tell(f"{words.table}: {why}")
+        tell(f"{shown(words.table)}: {why}")
         return 2
     left = table.left(shares)
     failed: List[int] = []
     try:
         if left:  # else no worker is wanted
             failed = run(table, left, dask_on(words.scheduler, workers) if wants_dask else by_this_process)
+        counted = table.counted(words.form)
+        if words.parquet is not None:
+            table.write_parquet(words.parquet)
     except (ImportError, OSError, sqlite3.Error) as why:  # no library, no scheduler for long, or a disk that is full
         where = " (docs/LIBRARY.md says where it is looked for)" if isinstance(why, ImportError) else ""
         tell(f"{why}{where}; the same command continues where it was")
         return 1
-    counted = table.counted()
-    for first, other in table.doubles():
-        print(f"{first} = {other}")
-    if words.parquet is not None:
-        table.write_parquet(words.parquet)
-    tell(", ".join(f"{number} {name}" for name, number in counted.items()))
+    try:
+        write_duplicates(table, words.form, words.zero)
+    except OSError as why:
+        return status_of_output(why, "; the table is whole, and the same command writes the duplicates again")
+    for name, why_unread in table.unread():
+        tell(f"unread: {name}: {why_unread}")
+    tell(f"{', '.join(f'{number} {name}' for name, number in counted.items())} in the form {words.form}")
     return 1 if failed or counted["unread"] else 0
 
 
-if __name__ == "__main__":
+def command() -> int:
+    """Does what the arguments of the process ask for, and returns the status. Ctrl-C ends the process with one line."""
     try:
-        sys.exit(main())
+        return main()
     except KeyboardInterrupt:
         tell("interrupted; the same command continues where it was")
         os._exit(130)  # at once: what Dask would say of its end helps nobody, and its workers end with this process
+
+
+if __name__ == "__main__":
+    sys.exit(command())

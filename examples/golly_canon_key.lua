@@ -17,6 +17,28 @@ local function quoted(word)
     return "'" .. word:gsub("'", "'\\''") .. "'"
 end
 
+-- Bytes as `\xHH` each.
+local function hexadecimal(bytes)
+    return (bytes:gsub(".", function(byte) return string.format("\\x%02x", byte:byte()) end))
+end
+
+-- A name as it is shown, so that it does nothing to the line that it is in: control characters, characters that turn the direction of text or end a line,
+-- and bytes that are no UTF-8 text are written as `\xHH`, byte by byte. The table has escaped backslashes and ends of lines.
+local function shown(name)
+    local at, length = 1, utf8.len(name)
+    while not length do
+        length, at = utf8.len(name, at)
+        if not length then
+            name = name:sub(1, at - 1) .. hexadecimal(name:sub(at, at)) .. name:sub(at + 1)
+            at = at + 4
+        end
+    end
+    for _, hidden in ipairs { "[\0-\31\127]", "\xc2[\x80-\x9f]", "\xd8\x9c", "\xe2\x80[\x8e\x8f\xa8-\xae]", "\xe2\x81[\xa6-\xa9]" } do
+        name = name:gsub(hidden, hexadecimal)
+    end
+    return name
+end
+
 -- The key of the open pattern, or what the program says of it.
 local function key_of_pattern()
     local algorithm = g.getalgo()
@@ -38,7 +60,7 @@ local function names_of(key)
     if not file then g.exit("The table of keys can't be opened: " .. why) end
     for line in file:lines() do
         local its, name = line:match("^\\?(%x+)  (.*)$")
-        if its == key then names[#names + 1] = name end
+        if its == key then names[#names + 1] = shown(name) end
     end
     file:close()
     return names

@@ -3,10 +3,10 @@
 /** A request that the user stopped. */
 export class Stopped extends Error {}
 
-/** Why a request has no answer: a refusal, a file that can't be read, or a fault. */
+/** Why a request has no answer: a refusal, a file that can't be read, or a fault. The message has no full stop at its end, as some of a browser's have. */
 export class Failed extends Error {
   constructor(answer) {
-    super(answer.refused?.reason ?? answer.unreadable ?? answer.fault);
+    super((answer.refused?.reason ?? answer.unreadable ?? answer.fault).replace(/\.+$/, ""));
     Object.assign(this, answer);
   }
 }

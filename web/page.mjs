@@ -4,7 +4,7 @@ import { EXAMPLES } from "./examples.mjs";
 import { Failed, Jobs, Stopped } from "./jobs.mjs";
 import { Picture, coloursOfRule } from "./picture.mjs";
 import { SENTENCES } from "./sentences.mjs";
-import { filesOfTransfer, sourcesOf } from "./archive.mjs";
+import { filesOfTransfer, pathOf, sourcesOf, wantsList } from "./archive.mjs";
 
 const $ = id => document.getElementById(id);
 /** What counts as one pattern: the words of each form. */
@@ -20,8 +20,11 @@ const MOST_CELLS = 2n ** 20n;
 const MOST_BACK = 1000;
 const MOST_BACK_BYTES = 2 ** 26;
 
+/** The most memory of the module, in MB: no more is ever taken. */
+const MOST_MEMORY = 4095;
+
 const memory = Number(new URLSearchParams(location.hash.slice(1)).get("memory"));
-const jobs = new Jobs(memory > 0 ? memory * 2 ** 20 : undefined);
+const jobs = new Jobs(memory > 0 ? Math.min(memory, MOST_MEMORY) * 2 ** 20 : undefined);
 const picture = new Picture($("picture"), showPlace, showPoint);
 
 /** The files, each with what is known of it: `summary`, `keys`, why keys are `lacking` and a `warning`, or `failed`. */
@@ -76,17 +79,23 @@ function say(text) {
   $("said").textContent = text;
 }
 
-/** A file's name as it is shown: a control character, or one that turns the direction of text, is shown as its number. */
-function shownName(name) {
-  const hidden = /[\0-\x1f\x7f-\x9f\u061c\u200e\u200f\u2028-\u202e\u2066-\u2069]/g;
-  return name.replace(hidden, it => `\\u${it.charCodeAt(0).toString(16).padStart(4, "0")}`);
-}
+const ESCAPES = { "\\": "\\\\", "\n": "\\n", "\r": "\\r" };
+/** Control characters, and those that turn the direction of text. */
+const HIDDEN = /[\0-\x1f\x7f-\x9f\u061c\u200e\u200f\u2028-\u202e\u2066-\u2069]/g;
+
+/** A text with such characters as the bytes that they have in UTF-8, each as `\xHH`. */
+const shownText = text => text.replace(HIDDEN, it => ESCAPES[it] ?? Array.from(new TextEncoder().encode(it), hexadecimal).join(""));
+
+const hexadecimal = byte => `\\x${byte.toString(16).padStart(2, "0")}`;
+
+/** A file's name as it is shown, and as the program writes it on a terminal: a backslash, a line feed and a carriage return come after a backslash. */
+const shownName = name => shownText(name.replaceAll("\\", ESCAPES["\\"]));
 
 /** One file in a sentence, for who doesn't see the page. */
 function spoken(file) {
   if (file.failed !== undefined) {
-    const { refused } = file.failed;
-    return `${shownName(file.name)} is refused: ${file.failed.message}. ${refused === undefined ? "" : sentenceOf(refused.kind)}`;
+    const { refused, unreadable, message } = file.failed;
+    return `${shownName(file.name)} ${unreadable === undefined ? "is refused" : "isn't read"}: ${message}.${refused ? ` ${sentenceOf(refused.kind)}` : ""}`;
   }
   const { rule, generation, population } = file.summary;
   const what = `${counted(population, "cell", "cells")}, ${rule}, generation ${grouped(generation)}`;
@@ -123,12 +132,16 @@ async function takeNow(source, mine) {
       if (mine !== turn) {
         return;
       }
-      given.push(file);
+      if (file.note === undefined) {
+        given.push(file);
+      } else {
+        note(file.note);
+      }
     }
     await readAll(given, mine);
   } catch (why) {
     if (!(why instanceof Stopped)) {
-      say(`That did not work: ${why.message}.`);
+      say(`That did not work: ${why.message.replace(/\.+$/, "")}.`);
     }
   } finally {
     if (mine === turn) {
@@ -143,7 +156,7 @@ async function takeNow(source, mine) {
 
 /** Reads files one after another, and those in zips, with a bar over the bytes of all of them. The first one that is a pattern is shown. */
 async function readAll(given, mine) {
-  const whole = given.reduce((sum, { blob }) => sum + blob.size, 0);
+  const whole = given.reduce((sum, { blob }) => sum + (blob?.size ?? 0), 0);
   let before = 0;
   for (const [index, file] of given.entries()) {
     const sources = await sourcesOf(file);
@@ -159,7 +172,7 @@ async function readAll(given, mine) {
       await readOne(source, bytes => working(`${bytes < source.size ? "Reading" : "Computing the canonical text of"} ${about}`, (at + bytes) / whole));
       within += source.size;
     }
-    before += file.blob.size;
+    before += file.blob?.size ?? 0;
   }
 }
 
@@ -174,12 +187,13 @@ async function readOne(file, onProgress) {
 }
 
 async function readPattern(file, onProgress) {
+  if (file.why !== undefined) {
+    unread(file, file.why);
+    return;
+  }
   files.push(file);
   const isShown = shown === null;
   try {
-    if (file.why !== undefined) {
-      throw new Failed({ unreadable: file.why });
-    }
     const found = await jobs.ask("read", { source: sourceOf(file), isShown }, onProgress);
     Object.assign(file, { summary: found.summary, keys: found.keys, lacking: found.lacking, warning: found.warning });
     if (isShown) {
@@ -206,6 +220,14 @@ async function readPattern(file, onProgress) {
   }
 }
 
+/** Lists a file that isn't read, and why. */
+function unread(file, why) {
+  files.push(Object.assign(file, { failed: new Failed({ unreadable: why }) }));
+  if (files.length === 1) {
+    showRefused(file);
+  }
+}
+
 /** A file as it is sent to the worker. */
 function sourceOf({ blob, bytes, packed, sum, length }) {
   return { blob, bytes: bytes?.slice(), packed, sum, length };
@@ -219,10 +241,16 @@ function isTable({ name, bytes, packed, why }) {
 async function takeTable(file) {
   const stream = (file.blob ?? new Blob([file.bytes])).stream();
   const unpacked = file.packed ? stream.pipeThrough(new DecompressionStream(file.packed)) : stream;
-  const bytes = new Uint8Array(await new Response(unpacked).arrayBuffer().catch(() => new ArrayBuffer(0)));
+  let bytes;
+  try {
+    bytes = new Uint8Array(await new Response(unpacked).arrayBuffer());
+  } catch (why) {
+    unread(file, file.packed ? "it is damaged: it can't be unpacked" : `it can't be read: ${why.message}`);
+    return;
+  }
   const name = /^@RULE[ \t]+(\S+)/m.exec(new TextDecoder("latin1").decode(bytes.subarray(0, MOST_SHOWN)))?.[1];
   if (name === undefined) {
-    say(`${shownName(file.name)} is no rule file: it has no line @RULE with a name.`);
+    unread(file, "it is no rule file: it has no line @RULE with a name");
     return;
   }
   tables.set(name, bytes);
@@ -241,6 +269,15 @@ function takeText(text, name) {
   take((async function* () {
     yield { name, blob: new Blob([text]) };
   })());
+}
+
+/** Says what a user has to know of the files that the browser gave. */
+function note(said) {
+  const notes = $("notes");
+  const text = shownText(said);
+  if (![...notes.children].some(it => it.textContent === text)) {
+    notes.append(made("p", text));
+  }
 }
 
 // ---- what is at work
@@ -281,6 +318,7 @@ function clear() {
   shown = null;
   isChosen = false;
   say("");
+  $("notes").replaceChildren();
   for (const id of ["compared", "refused", "shown"]) {
     $(id).hidden = true;
   }
@@ -306,7 +344,7 @@ function formsThere() {
 }
 
 function showCompared() {
-  $("clear").hidden = files.length === 0;
+  $("clear").hidden = files.length === 0 && $("notes").childElementCount === 0;
   $("compared").hidden = files.length < 2;
   if (files.length < 2) {
     return;
@@ -343,7 +381,8 @@ function answerOf(groups) {
   }
   if (groups.length === 0) {
     const what = patterns.length === 2 ? "The files are two patterns" : "No two files are the same pattern";
-    const few = patterns.length === 1 ? "Only one of the files is a pattern." : "None of the files is a pattern: all were refused.";
+    const all = files.some(it => it.failed?.unreadable !== undefined) ? "each was refused or couldn't be read" : "all were refused";
+    const few = patterns.length === 1 ? "Only one of the files is a pattern." : `None of the files is a pattern: ${all}.`;
     return patterns.length < 2 ? few : `${what}${WHATEVER[form]}.`;
   }
   const duplicates = groups.reduce((sum, it) => sum + it.length, 0);
@@ -357,12 +396,17 @@ function warned() {
   return count > 0 ? `Warning: ${counted(count, "file doesn't seem", "files don't seem")} to hold the pattern that was meant; see the list.` : "";
 }
 
-/** What two files differ in, or by how much the one is moved; of more files how many were refused, or can't be compared in the form. */
+/** What two files differ in, or by how much the one is moved; of more files how many were refused, weren't read, or can't be compared in the form. */
 function whyOf(groups) {
-  const refused = files.filter(it => it.failed !== undefined).length;
+  const unread = files.filter(it => it.failed?.unreadable !== undefined);
+  const folders = unread.filter(it => it.name.endsWith("/")).length;
+  const unreadable = unread.length - folders;
+  const refused = files.filter(it => it.failed !== undefined).length - unread.length;
   const without = files.filter(it => it.failed === undefined && it.keys[form] === undefined).length;
-  if (files.length !== 2 || refused > 0 || without > 0) {
+  if (files.length !== 2 || refused + unread.length + without > 0) {
     const said = [refused > 0 ? `${counted(refused, "file was", "files were")} refused.` : "",
+      unreadable > 0 ? `${counted(unreadable, "file wasn't", "files weren't")} read; see the list.` : "",
+      folders > 0 ? `Files are missing from ${counted(folders, "folder", "folders")}, or may be; see the list.` : "",
       without > 0 ? `${counted(without, "file has", "files have")} no key for this form, and can't be compared.` : ""];
     return said.filter(it => it !== "").join(" ");
   }
@@ -423,7 +467,7 @@ function rowOf(file, group) {
   cells[1].append(name);
   if (file.failed !== undefined) {
     cells.push(cellOf("td", 2, file.failed.message, { className: "bad", colSpan: 4 }));
-    cells[2].dataset.column = "Refused";
+    cells[2].dataset.column = file.failed.unreadable === undefined ? "Refused" : "Not read";
   } else {
     const { rule, generation, population } = file.summary;
     cells.push(...[rule, grouped(generation), grouped(population), boxOf(file.summary)].map((it, index) => cellOf("td", index + 2, it)));
@@ -452,8 +496,9 @@ function whyNoKey(file, which) {
 /** The list as a table with commas: a line for each file, those of one pattern with one number, and its key in the form that is shown. */
 function tableOf() {
   const numbers = new Map(groupsIn(form).flatMap((group, index) => group.map(file => [file, index + 1])));
-  // A text that begins as a formula is none to a reader of tables.
-  const quoted = text => `"${(/^[=+\-@\t\r]/.test(text) ? `'${text}` : text).replaceAll('"', '""')}"`;
+  // A text that begins as a formula is none to a reader of tables where an apostrophe comes first. One comes before an apostrophe too, so that the first one
+  // can always be taken away.
+  const quoted = text => `"${(/^[=+\-@\t\r']/.test(text) ? `'${text}` : text).replaceAll('"', '""')}"`;
   const lines = files.map(file => {
     const { rule, generation, population, box } = file.summary ?? {};
     const place = box ? [box.left, box.top, box.width, box.height] : ["", "", "", ""];
@@ -497,7 +542,7 @@ function showRefused(file) {
   const { refused, unreadable } = file.failed;
   $("shown").hidden = true;
   $("refused").hidden = false;
-  $("refused-name").textContent = `${shownName(file.name)} is refused`;
+  $("refused-name").textContent = `${shownName(file.name)} ${unreadable === undefined ? "is refused" : "isn't read"}`;
   if (refused === undefined) {
     $("refused-reason").textContent = unreadable === undefined ? "Fault" : "Unreadable";
     $("refused-why").textContent = unreadable ?? `The library stopped (${file.failed.fault}); it was loaded anew. The page can't say what the file is.`;
@@ -707,10 +752,15 @@ function back() {
 // ---- what the user does
 
 function chosen(input) {
-  const given = [...input.files].map(it => ({ name: it.webkitRelativePath || it.name, blob: it }));
+  const given = [...input.files].map(it => ({ name: pathOf(it), blob: it }));
   input.value = "";
   take((async function* () {
     yield* given;
+    if (input.webkitdirectory) {
+      const whose = given.length === 0 ? "The folder" : `${given[0].name.split("/")[0]}/`;
+      yield { note: `${whose} has ${counted(given.length, "file", "files")}, as far as the browser says. It may leave out files whose names aren't UTF-8 ` +
+        "text: drop the folder, and each of them is listed." };
+    }
   })());
 }
 
@@ -773,21 +823,38 @@ function nameOfPasted() {
   return `pasted ${files.filter(it => it.name.startsWith("pasted ")).length + 1}`;
 }
 
+/** The files that the browser lists of a folder that was dropped on its input. */
+function listOfDropped() {
+  return new Promise(resolve => {
+    const input = $("dropped");
+    input.addEventListener("change", () => {
+      resolve([...input.files]);
+      input.value = "";
+    }, { once: true });
+  });
+}
+
 function addDropping() {
   let depth = 0;
   const over = change => {
     depth = change === 0 ? 0 : Math.max(0, depth + change);
     $("dropping").hidden = depth === 0;
   };
+  $("dropped").hidden = !wantsList();
   document.addEventListener("dragenter", () => over(1));
   document.addEventListener("dragleave", () => over(-1));
   document.addEventListener("dragover", event => event.preventDefault());
   document.addEventListener("drop", event => {
-    event.preventDefault();
-    over(0);
     const transfer = event.dataTransfer;
-    if ([...transfer.items].some(it => it.kind === "file")) {
-      take(filesOfTransfer(transfer));
+    const dropped = [...transfer.items].filter(it => it.kind === "file");
+    // The browser lists the files of a folder itself, where it is dropped on an input for one.
+    const isListed = event.target === $("dropped") && dropped[0]?.webkitGetAsEntry?.()?.isDirectory;
+    if (!isListed) {
+      event.preventDefault();
+    }
+    setTimeout(over, 0, 0);
+    if (dropped.length > 0) {
+      take(filesOfTransfer(transfer, isListed ? listOfDropped() : null));
     } else if (transfer.getData("text/plain") !== "") {
       takeText(transfer.getData("text/plain"), nameOfPasted());
     }

@@ -64,7 +64,7 @@ export async function* chunksOfSource(source, onProgress) {
   try {
     for (;;) {
       const { done, value } = await reader.read().catch(why => {
-        throw new Unreadable(source.packed ? "it is damaged: it can't be unpacked" : why.message);
+        throw new Unreadable(source.packed ? "it is damaged: it can't be unpacked" : `it can't be read: ${why.message}`);
       });
       if (done) {
         break;

@@ -1,10 +1,11 @@
 #!/usr/bin/env node
 /**
- * The commands of the program golly_canon, over the library for Node. They write what the program writes, except for the lines on files that can't be
- * read, on files that `keys` passes over, and on wrong arguments.
+ * The commands of the program golly_canon, over the library for Node. They write what the program writes, except for the lines on files of a command over one
+ * file or two that can't be read, and on wrong arguments. USAGE says what they lack.
  */
 
-import { readFileSync } from "node:fs";
+import { readFileSync, readdirSync, readlinkSync, statSync, writeSync } from "node:fs";
+import { isatty } from "node:tty";
 import { parseArgs } from "node:util";
 import { FORMS, Refused, load } from "./node.mjs";
 
@@ -14,58 +15,328 @@ const USAGE = `Usage: golly_canon COMMAND
   same A B [--form FORM]         whether two files are one pattern: same or different
   show FILE                      rule, generation, population, bounding box, and squares of the canonical text
   step FILE [--table RULE]       the next generation, under a B/S rule or by a rule table (a .rule file)
-  keys FILE.. [--form FORM]      a line for each file: the SHA-256 of its canonical text, and its name
+  keys [OPTIONS] [FILE]..        a line for each file: the SHA-256 of its canonical text, and its name
+  duplicates [OPTIONS] [FILE]..  the groups of files that are the same pattern: a name a line, an empty line between groups
+Options of keys and duplicates:
+  --form FORM  what the same pattern is; if it isn't given, placed for keys, and moved for duplicates
+  -r           a FILE that is a folder represents the files in it and below it; links in a folder are passed over
+  --from LIST  a file, or - for standard input, that names further files, one a line
+  --zero       the names of LIST end in NUL, and so do the lines of the output, whose names are written as they are
+  --json       for keys: an object of JSON for each file, one a line, also for a file without a key
 FORM is placed (the pattern as it lies), moved (up to translation) or turned (up to rotation and reflection too). The file - is standard input.
-Status: 0 done; 1 different; 2 a file was refused; 3 it can't be read or written; 4 out of memory; 5 wrong arguments.`;
+Status: 0 done; 1 different, or no duplicates; 2 a file was refused; 3 it can't be read or written; 4 out of memory; 5 wrong arguments.
+
+This command has neither --explain nor --ignore-generation of the program, nor its sentences on refused files that aren't patterns, nor its line of progress
+and its hints on a terminal, nor the help of each command; it takes more time, and at most 4 GB of memory. What the program has beyond that is in its packages
+for Linux, with its man page.
+npx hands all arguments to a shell as one text. From some 128 KB on the system takes no such text, and npx ends with the status 249 and no message: the
+command isn't even started. For so many files use -r or --from:
+  find patterns -name '*.rle' -print0 | npx golly_canon keys --zero --from -`;
 
 /** Wrong arguments. */
 class Misused extends Error {}
 
-/** A file that can't be read. */
+/** A file of one or two that can't be read. */
 class Unread extends Error {}
 
-const REASONS = { ENOENT: "no such file", EISDIR: "is a folder", EACCES: "permission denied" };
-const STATUS = { Memory: 4, Full: 4 };
-
-function read(name) {
-  try {
-    return readFileSync(name === "-" ? 0 : name);
-  } catch (why) {
-    throw new Unread(`${escaped(name)}: ${REASONS[why.code] ?? why.message}`);
+/** A write to standard output that failed. */
+class Unwritten extends Error {
+  constructor(why) {
+    super("WriteFault");
+    this.isLeft = why.code === "EPIPE"; // the reader has left, as `head` does
   }
 }
 
-/** The arguments of a command: so many files, at least, and these options. */
-function taken(words, count, options, isMore = false) {
+const REASONS = { ENOENT: "no such file", EISDIR: "is a folder", EACCES: "permission denied" };
+const STATUS = { Memory: 4, Full: 4, ReadFault: 3 };
+/** The kinds of fault that the library doesn't know, which reads no files. */
+const SENTENCES = {
+  InputTooLong: "A file has more than 2^30 bytes.",
+  ReadFault: "A file can't be opened or read, or the system gives no random bytes.",
+};
+const MOST_BYTES = 2 ** 30;
+const LINE_FEED = 10;
+/** Milliseconds until a write is tried again that would have to wait. */
+const PAUSE = 5;
+
+// ---- what is written
+
+const ESCAPES = { "\\": "\\\\", "\n": "\\n", "\r": "\\r" };
+
+/** What a terminal acts on, or what turns the direction of text, in UTF-8 that is taken for Latin-1: control characters but line feeds and NULs, and U+061C,
+ * U+200E, U+200F, U+2028 to U+202E, and U+2066 to U+2069. */
+const HIDDEN = /[\x01-\x09\x0b-\x1f\x7f]|\xc2[\x80-\x9f]|\xd8\x9c|\xe2\x80[\x8e\x8f\xa8-\xae]|\xe2\x81[\xa6-\xa9]/g;
+
+/** Bytes with changes to the text that they are in Latin-1, where each character is a byte. */
+const changed = (bytes, pattern, change) => Buffer.from(bytes.toString("latin1").replace(pattern, change), "latin1");
+
+/** A name as the program writes it: a backslash, a line feed and a carriage return are escaped. */
+const escaped = name => changed(name, /[\\\n\r]/g, it => ESCAPES[it]);
+
+/** Bytes as a terminal may get them. */
+const visible = bytes => changed(bytes, HIDDEN, some => some.replace(/[^]/g, it => `\\x${it.charCodeAt(0).toString(16).padStart(2, "0")}`));
+
+/**
+ * Whether a stream was closed when the command began: Node has then opened the null device in its place, to read and to write, as a shell doesn't. Only Linux
+ * says so.
+ */
+function isClosed(descriptor) {
+  try {
+    const flags = /^flags:\s*([0-7]+)$/m.exec(readFileSync(`/proc/self/fdinfo/${descriptor}`, "latin1"));
+    return (Number.parseInt(flags[1], 8) & 3) === 2 && readlinkSync(`/proc/self/fd/${descriptor}`) === "/dev/null";
+  } catch {
+    return false;
+  }
+}
+
+const IS_CLOSED = [0, 1].map(isClosed);
+
+/** Writes a text to a descriptor, to its end. */
+function writeAll(descriptor, text) {
+  const whole = Buffer.from(text);
+  const bytes = isatty(descriptor) ? visible(whole) : whole;
+  for (let at = 0; at < bytes.length;) {
+    try {
+      at += writeSync(descriptor, bytes, at);
+    } catch (why) {
+      if (why.code !== "EAGAIN") {
+        throw why;
+      }
+      Atomics.wait(new Int32Array(new SharedArrayBuffer(4)), 0, 0, PAUSE);
+    }
+  }
+}
+
+function write(...texts) {
+  try {
+    if (IS_CLOSED[1]) {
+      throw new Error("standard output is closed");
+    }
+    writeAll(1, Buffer.concat(texts.map(it => Buffer.from(it))));
+  } catch (why) {
+    throw new Unwritten(why);
+  }
+}
+
+function report(...texts) {
+  try {
+    writeAll(2, Buffer.concat(texts.map(it => Buffer.from(it))));
+  } catch {
+    // Nobody can be told.
+  }
+}
+
+// ---- what is read
+
+/** The bytes of a file, or of standard input. */
+function contents(name) {
+  const isInput = name.equals(Buffer.from("-"));
+  if (isInput && IS_CLOSED[0]) {
+    throw Object.assign(new Error("standard input is closed"), { code: "EBADF", syscall: "open" });
+  }
+  return readFileSync(isInput ? 0 : name);
+}
+
+/** The same for a command over one file or two. */
+function read(word) {
+  try {
+    return contents(Buffer.from(word));
+  } catch (why) {
+    throw new Unread(`${escaped(Buffer.from(word))}: ${reasonOf(Buffer.from(word), why)}`);
+  }
+}
+
+/** Whether a name was changed on its way here, since Node hands over each argument as text. */
+const isDamaged = name => name.includes("\ufffd");
+
+/** Why a file can't be opened. */
+function reasonOf(name, { code }) {
+  return code === "ENOENT" && isDamaged(name) ? "the name isn't UTF-8 text" : REASONS[code] ?? "can't be opened";
+}
+
+/** The names of a list. */
+function namesIn(from, end) {
+  const list = contents(Buffer.from(from));
+  if (list.length > MOST_BYTES) {
+    throw new Refused("InputTooLong");
+  }
+  const names = [];
+  for (let at = 0; at < list.length;) {
+    const next = list.indexOf(end, at);
+    const stop = next < 0 ? list.length : next;
+    if (stop > at) {
+      names.push(list.subarray(at, stop));
+    }
+    at = stop + 1;
+  }
+  return names;
+}
+
+/**
+ * The files in a folder and below it, in the order of their names, byte by byte. A folder that can't be read has a `why`. Links are passed over; devices, pipes
+ * and sockets are left out, and counted in `leftOut`.
+ */
+function* filesBelow(word, leftOut) {
+  const left = [{ name: Buffer.from(word), isFolder: true }];
+  while (left.length > 0) {
+    const { name, isFolder } = left.pop();
+    if (!isFolder) {
+      yield { name };
+      continue;
+    }
+    let entries;
+    try {
+      entries = readdirSync(name, { encoding: "buffer", withFileTypes: true });
+    } catch (why) {
+      yield { name, why };
+      continue;
+    }
+    const slash = name.at(-1) === "/".charCodeAt(0) ? "" : "/";
+    leftOut.devices += entries.filter(it => !it.isFile() && !it.isDirectory() && !it.isSymbolicLink()).length;
+    const within = entries.filter(it => it.isFile() || it.isDirectory()).sort((one, other) => Buffer.compare(other.name, one.name));
+    left.push(...within.map(it => ({ name: Buffer.concat([name, Buffer.from(slash), it.name]), isFolder: it.isDirectory() })));
+  }
+}
+
+function isFolder(word) {
+  try {
+    return statSync(word).isDirectory();
+  } catch {
+    return false;
+  }
+}
+
+/** The files of a command over any number of them, each with its name as bytes. In a list - is a name like any other. */
+function* filesOf({ files, recursive }, listed, leftOut) {
+  for (const word of files) {
+    if (recursive && word !== "-" && isFolder(word)) {
+      yield* filesBelow(word, leftOut);
+    } else {
+      yield { name: Buffer.from(word) };
+    }
+  }
+  for (const name of listed) {
+    yield name.equals(Buffer.from("-")) ? { name, path: Buffer.from("./-") } : { name };
+  }
+}
+
+// ---- arguments
+
+const OPTIONS = { form: { type: "string" }, to: { type: "string" }, table: { type: "string" }, from: { type: "string" }, zero: { type: "boolean" },
+  json: { type: "boolean" }, recursive: { type: "boolean", short: "r" } };
+
+/** The arguments of a command, which takes these options. */
+function parsed(words, options) {
   let found;
   try {
-    found = parseArgs({ args: words, allowPositionals: true, options: Object.fromEntries(options.map(it => [it, { type: "string" }])) });
+    found = parseArgs({ args: words, allowPositionals: true, tokens: true, options: Object.fromEntries(options.map(it => [it, OPTIONS[it]])) });
   } catch (why) {
     throw new Misused(why.message);
   }
-  const { positionals: files, values } = found;
-  if (files.length < count || (files.length > count && !isMore)) {
-    throw new Misused(`it takes ${count} ${count === 1 ? "file" : "files"}${isMore ? " or more" : ""}, and not ${files.length}`);
+  const { positionals: files, values, tokens } = found;
+  const named = tokens.filter(it => it.kind === "option").map(it => it.name);
+  const twice = named.find((it, index) => named.indexOf(it) < index);
+  if (twice !== undefined) {
+    throw new Misused(`--${twice} can be given only once`);
   }
-  if (files.filter(it => it === "-").length + (values.table === "-") > 1) {
-    throw new Misused("'-' can stand for standard input only once");
+  if ([...files, values.table, values.from].filter(it => it === "-").length > 1) {
+    throw new Misused("TwoInputs");
   }
   if (values.form !== undefined && !FORMS.includes(values.form)) {
     throw new Misused(`a form is ${FORMS.join(", ")}`);
   }
-  return { files, form: values.form ?? "placed", ...values };
+  return { ...values, files };
 }
 
-function write(text) {
-  process.stdout.write(text);
+/** The arguments of a command over so many files. */
+function taken(words, count, options) {
+  const found = parsed(words, options);
+  if (found.files.length !== count) {
+    throw new Misused(`it takes ${count} ${count === 1 ? "file" : "files"}, and not ${found.files.length}`);
+  }
+  return found;
 }
 
-const ESCAPES = { "\\": "\\\\", "\n": "\\n", "\r": "\\r" };
-
-/** A name as the program writes it: a backslash, a line feed and a carriage return are escaped. */
-function escaped(name) {
-  return name.replace(/[\\\n\r]/g, it => ESCAPES[it]);
+/** The arguments of a command over any number of files, with the names of the list. */
+function takenAll(words, options, form) {
+  const found = parsed(words, [...options, "form", "zero", "recursive", "from"]);
+  if (found.files.length === 0 && found.from === undefined) {
+    throw new Misused("a FILE or --from LIST has to be given");
+  }
+  return { form, ...found };
 }
+
+// ---- commands
+
+/** Why a file has no key, as a refusal: what the library refuses, a file that Node takes to be too long, one that can't be read, and memory that Node lacks. */
+function refusalOf(error) {
+  if (error instanceof Refused) {
+    return error;
+  }
+  if (error.code === "ERR_FS_FILE_TOO_LARGE") {
+    return new Refused("InputTooLong");
+  }
+  return error.syscall !== undefined ? new Refused("ReadFault") : error instanceof RangeError ? new Refused("Memory") : null;
+}
+
+/** Whether a file can't be opened. Node opens a folder, but can't read it, and takes no name with a NUL. */
+const isUnopened = ({ code, syscall }) => code === "EISDIR" || code === "ERR_INVALID_ARG_VALUE" || (syscall !== undefined && syscall !== "read");
+
+/** The key of a file; or why it has none: its status, its kind, a line and a reason. */
+function outcomeOf(golly, { name, path = name, why }, form) {
+  try {
+    if (why !== undefined) {
+      throw why;
+    }
+    const data = contents(path);
+    if (data.length > MOST_BYTES) {
+      throw new Refused("InputTooLong");
+    }
+    return { key: Buffer.from(golly.key(data, { form })).toString("hex"), warning: golly.warningOf(data) };
+  } catch (error) {
+    if (isUnopened(error)) {
+      return { status: 3, kind: "ReadFault", reason: reasonOf(name, error), said: reasonOf(name, error) };
+    }
+    const refusal = refusalOf(error);
+    if (refusal === null) {
+      const reason = `the library stopped (${error.message})`;
+      return { status: 4, kind: "Fault", reason, said: reason };
+    }
+    const { kind, line } = refusal;
+    const reason = SENTENCES[kind] ?? golly.sentenceOf(kind);
+    return { status: STATUS[kind] ?? 2, kind, line, reason, said: `${line === null ? "" : `line ${line}: `}${kind}: ${reason}` };
+  }
+}
+
+/** Takes the files of a command, one after another, and says what is to be said of each. Returns the greatest status of a file. */
+function takeFiles(golly, found, tell, take) {
+  let listed;
+  try {
+    listed = found.from === undefined ? [] : namesIn(found.from, found.zero ? 0 : LINE_FEED);
+  } catch (why) {
+    report(`${why instanceof Refused ? why.kind : "ReadFault"}\n`);
+    return why instanceof Refused ? 2 : 3;
+  }
+  let greatest = 0;
+  const leftOut = { devices: 0 };
+  for (const file of filesOf(found, listed, leftOut)) {
+    const outcome = outcomeOf(golly, file, found.form);
+    if (outcome.key === undefined) {
+      greatest = Math.max(greatest, outcome.status);
+      tell(file.name, outcome);
+    }
+    take(file.name, outcome);
+    if (outcome.warning) {
+      report(escaped(file.name), `: warning: ${outcome.warning}\n`);
+    }
+  }
+  if (leftOut.devices > 0) {
+    report(`Devices, pipes and sockets left out: ${leftOut.devices}.\n`);
+  }
+  return greatest;
+}
+
+const tellReason = (name, { said }) => report(escaped(name), `: ${said}\n`);
 
 /** What each command does with its arguments. It returns the status, where that isn't 0. */
 const COMMANDS = {
@@ -101,36 +372,62 @@ const COMMANDS = {
   },
 
   keys(golly, words) {
-    const { files, form } = taken(words, 1, ["form"], true);
-    let status = 0;
-    for (const name of files) {
-      try {
-        const key = Buffer.from(golly.key(read(name), { form })).toString("hex");
-        write(`${escaped(name) === name ? "" : "\\"}${key}  ${escaped(name)}\n`);
-      } catch (why) {
-        status = Math.max(status, told(why, `${escaped(name)}: `));
+    const found = takenAll(words, ["json"], "placed");
+    return takeFiles(golly, found, found.json ? () => {} : tellReason, (name, { key, kind, line, reason }) => {
+      if (found.json) {
+        write(`${JSON.stringify({ name: name.toString(), key, kind, line: line ?? undefined, reason })}\n`);
+      } else if (key !== undefined) {
+        const shown = escaped(name);
+        write(...(found.zero ? [`${key}  `, name, "\0"] : [shown.equals(name) ? "" : "\\", `${key}  `, shown, "\n"]));
       }
+    });
+  },
+
+  duplicates(golly, words) {
+    const found = takenAll(words, [], "moved");
+    const groups = new Map();
+    const status = takeFiles(golly, found, tellReason, (name, { key }) => {
+      if (key !== undefined && !groups.get(key)?.push(name)) {
+        groups.set(key, [name]);
+      }
+    });
+    const end = found.zero ? "\0" : "\n";
+    const several = [...groups.values()].filter(it => it.length > 1);
+    for (const [index, group] of several.entries()) {
+      write(index > 0 ? end : "", ...group.flatMap(name => [found.zero ? name : escaped(name), end]));
     }
-    return status;
+    return status || (several.length > 0 ? 0 : 1);
   },
 };
 
 /** Writes why something failed, and returns the status of that. Nothing that fails has the status 1, which is that of two different patterns. */
-function told(why, prefix = "") {
+function told(why) {
+  if (why instanceof Unwritten) {
+    report(why.isLeft ? "" : `${why.message}\n`);
+    return 3;
+  }
   if (why instanceof Refused) {
-    process.stderr.write(`${prefix}${why.message}\n`);
+    report(`${why.message}\n`);
     return STATUS[why.kind] ?? 2;
   }
-  if (why instanceof Unread || why instanceof Misused) {
-    process.stderr.write(`golly_canon: ${why.message}\n`);
-    return why instanceof Unread ? 3 : 5;
+  if (why instanceof Misused && why.message === "TwoInputs") {
+    report("TwoInputs\n");
+    return 5;
   }
-  process.stderr.write(`golly_canon: ${prefix}${why.message ?? why}\n`);
-  return why?.code === undefined ? 4 : 3;
+  report(`golly_canon: ${why.message ?? why}\n`);
+  return why instanceof Unread ? 3 : why instanceof Misused ? 5 : why?.code === undefined ? 4 : 3;
 }
 
-async function main([name, ...words]) {
-  if (name === "--help" || name === "-h") {
+/** Whether the words ask for help. */
+function wantsHelp([name, ...words]) {
+  const end = words.indexOf("--");
+  const before = end < 0 ? words : words.slice(0, end);
+  return ["--help", "-h", "help"].includes(name) || (Object.hasOwn(COMMANDS, name ?? "") && before.some(it => it === "--help" || it === "-h"));
+}
+
+async function main(words) {
+  const [name, ...rest] = words;
+  if (wantsHelp(words)) {
     write(`${USAGE}\n`);
     return 0;
   }
@@ -140,18 +437,12 @@ async function main([name, ...words]) {
     return 0;
   }
   if (!Object.hasOwn(COMMANDS, name ?? "")) {
-    process.stderr.write(`${USAGE}\n`);
+    report(`${USAGE}\n`);
     return 5;
   }
-  try {
-    return COMMANDS[name](golly, words) ?? 0;
-  } catch (why) {
-    return told(why);
-  }
+  return COMMANDS[name](golly, rest) ?? 0;
 }
 
-// A reader that ends early, as `head` does, is a failure to write.
-process.stdout.on("error", () => process.exit(3));
 try {
   process.exitCode = await main(process.argv.slice(2));
 } catch (why) {

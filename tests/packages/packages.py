@@ -88,6 +88,10 @@ def built(program, library, page, folder):
     return True
 
 
+# What golly_canon_collection says of two files of one pattern.
+COUNTS = "collection: 2 files, 2 keys, 0 refused, 0 unread, 1 patterns, 1 groups in the form moved"
+
+
 # ---- Debian
 
 # What is done in a root of its own, whose upper layer is in memory. Its arguments are a folder and the commands.
@@ -107,10 +111,14 @@ IN_DEBIAN = """
     dpkg --install ./*.deb > installed || cat installed
     golly_canon --version
     golly_canon keys glider.mc
+    cp glider.mc copy.mc && golly_canon_collection --workers 0 --table all.sqlite glider.mc copy.mc
+    ls /usr/share/man/man1/golly_canon_collection.1.gz
     ls /usr/share/man/man1/golly_canon.1.gz /usr/share/zsh/vendor-completions/_golly_canon /usr/share/fish/vendor_completions.d/golly_canon.fish
     bash -c '. /usr/share/bash-completion/completions/golly_canon && complete -p golly_canon' | grep -o 'golly_canon$'
     python3 -I -c 'import golly_canon; print(golly_canon.key(open("glider.mc", "rb").read()).hex(), golly_canon.__file__, golly_canon._library._name)'
     pkg-config --modversion golly_canon
+    for it in canon pieces; do dpkg --fsys-tarfile libgolly-canon-dev_*.deb | tar -xO "./usr/share/doc/libgolly-canon-dev/examples/$it.c" > $it.c; done
+    cc -o pieces pieces.c $(pkg-config --cflags --libs golly_canon) && ./pieces < glider.mc | cmp - canonical && echo pieces
     cc -o canon canon.c $(pkg-config --cflags --libs golly_canon) && ./canon < glider.mc
     cc -o static canon.c $(pkg-config --cflags golly_canon) -l:libgolly_canon.a && ./static < glider.mc | cmp - canonical && echo static
     dpkg --verify golly-canon libgolly-canon1 libgolly-canon-dev python3-golly-canon
@@ -149,16 +157,17 @@ def debian(folder, work, program):
     text = processes.run([program, "canon", GLIDER]).output
     with open(canonical, "wb") as it:
         it.write(text)
-    said = in_root(work, [*packages, GLIDER, canonical, os.path.join(TOP, "examples", "canon.c")], IN_DEBIAN)
+    said = in_root(work, [*packages, GLIDER, canonical], IN_DEBIAN)
     if said is None:
         skipped("an install of the packages for Debian", "no root is allowed over that of this machine")
         return
     key = processes.run([program, "keys", GLIDER]).output.decode().split()[0]
     holds("the packages for Debian are installed, used and removed", said.splitlines(), [
-        f"golly_canon {version()}", f"{key}  glider.mc", "/usr/share/fish/vendor_completions.d/golly_canon.fish",
+        f"golly_canon {version()}", f"{key}  glider.mc", "glider.mc = copy.mc", COUNTS,
+        "/usr/share/man/man1/golly_canon_collection.1.gz", "/usr/share/fish/vendor_completions.d/golly_canon.fish",
         "/usr/share/man/man1/golly_canon.1.gz", "/usr/share/zsh/vendor-completions/_golly_canon", "golly_canon",
         f"{key} /usr/lib/python3/dist-packages/golly_canon/__init__.py libgolly_canon.so.1",
-        version(), *text.decode().splitlines(), "static", "done"])
+        version(), "pieces", *text.decode().splitlines(), "static", "done"])
 
 
 # ---- Python
@@ -188,11 +197,15 @@ def python(folder, work, program):
     key = processes.run([program, "keys", GLIDER]).output.decode().split()[0]
     found = ran(f"{environment}/bin/python", "-I", "-c", IN_PYTHON, GLIDER, cwd=work)
     holds("the module finds the library in its wheel", found, (0, f"{version()} {key} 5\nline 2: BadChild\n", ""))
+    words = ["--workers", "0", "--table", os.path.join(work, "wheel.sqlite"), GLIDER, GLIDER]
+    found = ran(f"{environment}/bin/golly_canon_collection", *words, cwd=work)
+    holds("the wheel has the command golly_canon_collection", found, (0, f"{GLIDER} = {GLIDER}\n", f"{COUNTS}\n"))
     _, said, _ = ran(f"{environment}/bin/pip", "show", "--disable-pip-version-check", "golly_canon")
     licence = re.search("(?m)^License: (.*)$", said)
     holds("pip shows that there is no licence yet", licence and licence[1].startswith("no licence yet"), True)
     ran(f"{environment}/bin/pip", "uninstall", "--yes", "--disable-pip-version-check", "golly_canon")
-    holds("pip removes it", glob.glob(f"{environment}/lib/*/site-packages/golly*"), [])
+    left = glob.glob(f"{environment}/lib/*/site-packages/golly*") + glob.glob(f"{environment}/bin/golly*")
+    holds("pip removes it", left, [])
 
 
 # ---- npm
@@ -290,10 +303,10 @@ def archive(folder, work, program):
     for name, words in (("that program runs", [made]), ("its Python module finds its library", [sys.executable, "-B", f"{TOP}/examples/canon.py"])):
         with open(GLIDER, encoding="ascii") as source:
             holds(name, ran(*words, stdin=source, **how), (0, wanted, ""))
-    words = ["--workers", "0", "--table", os.path.join(work, "all.sqlite"), GLIDER, GLIDER]
-    status, said, error = ran(sys.executable, "-B", f"{place}/share/golly_canon/collection.py", *words, env=PLAIN)
-    holds("its collection.py finds the module and the library", (status, said.strip(), error), (
-        0, f"{GLIDER} = {GLIDER}", "collection: 2 files, 2 keys, 0 refused, 0 unread, 1 patterns, 1 groups\n"))
+    for number, path in enumerate(("share/golly_canon/collection.py", "bin/golly_canon_collection")):
+        words = ["--workers", "0", "--table", os.path.join(work, f"archive{number}.sqlite"), GLIDER, GLIDER]
+        found = ran(*([sys.executable, "-B"] if path.endswith(".py") else []), os.path.join(place, path), *words, env=PLAIN)
+        holds(f"{path} finds the module and the library", found, (0, f"{GLIDER} = {GLIDER}\n", f"{COUNTS}\n"))
 
 
 def main():

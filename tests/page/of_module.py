@@ -132,9 +132,25 @@ def compares(browser, address, path, seed, count, least=20, places=("page", "wor
 
 # What a call says of an argument that it can't take: its name, what it has to be, and what it is.
 FILE = "is a file: bytes (an ArrayBuffer or a view of one) or a string, and not"
+GENERATIONS = "is a whole number from 0 to 2^64 - 1, above 2^53 - 1 a bigint, and not"
+# The most memory that the heap takes: 4 GB but for the length of the stack.
+MOST_MEMORY = 2 ** 32 - 2 ** 20
+# Each call with options, and the members that they may have.
+IN_FORM = "the members form and limit"
+OPTIONS = {
+    "canon('x=1,y=1', {})": IN_FORM, "key('x=1,y=1', {})": IN_FORM, "same('x=1,y=1', 'x=1,y=1', {})": IN_FORM, "toRle('x=1,y=1', {})": "the member limit",
+    "show('x=1,y=1', {})": "the member limit", "step('x=1,y=1', {})": "the members table, generations and limit", "stream({})": "the members gives, generations, form and limit",
+    "read(['x=1,y=1'], {})": "the members gives, generations, form, limit and onProgress", "readKey(['x=1,y=1'], {})": "the members form, limit and onProgress",
+}
+# What isn't the options of a call, and what a call says that it is.
+NO_OPTIONS = {"'turned'": '"turned"', "null": "null", "7": "7", "['turned']": "object", "true": "boolean", "() => 0": "function"}
 ERRORS = {
     "memory": ("await (await import(`${location.origin}/golly_canon.mjs`)).load(undefined, { memory: 1e6 })",
-               "RangeError: memory is a number of bytes, 2097152 or more, and not 1000000"),
+               f"RangeError: memory is a number of bytes from 2097152 to {MOST_MEMORY}, and not 1000000"),
+    "memory, too much": ("await (await import(`${location.origin}/golly_canon.mjs`)).load(undefined, { memory: 5e9 })",
+                         f"RangeError: memory is a number of bytes from 2097152 to {MOST_MEMORY}, and not 5000000000"),
+    "memory, one byte too much": (f"await (await import(`${{location.origin}}/golly_canon.mjs`)).load(undefined, {{ memory: {MOST_MEMORY + 1} }})",
+                                  f"RangeError: memory is a number of bytes from 2097152 to {MOST_MEMORY}, and not {MOST_MEMORY + 1}"),
     "memory, a text": ("await (await import(`${location.origin}/golly_canon.mjs`)).load(undefined, { memory: '4 GB' })",
                        "TypeError: memory is a number of bytes, and not string"),
     "data": ("golly.canon(7)", f"TypeError: data {FILE} 7"),
@@ -143,6 +159,12 @@ ERRORS = {
     "table": ("golly.step('', { table: 7 })", f"TypeError: table {FILE} 7"),
     "chunk": ("golly.stream().feed({})", f"TypeError: chunk {FILE} object"),
     "source": ("await golly.read(7)", "TypeError: source is a stream, a blob, a response, bytes, a string or chunks, and not 7"),
+    "generations": ("golly.step('', { generations: -1 })", f"RangeError: generations {GENERATIONS} -1"),
+    "generations, a text": ("golly.step('', { generations: '5' })", "TypeError: generations is a number, and not string"),
+    "generations, too many": ("golly.step('', { generations: 2n ** 64n })", f"RangeError: generations {GENERATIONS} {2 ** 64}"),
+    "generations, not exact": ("golly.step('', { generations: 2 ** 53 })", f"RangeError: generations {GENERATIONS} {2 ** 53}"),
+    "generations of another text": ("golly.stream({ generations: 5 })", "RangeError: generations are for step, and not for canon"),
+    "generations by a table": ("golly.step('', { generations: 5, table: '' })", "RangeError: a table makes one generation at a time"),
     "limit": ("golly.canon('', { limit: 1.5 })", "RangeError: limit is a whole number of squares, 0 or more, and not 1.5"),
     "limit, below 0": ("golly.key('', { limit: -1n })", "RangeError: limit is a whole number of squares, 0 or more, and not -1"),
     "limit, a text": ("golly.key('', { limit: 'all' })", "TypeError: limit is a number of squares, and not string"),
@@ -173,6 +195,11 @@ def calls(browser, address):
         "what is no form": ("try { golly.canon(given[0], { form: 'here' }); } catch (why) { return why.constructor.name; }", "RangeError"),
         **{f"an error names its argument: {name}": (f"try {{ {script}; }} catch (why) {{ return `${{why.name}}: ${{why.message}}`; }}", wanted)
            for name, (script, wanted) in ERRORS.items()},
+        "many generations": ("return text(golly.step(given[0], { generations: 2 ** 40 + 1 }));", "later"),
+        "many generations of a stream": ("return text(await golly.read([given[0]], { gives: 'step', generations: 2n ** 40n + 1n }));", "later"),
+        "no generation": ("return text(golly.step(given[0], { generations: 0 }));", None),
+        "generations beyond the last one": ("try { golly.step('#CXRLE Gen=1\\n' + given[0], { generations: 2n ** 64n - 1n }); } "
+                                            "catch (why) { return why.message; }", "GenerationTooLarge"),
         "a closed stream": ("const it = golly.stream(); it.close(); it.close(); "
                             "try { it.feed(given[0]); } catch (why) { return why.message; }", "Spent"),
         "a text that is asked for twice": ("const it = golly.stream(); it.feed(given[0]); it.finish(); const found = it.finish(); it.close(); "
@@ -186,6 +213,15 @@ def calls(browser, address):
                                                "const found = hex(it.finishKey()) === key; try { it.feed('x'); } catch (why) { it.close(); "
                                                "return found ? `${key} ${why.message}` : found; }", "key Spent"),
         "the key of a closed stream": ("const it = golly.stream(); it.close(); try { it.finishKey(); } catch (why) { return why.message; }", "Spent"),
+        "a response that isn't there": (f"try {{ await golly.read(await fetch('{address}/no.rle')); }} catch (why) {{ return `${{why.name}} "
+                                        "${why.message.split('/').at(-1)}`; }", "Error no.rle can't be read: 404"),
+        "a response without a body": ("try { await golly.read(new Response(null, { status: 204 })); } catch (why) { return why.message; }", "line 1: NoHeader"),
+        "progress that can't be told": ("try { await golly.read([given[0]], { onProgress: 7 }); } catch (why) { return `${why.name}: ${why.message}`; }",
+                                        "TypeError: onProgress is a function, and not 7"),
+        "no warning": ("return golly.warningOf(given[0]);", None.__class__),
+        "a warning of a file that lost its line ends": ("return golly.warningOf('[M2]\\r#R B3/S23\\r').includes('lost its line ends');", True),
+        "a warning of a comment": ("return golly.warningOf(new TextEncoder().encode('[M2]\\n#RB36/S23\\n$$..*$\\n')).includes('is a comment here');", True),
+        "a warning of what is no file": ("try { golly.warningOf(7); } catch (why) { return why.message; }", f"data {FILE} 7"),
         "a sentence": ("return golly.sentenceOf('BadChild');", "A child number doesn't refer to an earlier square one level down."),
         "a sentence of no kind": ("return ['NoRoom', 'zero', ''].map(it => { try { return golly.sentenceOf(it); } "
                                   "catch (why) { return why.constructor.name; } }).join(' ');", "RangeError RangeError RangeError"),
@@ -195,14 +231,80 @@ def calls(browser, address):
     glider = fixtures.FILES["line.rle"].decode()
     text = commands.canon(commands.File(glider.encode())).output.decode()
     key = hashlib.sha256(text.encode()).hexdigest()
-    known = {None: text, "key": key, "key Spent": f"{key} Spent", "length": len(glider)}
+    # Three cells in a row, after an odd number of generations.
+    later = fixtures.LINE_STEPPED.decode().replace("#G 1\n", f"#G {2 ** 40 + 1}\n")
+    known = {None: text, "later": later, "key": key, "key Spent": f"{key} Spent", "length": len(glider)}
     given = "const text = it => new TextDecoder().decode(it); " \
             "const hex = it => Array.from(it, byte => byte.toString(16).padStart(2, '0')).join(''); const golly = window.golly; "
     for name, (script, wanted) in rows.items():
-        wanted = known.get(wanted, wanted)
+        wanted = None if wanted is None.__class__ else known.get(wanted, wanted)
         found = browser.run(given + script, glider)
         counting.row(name, [] if found == wanted else [f"{found!r} and not {wanted!r}"])
+    strictness(browser)
     forms(browser)
+
+
+def strictness(browser):
+    """Each call refuses options that aren't an object, and those with a member that it doesn't know."""
+    tried = "try { await window.golly.%s; return 'taken'; } catch (why) { return `${why.name}: ${why.message}`; }"
+    for call, members in OPTIONS.items():
+        for given, said in NO_OPTIONS.items():
+            found = browser.run(tried % call.replace("{}", given))
+            wanted = f"TypeError: options is an object that may have {members}, and not {said}"
+            counting.row(f"options that are no object: {call.replace('{}', given)}", [] if found == wanted else [f"{found!r} and not {wanted!r}"])
+        found = browser.run(tried % call.replace("{}", "{ limit: 9, from: 'moved' }"))
+        wanted = f"TypeError: options may have {members}, and not from"
+        counting.row(f"options with a member that isn't known: {call}", [] if found == wanted else [f"{found!r} and not {wanted!r}"])
+        found = browser.run(tried % call.replace("{}", "{ limit: undefined }"))
+        counting.row(f"options with a member that is undefined: {call}", [] if found == "taken" or "NoHeader" in found else [found])
+
+
+# Makes streams, does something with each, and keeps none. Returns how many were refused because the module was out of memory, and the length of a key
+# that is made after them.
+STREAMING = """
+    const golly = window.golly; const glider = "x = 3, y = 3\\nbo$2bo$3o!\\n"; const bad = "x=1,y=1\\n0o!\\n"; const [count, way] = given;
+    const acts = {
+      closed: stream => { stream.feed(glider); stream.finish(); stream.close(); },
+      ended: stream => { stream.feed(glider); stream.finish(); },
+      "ended with a key": stream => { stream.feed(glider); stream.finishKey(); },
+      refused: stream => { try { stream.feed(bad); } catch {} },
+      "refused at the end": stream => { stream.feed(bad.slice(0, -2)); try { stream.finish(); } catch {} },
+      forgotten: stream => { stream.feed(glider); },
+    };
+    let refused = 0;
+    for (let number = 0; number < count; number++) {
+      try { acts[way](golly.stream()); } catch (why) { if (why.message !== "Memory") throw why; refused++; }
+      if (number % 500 === 0) await new Promise(it => setTimeout(it)); // as a service that waits for its next file
+    }
+    return [refused, golly.key(glider).length];"""
+# The most memory of the module for each way: with what a few streams take, all of them have to do. Forgotten ones are there until the engine collects them;
+# all of them together would take 150 MB.
+SMALL, LARGE = 2 ** 25, 2 ** 27
+WAYS = {"closed": SMALL, "ended": SMALL, "ended with a key": SMALL, "refused": SMALL, "refused at the end": SMALL, "forgotten": LARGE}
+# Ways of which a fifth of the streams has to do, so that the test takes less time.
+RARER = ["ended with a key", "refused at the end"]
+
+
+def streams(browser, address, count=100_000, where="page"):
+    """So many streams, closed or not, refused or not, in little memory: none is kept by what was left of the ones before."""
+    opened(browser, address, where)
+    name = "node" if where == "Node" else "golly_canon"
+    for way, most in WAYS.items():
+        browser.run(f"window.golly = await (await import('{address}/{name}.mjs')).load(undefined, {{ memory: {most} }});")
+        number = count // 5 if way in RARER else count
+        found = browser.run(STREAMING, number, way)
+        counting.row(f"{number} streams, {way}", [] if found == [0, 32] else [f"{found[0]} were refused"])
+    tried = "const tried = act => { try { return act().length; } catch (why) { return why.message; } }; "
+    script = tried + """const stream = window.golly.stream(); const bad = "x=1,y=1\\n0o!\\n";
+        const found = [() => stream.feed(bad), () => stream.feed("o"), () => stream.finish(), () => stream.finishKey()].map(tried);
+        stream.close(); return [...found, tried(() => stream.finish())];"""
+    found = browser.run(script)
+    counting.row("a refused stream says why, until it is closed", [] if found == ["line 2: ZeroCount"] * 4 + ["Spent"] else [repr(found)])
+    script = tried + """const stream = window.golly.stream(); stream.feed("x=1,y=1\\no!"); const text = stream.finish(); text.fill(0);
+        const found = [() => stream.feed("o"), () => stream.finish(), () => stream.finishKey()].map(tried);
+        const isKept = stream.finish()[0] === 91; stream.close(); return [...found, isKept, tried(() => stream.finishKey())];"""
+    found = browser.run(script)
+    counting.row("an ended stream gives its text and its key, until it is closed", [] if found == ["Spent", 43, 32, True, "Spent"] else [repr(found)])
 
 
 def version():

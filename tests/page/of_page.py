@@ -1,14 +1,17 @@
 """What the page does with files: opened from the disk, as by a double click, and from a web server."""
 
 import base64
+import bz2
 import csv
 import gzip
 import hashlib
 import io
 import json
+import lzma
 import os
 import random
 import re
+import tarfile
 import tempfile
 import time
 import zipfile
@@ -233,9 +236,12 @@ def packing(page, folder):
         it.writestr("inner/b.mc", SPELLED, zipfile.ZIP_STORED)
         it.writestr("inner/ä.rle", b"x=1,y=1\no!\n" + b"#" * 3000, zipfile.ZIP_DEFLATED)
         it.writestr("inner/c.rle.gz", gzip.compress(b"x=1,y=1\no!\n"), zipfile.ZIP_STORED)
-    page.dropped([packed], "document.querySelectorAll('#list tbody tr').length === 4")
+        it.writestr("inner/d.rle.GZ", gzip.compress(GLIDER), zipfile.ZIP_DEFLATED)
+        it.writestr("inner/no.gz", b"no gzip\n", zipfile.ZIP_DEFLATED)
+    page.dropped([packed], "document.querySelectorAll('#list tbody tr').length === 6")
     counting.row("a zip with duplicates", differing({"rows": sorted((it[1], it[0]) for it in page.list())}, {"rows": [
-        ("packed.zip/a.rle", "1"), ("packed.zip/inner/b.mc", "1"), ("packed.zip/inner/c.rle.gz", ""), ("packed.zip/inner/ä.rle", "")]}))
+        ("packed.zip/a.rle", "1"), ("packed.zip/inner/b.mc", "1"), ("packed.zip/inner/c.rle.gz", "2"), ("packed.zip/inner/d.rle.GZ", "1"),
+        ("packed.zip/inner/no.gz", ""), ("packed.zip/inner/ä.rle", "2")]}))
     packed_alone = put(folder, glider_rle_gz=gzip.compress(GLIDER), other_mc=SPELLED)
     page.dropped(packed_alone, "document.querySelectorAll('#list tbody tr').length === 2")
     counting.row("a file that gzip packed", differing({"answer": page.text("answer")}, {"answer": "Both files are one pattern."}))
@@ -250,6 +256,196 @@ def packing(page, folder):
         page.dropped(put(os.path.join(folder, "broken"), **{name.replace(".", "_"): bad}))
         said = page.browser.run("return document.body.innerText;")
         counting.row(f"a broken file: {what}", [] if "damaged" in said else [said])
+
+
+# ---- folders with odd names
+
+
+# Names of files, among them each that the handles of folders in Chromium hide.
+ODD = [" lead.rle", ".hidden.rle", "CON", "a*b.rle", "a:b.rle", "a<b>.rle", "back\\slash.rle", "con.rle", "desktop.ini", "h#sh.rle", "new\nline.rle",
+       "plain.rle", "q%41.rle", "til~", "trail ", "trail.", "what?.rle", "x \"y\".rle", "x.lnk", "x.local", "x.url", "x|y.rle", "~x.rle",
+       "\u202egnp.rle", "\u00e4.rle", "esc\x1b[31m.rle", "deeper/in.rle", "dots. /in.rle"]
+UNNAMED = "its name isn't UTF-8 text, so the browser can't open it: rename it, or drop a tar of the folder"
+
+
+def odd_folder(folder):
+    """A folder `odd` with a glider under each of these names, and under two that aren't UTF-8 text: that of a file, and that of a folder with a file."""
+    top = os.path.join(folder, "odd")
+    for name in [*map(os.fsencode, ODD), b"\xff4.rle", b"sub\xe9/in.rle"]:
+        path = os.path.join(os.fsencode(top), name)
+        os.makedirs(os.path.dirname(path), exist_ok=True)
+        with open(path, "wb") as it:
+            it.write(GLIDER)
+    return top
+
+
+def listed(page):
+    """The files that the page read, and those that it didn't read, with the reason of each."""
+    rows = table(page).items()
+    return {name for name, row in rows if row["key"]}, {name: row["refused"] for name, row in rows if not row["key"]}
+
+
+def folders(browser, folder, address, where):
+    """Each file of a dropped folder is read, or listed with the reason why it isn't."""
+    page = Page(browser, address)
+    top = odd_folder(folder)
+    whole = {f"odd/{name}" for name in ODD}
+    page.dropped([top])
+    read, unread = listed(page)
+    counting.row(f"a folder of odd names is dropped {where}", differing(
+        {"read": read, "unread": unread, "answer": page.text("answer")},
+        {"read": whole, "unread": {"odd/?": UNNAMED, "odd/?/": UNNAMED},
+         "answer": f"{len(ODD)} of {len(ODD) + 2} files are the same pattern as another file: 1 group."}))
+    said = page.text("why")
+    holds(f"the page says that a file wasn't read, and that a folder wasn't {where}", "1 file wasn't read" in said and "missing from 1 folder" in said, said)
+    names = {row[1] for row in page.list()}
+    wanted = {"odd/back\\\\slash.rle", "odd/new\\nline.rle", "odd/\\xe2\\x80\\xaegnp.rle", "odd/esc\\x1b[31m.rle"}
+    holds(f"names are shown as the program writes them {where}", wanted <= names, names)
+    hidden = [name for name in ODD if "/" not in name and name != "plain.rle"]
+    page.dropped([os.path.join(folder, "odd", "deeper"), *(os.path.join(top, it) for it in hidden[:2])])
+    read, unread = listed(page)
+    counting.row(f"a folder and files are dropped {where}", differing({"read": read, "unread": unread}, {
+        "read": {"deeper/in.rle", *hidden[:2]}, "unread": {}}))
+    page.dropped([os.path.join(top, "plain.rle"), top])
+    read, unread = listed(page)
+    if address.startswith("file:"):
+        missing = unread.pop("odd/", "")
+        holds(f"a folder whose files may be missing, after a file {where}", "files may be missing" in missing and read < {"plain.rle", *whole}, [missing, read])
+    else:
+        counting.row(f"a folder after a file {where}", differing({"read": read}, {"read": {"plain.rle", *whole}}))
+    holds(f"what isn't UTF-8 text there {where}", unread == {"odd/?": UNNAMED, "odd/?/": UNNAMED}, unread)
+    os.makedirs(os.path.join(folder, "empty"))
+    page.cleared()
+    page.dropped([os.path.join(folder, "empty")])
+    counting.row(f"an empty folder {where}", differing({"notes": page.text("notes")}, {"notes": "empty/ has no files."}))
+    chosen_folder(page, top, where)
+
+
+def chosen_folder(page, top, where):
+    """A folder that is opened: the browser leaves out what isn't UTF-8 text, and the page says that it may have."""
+    page.cleared()
+    page.browser.give("folder", [top])
+    page.until("!document.getElementById('compared').hidden")
+    page.rests()
+    read, unread = listed(page)
+    said = page.text("notes")
+    holds(f"a folder is opened {where}", read == {f"odd/{name}" for name in ODD} and not unread, [read, unread])
+    holds(f"the page says that files may be missing from it {where}", f"odd/ has {len(ODD)} files, as far as the browser says." in said, said)
+
+
+# A drop of two gliders as the page is told of it. No browser but Chromium lets its driver drop a file.
+DROPPING = """const data = new DataTransfer();
+    for (const name of ["a.rle", "b\\u202e.rle"]) data.items.add(new File([given[0]], name));
+    document.body.dispatchEvent(new DragEvent("drop", { dataTransfer: data, bubbles: true, cancelable: true }));"""
+
+
+def odd_files(browser, folder, address, where):
+    """Files of odd names, a tar of them, and a folder that the driver hands over as a file, by what every driver can do."""
+    page = Page(browser, address)
+    top = odd_folder(folder)
+    names = [it for it in ODD if "/" not in it and "\n" not in it]
+    browser.give("files", [os.path.join(top, it) for it in names])
+    page.until("!document.getElementById('compared').hidden")
+    page.rests()
+    counting.row(f"files of odd names are opened {where}", differing({"listed": listed(page), "answer": page.text("answer")}, {
+        "listed": (set(names), {}), "answer": f"All {len(names)} files are one pattern."}))
+    page.cleared()
+    packed = os.path.join(folder, "odd.tar.gz")
+    with tarfile.open(packed, "w:gz", encoding="utf-8", errors="surrogateescape") as archive:
+        archive.add(top, "odd")
+    browser.give("files", [packed])
+    page.until("!document.getElementById('compared').hidden")
+    page.rests()
+    wanted = {f"odd.tar.gz/odd/{it}" for it in [*ODD, "\u00ff4.rle", "sub\u00e9/in.rle"]}
+    counting.row(f"a tar of a folder of odd names is opened {where}", differing({"listed": listed(page)}, {"listed": (wanted, {})}))
+    page.cleared()
+    browser.run(DROPPING, GLIDER.decode())
+    page.until("!document.getElementById('compared').hidden")
+    page.rests()
+    counting.row(f"files of which the page is told that they were dropped {where}", differing(
+        {"names": {it[1] for it in page.list()}, "answer": page.text("answer")},
+        {"names": {"a.rle", "b\\xe2\\x80\\xae.rle"}, "answer": "Both files are one pattern."}))
+
+
+def vanishing(browser, folder, address, where):
+    """A chosen or dropped file that is gone when it is read is listed as such, and the others are compared."""
+    page = Page(browser, address)
+    source = random.Random(4)
+    soup = b"x=0,y=0\n" + b"".join(bytes(source.choices(b"bo", k=1000)) + b"$\n" for _ in range(4000)) + b"!\n"
+    ways = {"chosen": lambda paths: browser.give("files", paths)}
+    if hasattr(browser, "drop"):
+        ways["dropped"] = browser.drop
+    for way, give in ways.items():
+        first, *rest = put(os.path.join(folder, way), a_rle=soup, b_rle=GLIDER, c_rle=GLIDER, d_rle=GLIDER)
+        page.cleared()
+        give([first, *rest])
+        os.remove(rest[1])
+        page.until("!document.getElementById('compared').hidden")
+        page.rests()
+        rows = {row[1]: row for row in page.list()}
+        gone = rows.get("c.rle", ["", "", ""])[-1]
+        holds(f"a file that is {way} and gone {where}", [rows.get(it, [""])[0] for it in ("a.rle", "b.rle", "d.rle")] == ["", "1", "1"]
+              and gone.startswith("it can't be read") and not gone.endswith("."), rows)
+
+
+# ---- tar
+
+
+def tarred(path, mode, kind, members):
+    """Writes a tar of this mode and format. A member is bytes, or the name that it links to, with the kind of link."""
+    with tarfile.open(path, mode, format=kind, encoding="utf-8", errors="surrogateescape") as archive:
+        for name, data in members.items():
+            it = tarfile.TarInfo(name)
+            if isinstance(data, bytes):
+                it.size = len(data)
+                archive.addfile(it, io.BytesIO(data))
+            else:
+                it.type, it.linkname = data
+                archive.addfile(it)
+    return path
+
+
+def tars(page, folder):
+    """Archives of tar, as they are or packed by gzip, in the three formats that Python writes."""
+    os.makedirs(folder, exist_ok=True)
+    deep = "/".join(["a folder with a long name"] * 9) + "/a.rle"
+    members = {"a.rle": GLIDER, "inner": (tarfile.DIRTYPE, ""), "inner/b.mc": SPELLED, "inner/\u00e4.rle": b"x=1,y=1\no!\n" + b"#" * 3000,
+               "inner/c.rle.gz": gzip.compress(GLIDER), deep: GLIDER, "empty.rle": b"", "hard.rle": (tarfile.LNKTYPE, "a.rle"),
+               "soft.rle": (tarfile.SYMTYPE, "a.rle"), "latin\udce9.rle": GLIDER}
+    links = {f"packed.tar/{it}.rle": "it is a link to a.rle, which isn't followed" for it in ("hard", "soft")}
+    ways = [("w", tarfile.USTAR_FORMAT), ("w:gz", tarfile.GNU_FORMAT), ("w:gz", tarfile.PAX_FORMAT), ("w", tarfile.GNU_FORMAT), ("w", tarfile.PAX_FORMAT)]
+    for mode, kind in ways:
+        path = tarred(os.path.join(folder, "packed.tar"), mode, kind, members)
+        page.dropped([path])
+        read, unread = listed(page)
+        counting.row(f"a tar, {mode}, format {kind}", differing(
+            {"read": read, "unread": unread, "answer": page.text("answer")},
+            {"read": {f"packed.tar/{it}" for it in ("a.rle", "inner/b.mc", "inner/\u00e4.rle", "inner/c.rle.gz", deep, "latin\u00e9.rle")},
+             "unread": {"packed.tar/empty.rle": "line 1: NoHeader", **links},
+             "answer": "5 of 9 files are the same pattern as another file: 1 group."}))
+    with open(path, "rb") as it:
+        data = it.read()
+    begin = data.index(b"x=1,y=1")  # within the third file
+    packed = gzip.compress(data)
+    broken = {"a tar that ends within a file": (data[: begin + 100], "ends within it"),
+              "a tar whose second header is wrong": (data[:1024] + b"zzzz" + data[1028:], "files that follow in it aren't read"),
+              "a packed tar that is cut": (packed[: len(packed) // 2], "can't be unpacked to its end"),
+              "no file in a tar": (tarfile_of_nothing(), "it has no files"),
+              "a tar that bzip2 packed": (bz2.compress(data), "packed by bzip2"), "a tar that xz packed": (lzma.compress(data), "packed by xz")}
+    for name, (bad, wanted) in broken.items():
+        page.dropped(put(os.path.join(folder, "broken"), bad_tar=bad))
+        said = page.browser.run("return document.body.innerText;")
+        holds(name, wanted in said, said)
+
+
+def tarfile_of_nothing():
+    """A tar with a folder alone."""
+    found = io.BytesIO()
+    with tarfile.open(fileobj=found, mode="w") as archive:
+        it = tarfile.TarInfo("inner")
+        it.type = tarfile.DIRTYPE
+        archive.addfile(it)
+    return found.getvalue()
 
 
 def examples(browser, address, where):
@@ -296,7 +492,7 @@ def speaking(page, folder):
     counting.row("two refused files", differing({"answer": page.text("answer")}, {"answer": "None of the files is a pattern: all were refused."}))
     turning = put(folder, **{"\u202egnp_rle": GLIDER})
     page.dropped(turning)
-    counting.row("a name that turns the direction of text", differing({"name": page.text("name")}, {"name": "\\u202egnp.rle"}))
+    counting.row("a name that turns the direction of text", differing({"name": page.text("name")}, {"name": "\\xe2\\x80\\xaegnp.rle"}))
 
 
 def large():
@@ -726,6 +922,7 @@ def working(browser, folder, work, answers, server):
     pasting(page)
     showing(page, os.path.join(work, "showing"), answers)
     packing(page, os.path.join(work, "packing"))
+    tars(page, os.path.join(work, "tars"))
     speaking(page, os.path.join(work, "speaking"))
     saving(page, os.path.join(work, "saving"), answers)
     warning(page, os.path.join(work, "warning"))
@@ -766,6 +963,11 @@ def rows(folder, program, pictures):
     with tempfile.TemporaryDirectory() as work, browsers.Server(folder) as server:
         answers = Answers(program, work)
         browsers.tested("the page", browsers.Browser, lambda it: working(it, folder, work, answers, server))
+        for where, address in (("from the disk", f"file://{folder}"), ("from a web server", server.address)):
+            browsers.tested(f"folders {where}", browsers.Browser,
+                            lambda it: folders(it, os.path.join(work, f"folders {where}"), f"{address}/golly_canon.html", where))
+        browsers.tested("files that vanish", browsers.Browser,
+                        lambda it: vanishing(it, os.path.join(work, "vanishing"), f"file://{folder}/golly_canon.html", "in Chromium"))
         browsers.tested("its faults", browsers.Browser, lambda it: faults(it, folder, os.path.join(work, "faults"), server.address))
         for name, width, height, scheme in (("light", 1200, 900, "light"), ("dark", 1200, 900, "dark"), ("narrow", 390, 844, "light")):
             browsers.tested(f"the page, {name}", lambda: browsers.Browser(width, height),

@@ -1,8 +1,8 @@
 #!/usr/bin/env python3
-"""The page and the module for browsers, which scripts/page builds here over what `rt ci` has proved: what they are made of, and in a headless Chromium
+"""The page and the module for browsers, which scripts/page builds here over what the gate has proved: what they are made of, and in a headless Chromium
 that the module answers as PROGRAM does, and what the page does with files. A part of that is tried in WebKit (the engine of Safari), in Firefox and in
-Node too. Where a browser, its driver, Node, or what scripts/page needs beside the toolchain isn't there, a line says what is skipped. A browser that
-dies is started again (browser.py).
+Node too. In Node the command of the package for npm is held to PROGRAM. Where a browser, its driver, Node, or what scripts/page needs beside the toolchain
+isn't there, a line says what is skipped. A browser that dies is started again (browser.py).
 
 usage: tests/page/page.py PROGRAM [--cases N] [--seed SEED] [--built FOLDER] [--keep FOLDER] [--pictures FOLDER]
 
@@ -24,6 +24,7 @@ TOP = os.path.dirname(os.path.dirname(HERE))
 sys.path[1:1] = [os.path.join(TOP, "tests"), os.path.join(TOP, "tests", "program")]
 
 import browser as browsers  # noqa: E402
+import of_command  # noqa: E402
 import of_module  # noqa: E402
 import of_page  # noqa: E402
 from shared import counting, processes  # noqa: E402
@@ -53,7 +54,7 @@ def types():
     counting.row("types for what the module exports", [] if exported == typed else [f"{sorted(exported ^ typed)}"])
     calls = set(re.findall(r"(?m)^  (?:async )?(\w+)\(.*\{$", texts[0].split("class Library")[1])) - {"constructor"}
     typed = set(re.findall(r"(?m)^  (\w+)\(", texts[1].split("interface Library")[1].split("\n}")[0]))
-    counting.row("types for the calls of the library", [] if calls == typed and len(calls) == 10 else [f"{sorted(calls)} and {sorted(typed)}"])
+    counting.row("types for the calls of the library", [] if calls == typed and len(calls) == 11 else [f"{sorted(calls)} and {sorted(typed)}"])
 
 
 def made_of(folder):
@@ -77,6 +78,7 @@ def in_chromium(folder, program, options):
         of_module.memory(browser, server.address)
         of_module.heap(browser, f"{server.address}/golly_canon.wasm")
         of_module.stacks(browser, server.address, folder)
+        of_module.streams(browser, server.address)
 
     with browsers.Server(folder) as server:
         browsers.tested("answers of the module", browsers.Browser,
@@ -97,8 +99,12 @@ def in_webkit(folder, program, options):
         of_module.memory(browser, server.address)
         of_module.heap(browser, f"{server.address}/golly_canon.wasm")
         of_module.stacks(browser, server.address, folder)
+        of_module.streams(browser, server.address, 10_000)
         of_page.examples(browser, f"file://{folder}/golly_canon.html", "in WebKit")
         of_page.opening(browser, f"{server.address}/golly_canon.html", program, "in WebKit")
+        with tempfile.TemporaryDirectory() as work:
+            of_page.odd_files(browser, work, f"{server.address}/golly_canon.html", "in WebKit")
+            of_page.vanishing(browser, work, f"{server.address}/golly_canon.html", "in WebKit")
 
     with browsers.Server(folder) as server:
         browsers.tested("WebKit", browsers.WebKit, some)
@@ -121,7 +127,7 @@ def in_firefox(folder, program, options):
 
 
 def in_node(folder, program, options):
-    """What the module answers in Node, where it is installed."""
+    """What the module and the command of the package for npm answer in Node, where it is installed."""
     if not processes.has_node():
         print(f"skipped: the module in Node, since there is no Node {processes.NODE}", flush=True)
         return
@@ -129,11 +135,14 @@ def in_node(folder, program, options):
 
     def some(node):
         of_module.compares(node, f"file://{folder}", program, f"{options.seed} in Node", options.cases // 5, 10, ["Node"])
+        of_module.strictness(node)
+        of_module.streams(node, f"file://{folder}", where="Node")
         of_module.forms(node)
         of_module.heap(node, f"file://{folder}/golly_canon.wasm")
         of_module.whole_memory(node, f"file://{folder}/golly_canon.wasm")
 
     browsers.tested("Node", browsers.Node, some)
+    of_command.rows(folder, program, os.path.join(TOP, "packages", "npm"))
 
 
 def main():
