@@ -1,11 +1,11 @@
 #!/usr/bin/env python3
 """Holds the documents against the repository: each file, heading and line of code that they link to, and each file that they name, is there; the pages
-where a newcomer begins link to Golly and to what describes the formats; the table of sizes in docs/PROOFS.md is what scripts/sizes prints, and no clause
-is wider than 100 columns; each deliberate bug of its table is an edit that changes what the table says, and nothing else; no line of documents,
-definitions and proofs is too wide; the man page has a date; each place that repeats the version has that of the file VERSION; and each place that names
-the kinds of fault has them all, with their numbers (scripts/kinds says which places). Each check in the folders of tests/ is run, by tests/all or by
-another one. And the files that CONTRIBUTING says to extend for a new command have the names that it gives, as those have that ARCHITECTURE follows a
-command through.
+where a newcomer begins link to Golly and to what describes the formats; no clause is wider than 100 columns; no line of documents, definitions and proofs is
+too wide; the man page has a date; each place that repeats the version has that of the file VERSION; and each place that names the kinds of fault has them all,
+with their numbers (scripts/kinds says which places). Each figure with a unit in README is the one of the page that measures it. Each page and each `--help`
+that gives the limit of squares gives that of a form too. Each check in the folders of tests/ is run, by tests/all or by another one. The files that
+docs/ADDING.md says to extend for a new command have the names that it gives, as those have that ARCHITECTURE follows a command through. And ARCHITECTURE has
+each crate of crates.txt, once.
 
 usage: tests/documents/documents.py
 """
@@ -14,6 +14,7 @@ import os
 import re
 import subprocess
 import sys
+from decimal import ROUND_HALF_UP, Decimal
 
 sys.path.insert(0, os.path.dirname(os.path.dirname(os.path.abspath(__file__))))
 
@@ -22,19 +23,18 @@ from shared import counting  # noqa: E402
 TOP = os.path.dirname(os.path.dirname(os.path.dirname(os.path.abspath(__file__))))
 TOP_PAGES = ["README.md", "CHANGELOG.md", "CONTRIBUTING.md", "SECURITY.md", "tests/README.md"]
 DOCUMENTS = [*TOP_PAGES, *sorted(f"docs/{it}" for it in os.listdir(os.path.join(TOP, "docs")) if it.endswith(".md"))]
-SIZES = "docs/PROOFS.md"
 # A path in backticks: of a folder at the top, or of a crate, whose name may stand without `crates/`.
 NAMED = re.compile(r"`((?:docs|tests|scripts|bench|examples|include|completions|packages|python|crates)/[\w./*-]+|(?:[a-z]+_)+[a-z]+/(?:src|specs|proofs)/[\w./+*-]+)`")
 LINKED = re.compile(r"\]\(([^)#:\s]*)(?:#([^)\s]+))?\)")
 # Where a newcomer looks up what a page speaks of: Golly, and both formats.
 ELSEWHERE = ["https://golly.sourceforge.io", "https://conwaylife.com/wiki/Run_Length_Encoded", "https://conwaylife.com/wiki/Macrocell"]
-# A row of the table of deliberate bugs: the crate, the function, what is wrong, what is right, the bug, and the edit.
-PLANTED = re.compile(r"\| `(\w+)` \| `([\w:]+)` \| [^|]+ \| `([^`]+)` \| `([^`]+)` \| `(\w+)` \|")
-BUGS = 20
 # The most columns of a line, and what stands on one line however wide it is: a row of a table, a line of a program, and an import.
-WIDTH = 160
+WIDTH, CLAUSE_WIDTH = 160, 100
+CLAUSE = re.compile(r"\s*(?:requires|ensures)\b.*\{")
 WIDE = re.compile(r"\||    |(?:pub )?use ")
 PAGE = "docs/golly_canon.1"
+ADDING = "docs/ADDING.md"
+HELP = "crates/command_line/src/plans/help.rt"
 # A file or folder that a document names by its pattern, as `proofs/MODULE/FUNCTION/`, names no file.
 PATTERN = re.compile(r"[A-Z]{3,}/|/[A-Z]{3,}\b(?!\.(?:md|antt))")
 # The heading of a step that is made in one crate, and a row of its table: a file of the crate, and what to add to it.
@@ -87,6 +87,19 @@ def widths():
         yield f"{crate}: lines of more than {WIDTH} columns: {' '.join(found)}", not found
 
 
+def wide_clauses():
+    """Whether no line of a clause is too wide. A clause ends where its braces do."""
+    for crate in sorted(os.listdir(os.path.join(TOP, "crates"))):
+        found = []
+        for path in glob.glob(f"crates/{crate}/src/**/*.rt", root_dir=TOP, recursive=True):
+            depth = 0
+            for number, line in enumerate(text_of(path).splitlines(), 1):
+                if depth or CLAUSE.match(line):
+                    depth += line.count("{") - line.count("}")
+                    found += [f"{path}:{number}"] * (len(line) > CLAUSE_WIDTH)
+        yield f"{crate}: clauses of more than {CLAUSE_WIDTH} columns: {' '.join(found)}", not found
+
+
 def of_page():
     """Whether the man page has a date."""
     yield f"{PAGE}: a date in line 1", bool(re.match(r'\.TH GOLLY_CANON 1 "\d{4}-\d\d-\d\d" ', text_of(PAGE)))
@@ -112,6 +125,73 @@ def of_version():
         yield f"{path}: the version {version}, and not {found and found[1]}", bool(found) and found[1] == version
 
 
+# A figure of a page (the first text, whose groups are figures), and where each of its groups is measured: the page, and the text around the figure there.
+SPEED, PROOFS = "docs/SPEED.md", "docs/PROOFS.md"
+MEASURED = [
+    ("README.md", r"takes ([\d.]+) s for 100,000 small files on a processor of ([\d.]+) GHz",
+     [(SPEED, r"\| `keys --form turned` \| ([\d.]+) s \|"), (SPEED, r"a processor of ([\d.]+) GHz")]),
+    ("README.md", r"`canon` takes ([\d.]+) s and (\d+) MB of memory for a soup \(random cells\) of 10 MB in RLE, and ([\d.]+) s and (\d+) MB for one of 100 MB, "
+     r"on a processor of ([\d.]+) GHz",
+     [(SPEED, r"\| a soup of 10 MB in RLE \| ([\d.]+) s \|"), (SPEED, r"\| a soup of 10 MB in RLE \|[^|]+\|[^|]+\|[^|]+\| (\d+) MB \|"),
+      (SPEED, r"\| a soup of 100 MB in RLE \| ([\d.]+) s \|"), (SPEED, r"\| a soup of 100 MB in RLE \|[^|]+\|[^|]+\|[^|]+\| (\d+) MB \|"),
+      (SPEED, r"a processor of ([\d.]+) GHz")]),
+    ("README.md", r"Of the (\d+) pattern files that come with Golly ([\d.]+), `golly_canon` accepts (\d+)\.",
+     [(PROOFS, r"It uses the (\d+) pattern files"), (PROOFS, r"`bgolly`, which is Golly ([\d.]+) without"), (PROOFS, r"- (\d+) of the \d+ pattern files are accepted")]),
+    ("README.md", r"You need `make`, (\d+) GB of RAM, (\d+) GB of disk, .* The first `make` takes about (an hour) of one processor",
+     [("docs/INSTALL.md", r"(\d+) GB of RAM"), ("docs/INSTALL.md", r"(\d+) GB of disk"), ("CONTRIBUTING.md", r"`make` takes about (an hour) of one processor")]),
+    (SPEED, r"For example, `canon` of a soup of 10 MB in RLE takes ([\d.]+) s and (\d+) MB of memory\. The fastest plain program .* takes ([\d.]+) s\.",
+     [(SPEED, r"\| a soup of 10 MB in RLE \| ([\d.]+) s \|"), (SPEED, r"\| a soup of 10 MB in RLE \|[^|]+\|[^|]+\|[^|]+\| (\d+) MB \|"),
+      (SPEED, r"\| a soup of 10 MB in RLE \|[^|]+\| ([\d.]+) s ")]),
+]
+# A figure with a unit, as people measure it.
+FIGURE = re.compile(r"\b\d[\d.,]* (?:s|ms|seconds|minutes|hours|MB|GB|GHz)\b")
+
+
+def same_figure(said, measured):
+    """Whether a figure is the measured one, rounded to as many digits as the figure has."""
+    if not re.fullmatch(r"[\d.]+", said):
+        return said == measured
+    return Decimal(measured).quantize(Decimal(said), ROUND_HALF_UP) == Decimal(said)
+
+
+def of_figures():
+    """Whether each figure is the one of the page that measures it, and README has no other one with a unit."""
+    readme = " ".join(re.sub(r"(?m)^    .*$", "", text_of("README.md")).split())
+    measured = set()
+    for document, said, places in MEASURED:
+        text = readme if document == "README.md" else " ".join(text_of(document).split())
+        found = re.search(said, text)
+        yield f"{document}: {said}", bool(found)
+        if found:
+            measured |= set(range(*found.span())) if document == "README.md" else set()
+            for figure, (page, around) in zip(found.groups(), places, strict=True):
+                at = re.search(around, text_of(page))
+                yield f"{document}: {figure} is in {page}: {around}", bool(at) and same_figure(figure, at[1])
+    for it in FIGURE.finditer(readme):
+        yield f"README.md: {it[0]} is measured on another page, which MEASURED names", it.start() in measured
+
+
+def of_squares():
+    """Whether the limit of squares of a form is given wherever that of a command is: in each page, and in the status 4 of each help of a command that takes a
+    form."""
+    for document in [*DOCUMENTS, PAGE]:
+        text = text_of(document)
+        yield f"{document}: 2^31 squares, and 2^21 of a form", "2^31" not in text or "2^21" in text
+    helps = re.split(r"(?m)^pub const (\w+): Help", text_of(HELP))
+    named = [(name, text) for name, text in zip(helps[1::2], helps[2::2]) if "--form" in text]
+    yield f"{HELP}: the help of the program and of commands that take a form, and not {[name for name, _ in named]}", len(named) == 5
+    for name, text in named:
+        status = re.search(r"\n  4  (.*?)\n  5  ", text, re.DOTALL)
+        yield f"{HELP}: the status 4 of {name} has 2^31 and 2^21", bool(status) and "2^31" in status[1] and "2^21" in status[1]
+
+
+def of_crates():
+    """Whether docs/ARCHITECTURE.md has a row of a table for each crate of crates.txt, once."""
+    rows = [name for row in re.findall(r"(?m)^\| ((?:`\w+`(?:, )?)+) \|", text_of("docs/ARCHITECTURE.md")) for name in re.findall(r"`(\w+)`", row)]
+    for crate in re.findall(r"(?m)^(\w+)[^:\n]*:", text_of("crates.txt")):
+        yield f"docs/ARCHITECTURE.md: {rows.count(crate)} rows for the crate {crate}", rows.count(crate) == 1
+
+
 def of_kinds():
     """What scripts/kinds says: each place that lacks a kind of fault, and how many lack none."""
     said = subprocess.run([sys.executable, "-B", "scripts/kinds", "--check"], cwd=TOP, stdout=subprocess.PIPE, text=True, check=False).stdout.splitlines()
@@ -130,17 +210,17 @@ def of_checks():
 
 
 def of_places():
-    """Whether each file has what a row of a table says of it: in CONTRIBUTING the names to extend, in the crate of the step, and in ARCHITECTURE the functions
-    of a command and the clauses of their contracts."""
+    """Whether each file has what a row of a table says of it: in docs/ADDING.md the names to extend, in the crate of the step, and in ARCHITECTURE the
+    functions of a command and the clauses of their contracts."""
     crate, found = "", []
-    for line in text_of("CONTRIBUTING.md").splitlines():
+    for line in text_of(ADDING).splitlines():
         if line.startswith(("#", "**")):
             step = STEP.match(line)
             crate = step[1] if step else ""
         row = PLACE.fullmatch(line)
         if crate and row:
-            found += in_file(f"CONTRIBUTING.md: {crate}", f"crates/{crate}/{row[1]}", row[2])
-    yield f"CONTRIBUTING.md: {NAMES} names or more to extend, and not {len(found)}", len(found) >= NAMES
+            found += in_file(f"{ADDING}: {crate}", f"crates/{crate}/{row[1]}", row[2])
+    yield f"{ADDING}: {NAMES} names or more to extend, and not {len(found)}", len(found) >= NAMES
     yield from found
     found = [it for functions, path, clauses in FUNCTIONS.findall(text_of("docs/ARCHITECTURE.md"))
              for it in in_file("docs/ARCHITECTURE.md", f"crates/{path}", functions + clauses)]
@@ -157,19 +237,6 @@ def in_file(document, path, said):
             yield f"{document}: {path} has {name}", bool(re.search(rf"\b{name}\b", text))
 
 
-def plants(crate, right, planted, edit):
-    """Whether an edit of the crate puts `planted` in the place of `right`, once, and changes nothing else."""
-    found = glob.glob(os.path.join(TOP, "crates", crate, "*must-fail", f"{edit}.edit"))
-    if len(found) != 1:
-        return False
-    lines = text_of(found[0]).splitlines()
-    old, new = [[it[5:] for it in lines if it.startswith(word)] for word in ("old: ", "new: ")]
-    if len(old) != 1 or len(new) != 1:
-        return False
-    places = [at.start() for at in re.finditer(re.escape(right), old[0])]
-    return any(old[0][:at] + planted + old[0][at + len(right):] == new[0] for at in places)
-
-
 def findings():
     """What was looked at, and whether it holds."""
     for document in DOCUMENTS:
@@ -182,17 +249,12 @@ def findings():
     for document in ("README.md", "docs/FORMATS.md"):
         for address in ELSEWHERE:
             yield f"{document}: a link to {address}", f"]({address}" in text_of(document)
-    planted = PLANTED.findall(text_of(SIZES))
-    yield f"{SIZES}: {BUGS} deliberate bugs, and not {len(planted)}", len(planted) == BUGS
-    for crate, function, right, wrong, edit in planted:
-        yield f"{SIZES}: {edit} of {function}", plants(crate, right, wrong, edit)
-    printed = subprocess.run(["scripts/sizes"], cwd=TOP, stdout=subprocess.PIPE, text=True, check=True).stdout.splitlines()
-    yield "scripts/sizes: clauses of at most 100 columns", " 0 clauses are wider " in f" {printed[-1]} "
-    table = set(text_of(SIZES).splitlines())
-    for line in printed:
-        yield f"{SIZES}: it has this line of scripts/sizes: {line}", line in table
+    yield from wide_clauses()
     yield from of_page()
     yield from of_version()
+    yield from of_figures()
+    yield from of_squares()
+    yield from of_crates()
     yield from of_kinds()
     yield from of_checks()
     yield from of_places()

@@ -69,12 +69,12 @@ equal() { # WHAT FOUND WANTED
     [ "$2" = "$3" ] || problems="$problems $1: '$2' and not '$3';"
 }
 
-# A program or a file of docs/QUESTIONS.md: the indented lines from one that has this text to the next paragraph.
+# A program or a file of docs/QUESTIONS.md or docs/RECIPES.md: the indented lines from one that has this text to the next paragraph.
 program_with() { # TEXT
     awk -v text="$1" '
         index($0, "    " text) == 1 { on = 1 }
         on && /^[^ ]/ { exit }
-        on { print substr($0, 5) }' "$top/docs/QUESTIONS.md"
+        on { print substr($0, 5) }' "$top/docs/QUESTIONS.md" "$top/docs/RECIPES.md"
 }
 
 # ---- what is known: the glider's texts, and the same pattern in other spellings
@@ -110,7 +110,7 @@ $turned_key  patterns/shifted.rle"
     equal "standard error" "$(grep '^patterns/' "$folder/err" | sort)" "$refused"
 }
 
-refused='patterns/empty: line 1: NoHeader: The file begins with no header, neither [M2] nor x = .., or it ends before one.
+refused='patterns/empty: line 1: NoHeader: The file begins with no header, neither [M2] nor x = .., or it ends before one. The file is empty: save it or download it again.
 patterns/more: line 1: NoHeader: The file begins with no header, neither [M2] nor x = .., or it ends before one.
 patterns/notes: line 1: NoHeader: The file begins with no header, neither [M2] nor x = .., or it ends before one.'
 
@@ -216,7 +216,7 @@ next_by() { # TABLE
     tail -n 1 told
 }
 
-# The table of docs/QUESTIONS.md is refused, mended and split, and the order of its two lines counts: bgolly 3.3 gives a 2 by the table as it stands.
+# The table of docs/RECIPES.md is refused, mended and split, and the order of its two lines counts: bgolly 3.3 gives a 2 by the table as it stands.
 # And a table with each form that the tables in Golly's zip files have, by lines of either end.
 table_recipes() {
     printf 'x = 1, y = 3, rule = Wind\nB$$C!\n' > between.rle
@@ -510,11 +510,20 @@ mkdir "$folder/top" && cd "$folder/top" || exit 1
 cp -r "$top/examples" "$folder/bin/golly_canon" .
 cp examples/glider.mc .
 printf 'x = 3, y = 3\nbob$2bo$3o!\n' > glider.rle
+# The collection of README.md: two blocks, two gliders of which one is turned, and a pattern without a duplicate.
+mkdir -p patterns/old patterns/still
+printf 'x = 3, y = 3, rule = B3/S23\nbo$2bo$3o!\n' > patterns/glider.rle
+printf '[M2] (golly 4.2)\n#R 23/3\n*$*.*$**$$$$$$\n' > patterns/old/glider.mc
+printf '[M2] (golly 4.2)\n#R B3/S23\n$$$...**$...**$$$$\n' > patterns/block.mc
+printf 'x = 2, y = 2, rule = B3/S23\n2o$2o!\n' > patterns/still/block.rle
+cp examples/gosper_glider_gun.mc patterns
 for document in README.md docs/QUESTIONS.md; do
+    # A blank line is written if indented ones come after it.
     mkdir examples_of && awk '
-        /^    \$ / { number = NR; on = 1; print substr($0, 7) > ("examples_of/" number); printf "" > ("examples_of/" number ".wanted"); next }
+        /^    \$ / { number = NR; on = 1; blank = ""; print substr($0, 7) > ("examples_of/" number); printf "" > ("examples_of/" number ".wanted"); next }
+        /^$/ { blank = blank "\n"; next }
         !/^    / { on = 0 }
-        on { print substr($0, 5) > ("examples_of/" number ".wanted") }' "$top/$document"
+        on { printf "%s%s\n", blank, substr($0, 5) > ("examples_of/" number ".wanted"); blank = "" }' "$top/$document"
     for wanted in examples_of/*.wanted; do
         example=${wanted%.wanted}
         sh "$example" > out 2>&1

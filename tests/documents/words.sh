@@ -7,6 +7,9 @@ program=${1:?usage: tests/documents/words.sh PROGRAM}
 case $program in /*) ;; *) program=$PWD/$program ;; esac
 cd "$(dirname "$0")/../.." || exit 1
 page=docs/golly_canon.1
+export COMPLETIONS="$PWD/completions/golly_canon.bash"
+folder=$(mktemp -d) || exit 1
+trap 'rm -rf "$folder"' EXIT
 . tests/shared/counting.sh
 
 # Two lists of words are the same, in any order.
@@ -22,14 +25,14 @@ same_words() { # NAME WORDS WANTED
 # What the short help lists below a heading: the commands, or the options in all their spellings.
 commands=$("$program" -h | awk '/^Commands:/ { on = 1; next } /^[^ ]/ || /^$/ { on = 0 } on && /^  [a-z]/ { print $1 }')
 options() { # COMMAND..
-    "$program" "$@" -h | awk '/^Options:/ { on = 1; next } /^[^ ]/ || /^$/ { on = 0 } on' | grep -oE -- '(^| )--?[a-zA-Z]+' | tr -d ' '
+    "$program" "$@" -h | awk '/^Options:/ { on = 1; next } /^[^ ]/ || /^$/ { on = 0 } on' | grep -oE -- '(^| )--?[a-zA-Z]+(-[a-zA-Z]+)*' | tr -d ' '
 }
 own=$(echo "$commands" | grep -vx help)
 
 # ---- the man page
 
 same_words "the man page has the commands" "$(awk '/^\.SH/ { on = $2 == "COMMANDS" } on && tag && /^\.B[IR] / { print $2 } { tag = $0 == ".TP" }' $page)" "$commands"
-same_words "the man page has the options" "$(sed -n '/^\.SH OPTIONS/,/^\.SH "EXIT/p' $page | sed -n 's/^\.B[IR] //p' | tr -d '\\",' | grep -oE -- '--?[a-zA-Z]+')" \
+same_words "the man page has the options" "$(sed -n '/^\.SH OPTIONS/,/^\.SH "EXIT/p' $page | sed -n 's/^\.B[IR] //p' | tr -d '\\",' | grep -oE -- '--?[a-zA-Z]+(-[a-zA-Z]+)*')" \
     "$(options; for command in $own; do options $command; done)"
 same_words "the man page has the statuses" "$(sed -n '/^\.SH "EXIT/,/^\.SH DIAG/s/^\.B \([0-9]\)$/\1/p' $page)" \
     "$("$program" --help | awk '/^Exit status:/ { on = 1; next } /^$/ { on = 0 } on && /^  [0-9]/ { print $1 }')"
@@ -44,7 +47,7 @@ fi
 # What bash completes the last of these words with.
 completed() { # WORDS..
     bash -c '
-        . completions/golly_canon.bash
+        . "$COMPLETIONS"
         COMP_WORDS=("$@")
         COMP_CWORD=$(($# - 1))
         _golly_canon
@@ -66,6 +69,11 @@ if command -v bash > /dev/null; then
     same_words "bash completes forms of keys" "$(completed golly_canon keys a b --form '')" "placed moved turned"
     same_words "bash completes a list behind =" "$(completed golly_canon keys --from = examples/Wire)" "examples/WireWorld.rule"
     same_words "bash completes further files" "$(completed golly_canon keys a examples/wi)" "examples/wire.rle"
+    mkdir "$folder/dashes" && touch "$folder/dashes/-x.mc" "$folder/dashes/-other.mc" "$folder/dashes/plain.mc"
+    same_words "bash completes a file that begins with -" "$(cd "$folder/dashes" && completed golly_canon canon -x)" "./-x.mc"
+    same_words "bash completes such a file among others" "$(cd "$folder/dashes" && completed golly_canon keys '')" "./-x.mc ./-other.mc plain.mc"
+    same_words "bash completes such a file after its folder" "$(cd "$folder/dashes" && completed golly_canon keys plain.mc ./-)" "./-x.mc ./-other.mc"
+    same_words "bash completes an option before such a file" "$(cd "$folder/dashes" && completed golly_canon canon --fo)" "--form"
     same_words "bash completes tables behind =" "$(completed golly_canon step --table = examples/Wire)" "examples/WireWorld.rule"
 fi
 
@@ -79,13 +87,13 @@ zsh_options() { # [COMMAND]
     awk -v command="$1" '
         /^case / { is_case = 1 }
         is_case && /^    [a-z |]*\)$/ { on = 0; count = split($0, names, /[ |)]+/); for (i = 1; i <= count; i++) on = on || names[i] == command }
-        is_case ? command != "" && on : command == ""' completions/_golly_canon | grep -oE -- "[{,']--?[a-zA-Z]+" | cut -c 2-
+        is_case ? command != "" && on : command == ""' completions/_golly_canon | grep -oE -- "[{,']--?[a-zA-Z]+(-[a-zA-Z]+)*" | cut -c 2-
 }
 # What fish offers: the options of a line without a condition stand at each command, the others where their condition says.
 fish_options() { # [COMMAND]
     condition=${1:+__fish_seen_subcommand_from $1}
     awk -v condition="${condition:-__fish_use_subcommand}" '!/ -n / || index($0, condition)' completions/golly_canon.fish |
-        sed -n 's/^complete \(.*\)/\1/p' | grep -oE -- '-[sl] [a-zA-Z]+' | sed 's/-s /-/; s/-l /--/'
+        sed -n 's/^complete \(.*\)/\1/p' | grep -oE -- '-[sl] [a-zA-Z]+(-[a-zA-Z]+)*' | sed 's/-s /-/; s/-l /--/'
 }
 for shell in zsh fish; do
     same_words "$shell has the options" "$(${shell}_options)" "$(options)"
