@@ -3,9 +3,9 @@
 where a newcomer begins link to Golly and to what describes the formats; no clause is wider than 100 columns; no line of documents, definitions and proofs is
 too wide; the man page has a date; each place that repeats the version has that of the file VERSION; and each place that names the kinds of fault has them all,
 with their numbers (scripts/kinds says which places). Each figure with a unit in README is the one of the page that measures it. Each page and each `--help`
-that gives the limit of squares gives that of a form too. Each check in the folders of tests/ is run, by tests/all or by another one. The files that
-docs/ADDING.md says to extend for a new command have the names that it gives, as those have that ARCHITECTURE follows a command through. And ARCHITECTURE has
-each crate of crates.txt, once.
+that gives the limit of squares gives that of a form too, and both are those of the code. Each tool that lists duplicates, and each page that says so, has the
+same form where none is named. Each check in the folders of tests/ is run, by tests/all or by another one. The files that docs/ADDING.md says to extend for a
+new command have the names that it gives, as those have that ARCHITECTURE follows a command through. And ARCHITECTURE has each crate of crates.txt, once.
 
 usage: tests/documents/documents.py
 """
@@ -21,7 +21,7 @@ sys.path.insert(0, os.path.dirname(os.path.dirname(os.path.abspath(__file__))))
 from shared import counting  # noqa: E402
 
 TOP = os.path.dirname(os.path.dirname(os.path.dirname(os.path.abspath(__file__))))
-TOP_PAGES = ["README.md", "CHANGELOG.md", "CONTRIBUTING.md", "SECURITY.md", "tests/README.md"]
+TOP_PAGES = ["README.md", "CHANGELOG.md", "CONTRIBUTING.md", "SECURITY.md", "tests/README.md", "packages/npm/README.md", "packages/wheel/README.md"]
 DOCUMENTS = [*TOP_PAGES, *sorted(f"docs/{it}" for it in os.listdir(os.path.join(TOP, "docs")) if it.endswith(".md"))]
 # A path in backticks: of a folder at the top, or of a crate, whose name may stand without `crates/`.
 NAMED = re.compile(r"`((?:docs|tests|scripts|bench|examples|include|completions|packages|python|crates)/[\w./*-]+|(?:[a-z]+_)+[a-z]+/(?:src|specs|proofs)/[\w./+*-]+)`")
@@ -171,9 +171,42 @@ def of_figures():
         yield f"README.md: {it[0]} is measured on another page, which MEASURED names", it.start() in measured
 
 
+# The form of the command `duplicates` where none is named, and every other place that has it: the code of the tools, their help, and the pages. The pages are
+# read as one line.
+DEFAULT = ("crates/command_line/src/plans/requests.rt", r'"duplicates" => match any_files\(alloc, found, Form::(\w+), DUPLICATES\)')
+SAME_DEFAULT = [
+    ("crates/command_line/src/plans/commands.rt", r'any_files\(alloc, "duplicates", DUPLICATES, (\w+)_UNLESS_GIVEN\)'),
+    (HELP, r" (placed|moved|turned) [a-z ]+ \(the default\) turned .* The default is `\1`, because Golly "),
+    ("examples/collection.py", r' FORM = "(\w+)" .*add_argument\("--form", choices=FORMS, default=FORM,'),
+    ("examples/duplicates.py", r'^.*?\(`(\w+)`, as the command `duplicates` of the program has it\).* FORM = "\1" .* form = words\[2\] if len\(words\) == 3 else FORM '),
+    ("packages/npm/command.mjs", r'if it isn\'t given, placed for keys, and (\w+) for duplicates .* takenAll\(words, \[\], "\1"\)'),
+    (PAGE, r"The form is \.B (\w+) if none is given, because Golly "),
+    ("docs/FORMATS.md", r"Unless `--form` names another one the form is `(\w+)`, "),
+    ("docs/COLLECTIONS.md", r"Without `--form` it takes `(\w+)`, as the command `duplicates` "),
+    ("docs/DECISIONS.md", r"\*\*`duplicates` takes the form `(\w+)` by default"),
+]
+
+
+def of_defaults():
+    """Whether each tool that lists duplicates, and each page that says so, has the form of the command `duplicates` where none is named."""
+    path, pattern = DEFAULT
+    form = re.search(pattern, text_of(path))
+    yield f"{path}: {pattern}", bool(form)
+    for path, pattern in SAME_DEFAULT if form else []:
+        found = re.search(pattern, " ".join(text_of(path).split()))
+        yield f"{path}: the form {form[1].lower()} by default, and not {found and found[1]}", bool(found) and found[1].lower() == form[1].lower()
+
+
+# The constants of the two limits of squares, and how pages write them.
+MOST_SQUARES = [("crates/pattern_sources/src/patterns.rt", "2^31"), ("crates/life_forms/src/patterns.rt", "2^21")]
+
+
 def of_squares():
     """Whether the limit of squares of a form is given wherever that of a command is: in each page, and in the status 4 of each help of a command that takes a
-    form."""
+    form. And whether both are those of the code."""
+    for path, limit in MOST_SQUARES:
+        found = re.search(r"(?m)^pub const MOST_SQUARES: u64 = 1 << (\d+);$", text_of(path))
+        yield f"{path}: the limit {limit}, and not {found and found[0]}", bool(found) and f"2^{found[1]}" == limit
     for document in [*DOCUMENTS, PAGE]:
         text = text_of(document)
         yield f"{document}: 2^31 squares, and 2^21 of a form", "2^31" not in text or "2^21" in text
@@ -254,6 +287,7 @@ def findings():
     yield from of_version()
     yield from of_figures()
     yield from of_squares()
+    yield from of_defaults()
     yield from of_crates()
     yield from of_kinds()
     yield from of_checks()
