@@ -543,5 +543,13 @@ verdict "keys of what is turned" "$problems"
 # Without the toolchain, at the top of the repository.
 cp -r "$top/tests" . && program_with "cat > canon.py" > without && sh without > out 2>&1
 verdict "the canonical text without the toolchain" "$(./golly_canon canon examples/glider.mc | diff out -)"
+mkdir flat flat/patterns && cp patterns/glider.rle patterns/old/glider.mc patterns/block.mc patterns/still/block.rle examples/gosper_glider_gun.mc flat/patterns
+echo 'no pattern' > flat/patterns/other
+program_with "for file in patterns" > flat/listed && (cd flat && cp -r ../tests ../canon.py . && sh listed > ../out 2> ../err)
+problems=
+equal "how many duplicates" "$(grep -c . out)" 4
+equal "the refused file" "$(tr -s '\n ' ' ' < err)" "line 1: NoHeader in patterns/other "
+equal "the lines" "$(cat out)" "$(cd flat && golly_canon keys --form turned patterns/* 2> ../err | sort | uniq -w 64 -D)"
+verdict "the duplicates without the toolchain" "$problems"
 
 ended
