@@ -122,7 +122,8 @@ enum {
 /* `limit`, of each call: how many different squares the store of the call may hold, including those that it makes on the way to the answer. Squares in
  * which each cell is 0 don't count. Two things are proved of the limit: a call returns Full only if it needs more different squares than the limit (in the
  * forms moved and turned more than 2^21, if that is less), and it gives a text, a key or a comparison only if no more than the limit are needed to read
- * the files. So a call on files in which each cell is 0 never returns Full.
+ * the files. So a call on files in which each cell is 0 never returns Full. (The first isn't proved of golly_canon_step_generations, because a leap of
+ * HashLife also stores squares that its answer doesn't need.)
  *
  * A limit of `14 * length + 264` suffices to read a file. For two files take the sum of both; for a stream `length` is the number of all bytes that are
  * fed. That is proved too: with this limit, canon, to_rle, show, same, and the calls with the form placed, never return Full. No such number is known for
