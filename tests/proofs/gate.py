@@ -132,6 +132,9 @@ def main():
             row(f"{name} changed", found, 0, r"^small is proved over kept work, in ", r"^small: 2 of 2 edits refused in ", r"^\d+ passed, 0 failed$")
             counting.row(f"{name} changed: the crate above it", [] if ("hello is proved over kept work" in found[1]) == is_seen else [found[1][-900:]])
         with open(changed, "w", encoding="utf-8") as it:
+            it.write(f"{SMALL}\n#[cfg(test)]\nmod tests;\n")
+        row("a file of tests is missing", run(folder, GATE, "changed"), 1, r"^FAILED  small isn't proved any more: ", r"^\d+ passed, [1-9]\d* failed$")
+        with open(changed, "w", encoding="utf-8") as it:
             it.write(SMALL)
         row("a script that loses an edit", run(folder, "-c", BROKEN, LOSES_AN_EDIT, "edits"), 1,
             r"^FAILED  the edit small/after_is_two_more.edit isn't refused$", r"^\d+ passed, [1-9]\d* failed$")
