@@ -456,7 +456,8 @@ show_whole words none =
 
 step_whole : (words : List Text) → IsWholeAt words (leaf step_line)
 step_whole words none =
-    let all : ArePlain (leaf step_line).rules = (inl (refl, omega arith), (inl (refl, omega arith), (inr (inl (refl, omega arith)), (inr (inr refl), tt)))) in
+    let all : ArePlain (leaf step_line).rules =
+    (inl (refl, omega arith), (inl (refl, omega arith), (inl (refl, omega arith), (inr (inl (refl, omega arith)), (inr (inr refl), tt))))) in
     inl (StepTask, refl, one_there words (leaf step_line) all none _ (codes "FILE") refl)
 
 convert_whole : (words : List Text) → IsWholeAt words (leaf convert_line)

@@ -11,7 +11,7 @@ use Rattle.command_line.specs.declared.plans.Form.{Form}
 use Rattle.command_line.specs.declared.plans.Form.TheVariants.{Placed}
 use Rattle.command_line.specs.declared.plans.KeysPlan.{KeysPlan}
 use Rattle.command_line.specs.declared.plans.Task.{Task}
-use Rattle.command_line.specs.declared.plans.Task.TheVariants.{Canon, Convert, Same, Show, Step, StepTable}
+use Rattle.command_line.specs.declared.plans.Task.TheVariants.{Canon, Convert, Same, Show, Step, StepTable, Later, LaterTable}
 use Rattle.command_line.specs.declared.plans.TaskPlan.{TaskPlan}
 use Rattle.command_line.specs.declared.plans.Request.{Request}
 use Rattle.command_line.specs.declared.plans.Request.TheVariants.{Work, Keys, Duplicates}
@@ -28,8 +28,10 @@ files_of_task (Canon form) rows p ((file, none), is) = (λ some. absurd (has_non
 files_of_task (Convert target) rows p ((file, none), to) = (λ some. absurd (has_none p.second none some), λ bad. absurd bad)
 files_of_task (Same form) rows p ((first, second, some), is) = (λ there. tt, λ has. some)
 files_of_task Show rows p (file, none) = (λ some. absurd (has_none p.second none some), λ bad. absurd bad)
-files_of_task Step rows p ((file, none), table) = (λ some. absurd (has_none p.second none some), λ bad. absurd bad)
-files_of_task StepTable rows p (first, second, some) = (λ there. tt, λ has. some)
+files_of_task Step rows p ((file, none), table, one) = (λ some. absurd (has_none p.second none some), λ bad. absurd bad)
+files_of_task StepTable rows p ((first, second, some), one) = (λ there. tt, λ has. some)
+files_of_task (Later n) rows p ((file, none), table, many) = (λ some. absurd (has_none p.second none some), λ bad. absurd bad)
+files_of_task (LaterTable n) rows p ((first, second, some), many) = (λ there. tt, λ has. some)
 
 files_of : (matches : Option (Text × List Row)) (p : TaskPlan) → IsTaskPlanOf matches p → IsSome p.second ↔ HasSecond p.task
 files_of None p is = absurd is
@@ -90,6 +92,8 @@ form_named (Same form) m p is (files, held) other = (inr is, form_found m.1 form
 form_named Show m p is held other = absurd other
 form_named Step m p is held other = absurd other
 form_named StepTable m p is held other = absurd other
+form_named (Later n) m p is held other = absurd other
+form_named (LaterTable n) m p is held other = absurd other
 
 form_of_plan : (matches : Option (Text × List Row)) (p : TaskPlan) → IsTaskPlanOf matches p → TakesOtherForm p.task → NamesOtherForm matches
 form_of_plan None p is other = absurd is

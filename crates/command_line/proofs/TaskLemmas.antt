@@ -1,20 +1,24 @@
 -- What the matches of a task's command are, why it is refused, and what its plan holds.
-use Rattle.std.proofs.Common.{◌≡◌, ◌≢◌, ◌⊎◌, ◌∙◌, true, false, codes, refl, [], List, Option, Some, None, option_map, Result, IfOk, IfErr, OnOk, Ok, Err, ap, ap₂, sym, subst, inl, inr}
+use Rattle.std.proofs.Common.{◌≡◌, ◌≢◌, ◌⊎◌, ◌∙◌, true, false, codes, refl, [], List, Option, Some, None, ℕ, unwrap_or, option_map, Result, IfOk, IfErr, OnOk, Ok, Err, ap, ap₂, sym, subst, inl, inr}
 use Rattle.std.proofs.lemmas.Bool.{false≢true}
 use Rattle.std.proofs.lemmas.Result.{IfOk-weaker, IfErr-weaker}
 use Rattle.std.specs.Str.{bytes_eq}
+use Rattle.life_base.specs.Numbers.{u64_of}
 use Rattle.clap.specs.Words.{Row, Text, first_of, found_of, rows_of, subcommand_name_of, subcommand_rows_of}
 use Rattle.clap.specs.declared.parser.matches.ArgMatches.{ArgMatches}
 use Rattle.clap.specs.declared.parser.matches.ArgMatches.TheViews.{out-ArgMatches, out-SubCommand}
 use Rattle.std.specs.Box.{box_value}
-use Rattle.command_line.specs.Plans.{AreOfTask, AreWhole, Explains, HasNoForm, HasNoFormat, HasOneFile, HasRequired, HoldsFiles, HoldsFlag, HoldsForm, HoldsMatches, IsFoundAmong, IsTaskPlanOf, NamesInputTwice, NamesNoForm, NamesNoFormat, RefusesKeys, RefusesWord, TakesAnyFiles, command_of, target_word}
+use Rattle.command_line.specs.Plans.{AreOfTask, AreWhole, Explains, HasNoForm, HasNoFormat, HasNoNumber, HasOneFile, HasRequired, HoldsFiles, HoldsFlag, HoldsForm, HoldsGenerations, HoldsMatches, IsFoundAmong, IsTaskPlanOf, NamesInputTwice, NamesNoForm, NamesNoFormat, NamesNoNumber, NamesNoValue, RefusesKeys, RefusesWord, TakesAnyFiles, command_of, target_word}
 use Rattle.command_line.specs.declared.plans.Form.{Form}
 use Rattle.command_line.specs.declared.plans.Target.{Target}
 use Rattle.command_line.specs.declared.plans.Task.{Task}
-use Rattle.command_line.specs.declared.plans.Task.TheVariants.{Canon, Convert, Same, Show, Step, StepTable}
+use Rattle.command_line.specs.declared.plans.Task.TheVariants.{Canon, Convert, Same, Show, Step, StepTable, Later, LaterTable}
 use Rattle.command_line.specs.declared.plans.TaskPlan.{TaskPlan}
 use Rattle.command_line.specs.declared.plans.Usage.{Usage}
 use Rattle.command_line.specs.declared.plans.Usage.TheVariants.{Words, TwoInputs, Memory}
+
+some_of : (a b : Text) → Some a ≡ Some b → a ≡ b
+some_of a b e = ap (λ (o : Option Text). unwrap_or o a) e
 
 -- two literal words differ where the test computes so
 pub apart : (a b : Text) → bytes_eq a a ≡ true → bytes_eq a b ≡ false → a ≢ b
@@ -27,6 +31,8 @@ file_of_task (Same form) rows other h = absurd (other refl)
 file_of_task Show rows other h = h
 file_of_task Step rows other h = h
 file_of_task StepTable rows other h = h
+file_of_task (Later n) rows other h = h
+file_of_task (LaterTable n) rows other h = h
 
 -- each task but `same` has the file FILE
 pub file_of : (x command : Text) (rows : List Row) → bytes_eq x x ≡ true → bytes_eq x (codes "same") ≡ false → command ≡ x → AreOfTask (Some (command, rows))
@@ -41,6 +47,8 @@ format_of command rows is (Same form, named, h) = absurd (apart (codes "same") (
 format_of command rows is (Show, named, h) = absurd (apart (codes "show") (codes "convert") refl refl (sym named ∙ is))
 format_of command rows is (Step, named, h) = absurd (apart (codes "step") (codes "convert") refl refl (sym named ∙ is))
 format_of command rows is (StepTable, named, h) = absurd (apart (codes "step") (codes "convert") refl refl (sym named ∙ is))
+format_of command rows is (Later n, named, h) = absurd (apart (codes "step") (codes "convert") refl refl (sym named ∙ is))
+format_of command rows is (LaterTable n, named, h) = absurd (apart (codes "step") (codes "convert") refl refl (sym named ∙ is))
 
 -- `same` has A and B
 pub pair_of : (command : Text) (rows : List Row) → command ≡ codes "same" → AreOfTask (Some (command, rows))
@@ -51,6 +59,8 @@ pair_of command rows is (Same form, named, h) = h
 pair_of command rows is (Show, named, h) = absurd (apart (codes "show") (codes "same") refl refl (sym named ∙ is))
 pair_of command rows is (Step, named, h) = absurd (apart (codes "step") (codes "same") refl refl (sym named ∙ is))
 pair_of command rows is (StepTable, named, h) = absurd (apart (codes "step") (codes "same") refl refl (sym named ∙ is))
+pair_of command rows is (Later n, named, h) = absurd (apart (codes "step") (codes "same") refl refl (sym named ∙ is))
+pair_of command rows is (LaterTable n, named, h) = absurd (apart (codes "step") (codes "same") refl refl (sym named ∙ is))
 
 -- a task's command is one of these five
 pub no_other : (command : Text) (rows : List Row) → command ≢ codes "canon" → command ≢ codes "convert" → command ≢ codes "same" → command ≢ codes "show"
@@ -61,6 +71,8 @@ no_other command rows canon convert same show step (Same form, named, h) = same 
 no_other command rows canon convert same show step (Show, named, h) = show named
 no_other command rows canon convert same show step (Step, named, h) = step named
 no_other command rows canon convert same show step (StepTable, named, h) = step named
+no_other command rows canon convert same show step (Later n, named, h) = step named
+no_other command rows canon convert same show step (LaterTable n, named, h) = step named
 
 -- the plan of a task over one file
 pub over_one : (command : Text) (rows : List Row) (task : Task) (r : Result TaskPlan Usage) → command ≡ command_of task
@@ -88,6 +100,18 @@ form_is_held default rows form (inr named) (word, found, no_form) = no_form form
 pub format_is_held : (rows : List Row) (target : Target) → first_of (codes "to") rows ≡ Some (target_word target) → ¬ HasNoFormat rows
 format_is_held rows target named (word, found, no_format) = no_format target cc
 
+-- and a number of generations by a word that isn't no number
+pub number_is_held : (rows : List Row) (generations : Option ℕ) → HoldsGenerations rows generations → ¬ HasNoNumber rows
+number_is_held rows None none (word, found, no_number) = absurd cc
+number_is_held rows (Some n) (named, there, is) (word, found, no_number) =
+    let same : named ≡ word = some_of named word (sym there ∙ found) in
+    no_number n (ap u64_of (sym same) ∙ is)
+
+-- no other command than `step` has a number of generations
+takes_no_number : (x command : Text) (rows : List Row) → bytes_eq x x ≡ true → bytes_eq x (codes "step") ≡ false → command ≡ x
+    → ¬ NamesNoNumber (Some (command, rows))
+takes_no_number x command rows same other is named = apart x (codes "step") same other (sym is ∙ named.0)
+
 -- no other command than `convert` has a format
 pub takes_no_format : (x command : Text) (rows : List Row) → bytes_eq x x ≡ true → bytes_eq x (codes "convert") ≡ false → command ≡ x
     → ¬ NamesNoFormat (Some (command, rows))
@@ -101,14 +125,26 @@ takes_no_form x command rows same canon pair keys groups is (inr (inl e), word) 
 takes_no_form x command rows same canon pair keys groups is (inr (inr (inl e)), word) = apart x (codes "keys") same keys (sym is ∙ e)
 takes_no_form x command rows same canon pair keys groups is (inr (inr (inr e)), word) = apart x (codes "duplicates") same groups (sym is ∙ e)
 
+-- neither of the three words is at fault
+no_value : (m : Option (Text × List Row)) → (¬ NamesNoFormat m) → (¬ NamesNoForm m) → (¬ NamesNoNumber m) → ¬ NamesNoValue m
+no_value m format form number (inl h) = format h
+no_value m format form number (inr (inl h)) = form h
+no_value m format form number (inr (inr h)) = number h
+
+out_of_memory : (m : Text × List Row) (usage : Usage) → AreOfTask (Some m) → (¬ NamesNoValue (Some m)) → (¬ NamesInputTwice (Some m)) → usage ≡ Memory
+    → Explains [] (Some m) usage
+out_of_memory m usage task value once is = subst (Explains [] (Some m)) (sym is) (refl, task, value, once)
+
 -- all that was left was to copy the names of the files
-pub no_memory : (m : Text × List Row) (r : Result TaskPlan Usage) → AreOfTask (Some m) → (¬ NamesNoFormat (Some m)) → (¬ NamesNoForm (Some m))
-    → (¬ NamesInputTwice (Some m)) → IfErr r (λ usage. usage ≡ Memory) → IfErr r (Explains [] (Some m))
-no_memory m r task format form once =
-    IfErr-weaker r _ (Explains [] (Some m)) (λ usage is. subst (Explains [] (Some m)) (sym is) (refl, task, format, form, once))
+pub no_memory : (m : Text × List Row) (x : Text) (r : Result TaskPlan Usage) → bytes_eq x x ≡ true → bytes_eq x (codes "step") ≡ false → m.0 ≡ x
+    → AreOfTask (Some m) → (¬ NamesNoFormat (Some m)) → (¬ NamesNoForm (Some m)) → (¬ NamesInputTwice (Some m)) → IfErr r (λ usage. usage ≡ Memory)
+    → IfErr r (Explains [] (Some m))
+no_memory m x r same other named task format form once =
+    let number = takes_no_number x m.0 m.1 same other named in
+    IfErr-weaker r _ (Explains [] (Some m)) (λ usage is. out_of_memory m usage task (no_value (Some m) format form number) once is)
 
 -- a word at fault explains the refusal
-pub word_explains : (m : Text × List Row) (is_such : Type 0) (usage : Usage) → (is_such → NamesNoFormat (Some m) ⊎ NamesNoForm (Some m))
+pub word_explains : (m : Text × List Row) (is_such : Type 0) (usage : Usage) → (is_such → NamesNoValue (Some m))
     → (¬ NamesInputTwice (Some m)) → RefusesWord is_such usage → Explains [] (Some m) usage
 word_explains m is_such (Words error) names once (inl h) = inr (inr (inl (refl, names h.0, once, h.1)))
 word_explains m is_such (Words error) names once (inr out) = inl out
@@ -122,7 +158,20 @@ files_explain m (Words error) takes once (inl (inl h)) = inr (inr (inr (refl, (t
 files_explain m (Words error) takes once (inl (inr out)) = inl out
 files_explain m TwoInputs takes once (inl h) = absurd h
 files_explain m Memory takes once (inl h) = absurd h
-files_explain m usage takes once (inr h) = word_explains m (HasNoForm m.1) usage (λ word. inr (inr (inr takes), word)) once h
+files_explain m usage takes once (inr h) = word_explains m (HasNoForm m.1) usage (λ word. inr (inl (inr (inr takes), word))) once h
+
+-- why `step` has no plan: the word behind --generations, or no memory for the names of the files
+step_usage : (m : Text × List Row) (usage : Usage) → m.0 ≡ codes "step" → AreOfTask (Some m) → (¬ NamesNoFormat (Some m)) → (¬ NamesNoForm (Some m))
+    → (¬ NamesInputTwice (Some m)) → RefusesWord (HasNoNumber m.1) usage ⊎ ((usage ≡ Memory) × ¬ HasNoNumber m.1) → Explains [] (Some m) usage
+step_usage m usage is task format form once (inl h) = word_explains m (HasNoNumber m.1) usage (λ word. inr (inr (is, word))) once h
+step_usage m usage is task format form once (inr (none, held)) =
+    out_of_memory m usage task (no_value (Some m) format form (λ named. held named.1)) once none
+
+pub step_explains : (m : Text × List Row) (r : Result TaskPlan Usage) → m.0 ≡ codes "step" → AreOfTask (Some m) → (¬ NamesNoFormat (Some m))
+    → (¬ NamesNoForm (Some m)) → (¬ NamesInputTwice (Some m))
+    → IfErr r (λ usage. RefusesWord (HasNoNumber m.1) usage ⊎ ((usage ≡ Memory) × ¬ HasNoNumber m.1)) → IfErr r (Explains [] (Some m))
+step_explains m r is task format form once =
+    IfErr-weaker r _ (Explains [] (Some m)) (λ usage h. step_usage m usage is task format form once h)
 
 -- a command over any number of files is one of these two
 pub task_left : (m : Text × List Row) → m.0 ≢ codes "keys" → m.0 ≢ codes "duplicates" → AreWhole (Some m) → AreOfTask (Some m)

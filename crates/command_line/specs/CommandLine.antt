@@ -54,9 +54,9 @@ same_line = with_explain (with_rule (two_files_line (codes "same")) (option (cod
 abbrev pub show_line : App
 show_line = with_explain (one_file_line (codes "show"))
 
--- step FILE, with an optional --table RULE and --explain
+-- step FILE, with an optional --table RULE, --generations N and --explain
 abbrev pub step_line : App
-step_line = with_explain (with_rule (one_file_line (codes "step")) (option (codes "table")))
+step_line = with_explain (with_rule (with_rule (one_file_line (codes "step")) (option (codes "table"))) (option (codes "generations")))
 
 -- files by their places, any number of them
 abbrev pub files_rule : Rule

@@ -1,6 +1,7 @@
 -- What the words of a command line ask for.
-use Rattle.std.specs.Prelude.{◌≡◌, ◌≢◌, ◌⊎◌, ◌<◌, ◌+◌, [], ℕ, Bool, true, false, List, Option, Some, None, IsSome, MatchOption, codes, string_bytes, option_map, unwrap_or, map, count_by}
+use Rattle.std.specs.Prelude.{◌≡◌, ◌≢◌, ◌⊎◌, ◌<◌, ◌+◌, [], ℕ, Bool, true, false, List, Option, Some, None, IsSome, MatchOption, codes, string_bytes, option_map, unwrap_or, map, count_by, Result, Ok}
 use Rattle.std.specs.Str.{bytes_eq}
+use Rattle.life_base.specs.Numbers.{u64_of}
 use Rattle.clap.specs.Words.{Row, Text, Kinds, IsAmong, all_of, first_of, kind_of, one_of}
 use Rattle.clap.specs.declared.error.kind.ErrorKind.{ErrorKind}
 use Rattle.clap.specs.declared.error.kind.ErrorKind.TheVariants.{InvalidSubcommand, InvalidValue, MissingRequiredArgument, OutOfMemory}
@@ -9,7 +10,7 @@ use Rattle.command_line.specs.declared.plans.Form.TheVariants.{Placed, Moved, Tu
 use Rattle.command_line.specs.declared.plans.Job.{Job}
 use Rattle.command_line.specs.declared.plans.Job.TheVariants as jobs
 use Rattle.command_line.specs.declared.plans.Task.{Task}
-use Rattle.command_line.specs.declared.plans.Task.TheVariants.{Canon, Convert, Same, Show, Step, StepTable}
+use Rattle.command_line.specs.declared.plans.Task.TheVariants.{Canon, Convert, Same, Show, Step, StepTable, Later, LaterTable}
 use Rattle.command_line.specs.declared.plans.Target.{Target}
 use Rattle.command_line.specs.declared.plans.Target.TheVariants.{Rle, Mc}
 use Rattle.command_line.specs.declared.plans.Plan.{Plan}
@@ -43,6 +44,8 @@ task_of (jobs.Convert target) = Convert target
 task_of jobs.Same = Same Placed
 task_of jobs.Step = Step
 task_of jobs.StepTable = StepTable
+task_of (jobs.Later generations) = Later generations
+task_of (jobs.LaterTable generations) = LaterTable generations
 
 -- the same plan, with the task of its job, and with this for whether an error is explained
 abbrev pub task_plan_of : Bool → Plan → TaskPlan
@@ -62,11 +65,14 @@ command_of (Same form) = codes "same"
 command_of Show = codes "show"
 command_of Step = codes "step"
 command_of StepTable = codes "step"
+command_of (Later generations) = codes "step"
+command_of (LaterTable generations) = codes "step"
 
 -- the task has a second file
 abbrev pub HasSecond : Task → Type 0
 HasSecond (Same form) = Unit {0}
 HasSecond StepTable = Unit {0}
+HasSecond (LaterTable generations) = Unit {0}
 HasSecond _ = ⊥
 
 -- the only file is FILE
@@ -83,14 +89,21 @@ abbrev pub HoldsForm : Form → List Row → Form → Type 0
 HoldsForm default rows form =
     ((first_of (codes "form") rows ≡ None) × (form ≡ default)) ⊎ (first_of (codes "form") rows ≡ Some (form_word form))
 
+-- the number of generations is the one that was asked for, or there is none where none was
+abbrev pub HoldsGenerations : List Row → Option ℕ → Type 0
+HoldsGenerations rows generations = MatchOption generations (first_of (codes "generations") rows ≡ None)
+    (λ n. (word : Text) × (first_of (codes "generations") rows ≡ Some word) × (u64_of word ≡ Ok n))
+
 -- the plan's files and options are those that were found for the task's command
 abbrev pub HoldsMatches : Task → List Row → TaskPlan → Type 0
 HoldsMatches (Canon form) rows p = HasOneFile rows p × HoldsForm Placed rows form
 HoldsMatches (Convert target) rows p = HasOneFile rows p × (first_of (codes "to") rows ≡ Some (target_word target))
 HoldsMatches (Same form) rows p = HoldsFiles (codes "A") (codes "B") rows p × HoldsForm Placed rows form
 HoldsMatches Show rows p = HasOneFile rows p
-HoldsMatches Step rows p = HasOneFile rows p × (first_of (codes "table") rows ≡ None)
-HoldsMatches StepTable rows p = HoldsFiles (codes "FILE") (codes "table") rows p
+HoldsMatches Step rows p = HasOneFile rows p × (first_of (codes "table") rows ≡ None) × HoldsGenerations rows None
+HoldsMatches StepTable rows p = HoldsFiles (codes "FILE") (codes "table") rows p × HoldsGenerations rows None
+HoldsMatches (Later n) rows p = HasOneFile rows p × (first_of (codes "table") rows ≡ None) × HoldsGenerations rows (Some n)
+HoldsMatches (LaterTable n) rows p = HoldsFiles (codes "FILE") (codes "table") rows p × HoldsGenerations rows (Some n)
 
 -- all values that were found under this name
 abbrev pub values_of : Text → List Row → List Text
@@ -179,6 +192,10 @@ HasNoFormat rows = (word : Text) × (first_of (codes "to") rows ≡ Some word) �
 abbrev pub HasNoForm : List Row → Type 0
 HasNoForm rows = (word : Text) × (first_of (codes "form") rows ≡ Some word) × ((f : Form) → word ≢ form_word f)
 
+-- the word behind --generations isn't a number below 2^64
+abbrev pub HasNoNumber : List Row → Type 0
+HasNoNumber rows = (word : Text) × (first_of (codes "generations") rows ≡ Some word) × ((n : ℕ) → u64_of word ≢ Ok n)
+
 -- the refusal of words of which this holds, as this kind; or where `clap` was out of memory, as an OutOfMemory
 abbrev pub RefusesAs : ErrorKind → Type 0 → Usage → Type 0
 RefusesAs kind is_such (Words error) = (is_such × (kind_of error ≡ kind)) ⊎ (kind_of error ≡ OutOfMemory)
@@ -202,6 +219,15 @@ NamesNoFormat (Some matches) = (matches.0 ≡ codes "convert") × HasNoFormat ma
 abbrev pub NamesNoForm : Option (Text × List Row) → Type 0
 NamesNoForm None = ⊥
 NamesNoForm (Some matches) = ((matches.0 ≡ codes "canon") ⊎ ((matches.0 ≡ codes "same") ⊎ TakesAnyFiles matches.0)) × HasNoForm matches.1
+
+-- the matches are those of `step` with a word that is no number of generations
+abbrev pub NamesNoNumber : Option (Text × List Row) → Type 0
+NamesNoNumber None = ⊥
+NamesNoNumber (Some matches) = (matches.0 ≡ codes "step") × HasNoNumber matches.1
+
+-- the word behind an option is none of its values
+abbrev pub NamesNoValue : Option (Text × List Row) → Type 0
+NamesNoValue matches = NamesNoFormat matches ⊎ (NamesNoForm matches ⊎ NamesNoNumber matches)
 
 -- the matches are those of `keys` or `duplicates`, with neither a file nor a list of files
 abbrev pub NamesNoFiles : Option (Text × List Row) → Type 0
@@ -229,17 +255,16 @@ NamesInputTwice None = ⊥
 NamesInputTwice (Some matches) = 1 < input_count matches.1
 
 -- Why words are refused in which `clap` finds these faults and these matches: since `clap` is out of memory; by the kind of a fault; in words
--- without a fault, since the word behind --to is that of no format or the one behind --form that of no form, since `keys` or `duplicates` is given
--- neither a file nor a list, or since standard input is named twice, which is reported before these. Memory comes only where none of that is so, and the
--- words ask for a task: all that is left to do is to copy the names of its files.
+-- without a fault, since the word behind --to is that of no format, the one behind --form that of no form or the one behind --generations no number, since
+-- `keys` or `duplicates` is given neither a file nor a list, or since standard input is named twice, which is reported before these. Memory comes only where
+-- none of that is so, and the words ask for a task: all that is left to do is to copy the names of its files.
 abbrev pub Explains : Kinds → Option (Text × List Row) → Usage → Type 0
 Explains faults matches (Words error) = (kind_of error ≡ OutOfMemory)
     ⊎ (IsAmong (kind_of error) faults
-    ⊎ ((faults ≡ []) × (NamesNoFormat matches ⊎ NamesNoForm matches) × ¬ NamesInputTwice matches × (kind_of error ≡ InvalidValue))
+    ⊎ ((faults ≡ []) × NamesNoValue matches × ¬ NamesInputTwice matches × (kind_of error ≡ InvalidValue))
     ⊎ ((faults ≡ []) × NamesNoFiles matches × ¬ NamesInputTwice matches × (kind_of error ≡ MissingRequiredArgument)))
 Explains faults matches TwoInputs = (faults ≡ []) × NamesInputTwice matches
-Explains faults matches Memory =
-    (faults ≡ []) × AreOfTask matches × (¬ NamesNoFormat matches) × (¬ NamesNoForm matches) × (¬ NamesInputTwice matches)
+Explains faults matches Memory = (faults ≡ []) × AreOfTask matches × (¬ NamesNoValue matches) × (¬ NamesInputTwice matches)
 
 -- why words have no plan for a job: the same; or words without a fault that name standard input once at most ask for keys or duplicates, as an
 -- InvalidSubcommand, or for another form than that of a pattern as it lies, as an InvalidValue

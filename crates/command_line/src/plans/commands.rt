@@ -197,6 +197,8 @@ fn step<'a>(alloc: Global) -> Result<Command<'a>, AllocError>
     let command = one_file(alloc, "step", STEP);
     let help = "A rule table, a .rule file; only one of the two may be -";
     let command = with_argument(command, option(alloc, "table", "RULE", help));
+    let help = "Go on by N generations in place of 1: a number from 0 to 2^64 - 1";
+    let command = with_argument(command, option(alloc, "generations", "N", help));
     with_explain(alloc, command)
 }
 

@@ -38,6 +38,7 @@ format and however they are written.",
   golly_canon show glider.mc
   golly_canon convert glider.mc --to rle > glider.rle
   golly_canon step glider.rle
+  golly_canon step glider.rle --generations 1000000
   golly_canon keys -r patterns > keys
   golly_canon duplicates -r patterns
   golly_canon COMMAND --help
@@ -99,10 +100,10 @@ on standard error says what is wrong; if - is named twice, it is the line `TwoIn
   RuleMismatch     the rule isn't the rule table's name
   StateBeyondTable a cell has a state that the rule table lacks
   GenerationTooLarge
-                   `step` from the generation 2^64 - 1
+                   a `step` to a generation above 2^64 - 1
   OutOfPlane       in a `step`, a cell outside the plane wouldn't stay 0
   TooManyCells     more than 2^20 cells aren't 0: too many for `convert --to rle`
-                   and for `step`
+                   and for `step`, but not for `step --generations N`
   InputTooLong     a file has more than 2^30 bytes
   ReadFault        a file can't be opened or read
   WriteFault       the output can't be written
@@ -243,24 +244,39 @@ Exit status:
 };
 
 pub const STEP: Help = Help {
-    summary: "Writes the next generation of a pattern file",
-    about: "Writes the canonical text of the next generation of a pattern file.
+    summary: "Writes the next generation of a pattern file, or a later one",
+    about: "Writes the canonical text of the next generation of a pattern file, or with
+--generations of a later one.
 
 A pattern under a B/S rule needs no table: B3/S23 counts the eight neighbours of a
 cell, and B1/S0V, with a V after it, the four at its sides. A pattern whose rule is a
 name needs the rule table of that name, the section @TABLE of a .rule file. The first
 line of the table that fits a cell and its neighbours gives the cell's next state. A
 cell that no line fits keeps its state. The table is read before the pattern. A pattern
-with more than 2^20 cells that aren't 0 is refused (TooManyCells).",
+with more than 2^20 cells that aren't 0 is refused (TooManyCells).
+
+--generations N goes N generations further in place of one. With 0 it writes what
+`golly_canon canon` writes, and with 1 what `golly_canon step` writes. Under a B/S rule it
+makes many generations at a time (HashLife), and takes any number of cells: with
+`--generations 1` you can step a pattern that has too many cells for `step` alone. It is
+refused (OutOfPlane) if a cell outside the plane isn't 0 in one of these generations. How
+long it takes, and how many squares it needs, depends on the pattern; you can stop it at
+any time (Ctrl-C), and nothing is written then.
+
+With --table, N generations are N steps, one after the other, each as without
+--generations. The first one that is refused ends the command. With --explain it says
+after how many generations this was.",
     notes: "Examples:
   golly_canon step glider.rle
   golly_canon step - < glider.mc
+  golly_canon step glider.rle --generations 1000000
   golly_canon step wires.rle --table WireWorld.rule
+  golly_canon step wires.rle --table WireWorld.rule --generations 100
   golly_canon step wires.rle --table WireWorld.rule --explain
 
 Exit status:
   0  the text was written
-  2  the file or the rule table was refused, or the pattern has no next generation
+  2  the file or the rule table was refused, or the pattern has no such generation
   3  a file can't be opened or read, or the output can't be written
   4  there isn't enough memory, or more than 2^31 squares are needed
   5  the command line isn't understood, or both files are -

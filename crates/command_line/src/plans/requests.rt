@@ -1,13 +1,14 @@
 //! The plan that the words ask for.
 
-ghost use Rattle.std.specs.Prelude.{◌≡◌, ◌↔◌, ◌<◌, [], IfOk, IfErr, OnOk, MatchOption, Some, IsSome, IsTrue, map, option_map, string_bytes, codes, count_by};
-ghost use Rattle.command_line.specs.Words.{bytes_eq, found_of, first_of, rows_of, subcommand_of, subcommand_rows_of, program, AreOfTask, AreWhole, IfWork, IsFoundAmong, IsPlanOf, IsRequestOf, IsTaskPlanOf, TakesOtherForm, task_of, task_plan_of, IsValueOf, HasNoForm, HasNoFormat, HasSecond, HasOneFile, HoldsFiles, HoldsFlag, HoldsForm, HoldsKeys, NamesInputTwice, Explains, ExplainsPlan, RefusesAs, RefusesKeys, RefusesWord, form_word, input_count, input_count_under, target_word, values_of};
+ghost use Rattle.std.specs.Prelude.{◌≡◌, ◌≢◌, ◌⊎◌, ◌↔◌, ◌<◌, [], ℕ, Ok, IfOk, IfErr, OnOk, MatchOption, Some, IsSome, IsTrue, map, option_map, string_bytes, codes, count_by};
+ghost use Rattle.command_line.specs.Words.{bytes_eq, found_of, first_of, rows_of, subcommand_of, subcommand_rows_of, program, AreOfTask, AreWhole, IfWork, IsFoundAmong, IsPlanOf, IsRequestOf, IsTaskPlanOf, TakesOtherForm, task_of, task_plan_of, IsValueOf, HasNoForm, HasNoFormat, HasNoNumber, HasSecond, HasOneFile, HoldsFiles, HoldsFlag, HoldsForm, HoldsGenerations, HoldsKeys, NamesInputTwice, Explains, ExplainsPlan, RefusesAs, RefusesKeys, RefusesWord, form_word, input_count, input_count_under, target_word, u64_of, values_of};
 ghost use Rattle.clap.specs.Words.{fault_of, kind_of};
 
 use super::commands::parse;
 use super::{Form, Job, KeyForm, KeysPlan, Plan, Request, Target, Task, TaskPlan, Usage};
 use clap::error::ErrorKind;
 use clap::{ArgMatches, Command, Error};
+use life_base::read_u64;
 use std::alloc::Global;
 use std::convert::AsStr;
 
@@ -19,6 +20,8 @@ const CANON: &str = "golly_canon canon [OPTIONS] <FILE>";
 const CONVERT: &str = "golly_canon convert --to <FORMAT> <FILE>";
 
 const SAME: &str = "golly_canon same [OPTIONS] <A> <B>";
+
+const STEP: &str = "golly_canon step [OPTIONS] <FILE>";
 
 const KEYS: &str = "golly_canon keys [OPTIONS] [FILE]...";
 
@@ -172,14 +175,66 @@ fn over_files(
     })
 }
 
-fn step(alloc: Global, found: &ArgMatches<'_>) -> Result<TaskPlan, Usage>
-    requires { IsFoundAmong (codes "FILE") (rows_of (found_of found.now)) }
+/// The number that a word writes in digits, below 2^64.
+fn number_of(word: &str) -> Option<u64>
+    ensures { MatchOption result ((n : ℕ) → u64_of word.now ≢ Ok n) (λ n. u64_of word.now ≡ Ok n) }
+{
+    match read_u64(word.as_bytes()) {
+        Ok(number) => Some(number),
+        Err(_) => None,
+    }
+}
+
+/// How many generations `--generations` names, where it is given.
+fn generations(alloc: Global, found: &ArgMatches<'_>) -> Result<Option<u64>, Usage>
+    ensures ok { IfOk result (HoldsGenerations (rows_of (found_of found.now))) }
+    ensures err { IfErr result (RefusesWord (HasNoNumber (rows_of (found_of found.now)))) }
+{
+    match value(found, "generations") {
+        Some(word) => match number_of(word) {
+            Some(number) => Ok(Some(number)),
+            None => Err(refusal(
+                alloc,
+                STEP,
+                "the value of --generations is a number from 0 to 2^64 - 1",
+            )),
+        },
+        None => Ok(None),
+    }
+}
+
+/// The plan of a step of so many generations, or of the one where none are named.
+fn step_of(
+    alloc: Global,
+    found: &ArgMatches<'_>,
+    generations: Option<u64>,
+) -> Result<TaskPlan, Usage>
+    requires file { IsFoundAmong (codes "FILE") (rows_of (found_of found.now)) }
+    requires generations { HoldsGenerations (rows_of (found_of found.now)) generations }
     ensures ok { IfOk result (IsTaskPlanOf (Some (codes "step", rows_of (found_of found.now)))) }
     ensures err { IfErr result (λ usage. usage ≡ Usage.Memory) }
 {
-    match value(found, "table") {
-        Some(_) => over_files(alloc, found, Task::StepTable, "FILE", "table"),
-        None => over_file(alloc, found, Task::Step),
+    match (value(found, "table"), generations) {
+        (None, None) => over_file(alloc, found, Task::Step),
+        (None, Some(number)) => over_file(alloc, found, Task::Later(number)),
+        (Some(_), None) => over_files(alloc, found, Task::StepTable, "FILE", "table"),
+        (Some(_), Some(number)) => {
+            over_files(alloc, found, Task::LaterTable(number), "FILE", "table")
+        }
+    }
+}
+
+/// The plan of `step`.
+fn step(alloc: Global, found: &ArgMatches<'_>) -> Result<TaskPlan, Usage>
+    requires { IsFoundAmong (codes "FILE") (rows_of (found_of found.now)) }
+    ensures ok { IfOk result (IsTaskPlanOf (Some (codes "step", rows_of (found_of found.now)))) }
+    ensures err { IfErr result
+        (λ usage. RefusesWord (HasNoNumber (rows_of (found_of found.now))) usage
+        ⊎ ((usage ≡ Usage.Memory) × ¬ HasNoNumber (rows_of (found_of found.now)))) }
+{
+    match generations(alloc, found) {
+        Ok(generations) => step_of(alloc, found, generations),
+        Err(usage) => Err(usage),
     }
 }
 
@@ -366,8 +421,8 @@ fn from_matches<'a>(alloc: Global, matches: &ArgMatches<'a>) -> Result<Request<'
 /// # Errors
 ///
 /// `Words` with the text to show, where `clap` finds a fault in the words, as which `--help` and `--version` count too, by its kind; where the
-/// word after `--to` is that of no format or the one after `--form` that of no form, as `InvalidValue`; where `keys` or `duplicates` is given
-/// neither a file nor a list, as `MissingRequiredArgument`; and where `clap`, or the list of their files, gets no memory, as `OutOfMemory`.
+/// word after `--to` is that of no format, the one after `--form` that of no form, or the one after `--generations` no number below 2^64, as
+/// `InvalidValue`; where `keys` or `duplicates` is given neither a file nor a list, as `MissingRequiredArgument`; and where `clap`, or the list of their files, gets no memory, as `OutOfMemory`.
 /// `TwoInputs` where words without a fault name `-` for two files, whatever follows these options. `Memory` where all is right but there is
 /// no memory for the copy of a file's name.
 pub fn request<'a, S: AsStr>(alloc: Global, words: &'a [S]) -> Result<Request<'a>, Usage>
@@ -394,6 +449,8 @@ fn job_of(task: Task) -> Option<Job>
         Task::Same(Form::Placed) => Some(Job::Same),
         Task::Step => Some(Job::Step),
         Task::StepTable => Some(Job::StepTable),
+        Task::Later(generations) => Some(Job::Later(generations)),
+        Task::LaterTable(generations) => Some(Job::LaterTable(generations)),
         Task::Canon(_) | Task::Same(_) => None,
     }
 }

@@ -3,7 +3,7 @@ use Rattle.clap.specs.Words.{found_of, rows_of, Text}
 use Rattle.command_line.specs.Plans.{HasNoForm, HasNoFormat, IsTaskPlanOf}
 use Rattle.command_line.specs.declared.plans.Form.TheVariants.{Placed}
 use Rattle.command_line.specs.declared.plans.Task.TheVariants.{Canon, Convert, Same, Show}
-use Rattle.command_line.proofs.TaskLemmas.{file_of, format_is_held, format_of, form_is_held, no_memory, no_other, over_one, over_two, pair_of, takes_no_form, takes_no_format, word_explains}
+use Rattle.command_line.proofs.TaskLemmas.{file_of, format_is_held, format_of, form_is_held, no_memory, no_other, over_one, over_two, pair_of, step_explains, takes_no_form, takes_no_format, word_explains}
 use Rattle.command_line.proofs.plans.requests.from_command.Goals as goal
 
 pub over_file-requires : goal.over_file-requires
@@ -64,14 +64,15 @@ pub returns-in-Ok-clause-refused : goal.returns-in-Ok-clause-refused
 returns-in-Ok-clause-refused c =
     let command = c.args.command.now in
     let rows = rows_of (found_of c.args.found.now) in
-    no_memory (command, rows) c.over_file.result c.requires.task (takes_no_format (codes "canon") command rows refl refl c.in-canon.is)
+    no_memory (command, rows) (codes "canon") c.over_file.result refl refl c.in-canon.is c.requires.task
+    (takes_no_format (codes "canon") command rows refl refl c.in-canon.is)
     (λ named. form_is_held Placed rows c.in-Ok.form c.in-Ok.ensures.ok named.1) c.requires.once c.over_file.ensures.err
 
 pub returns-in-Err-clause-refused : goal.returns-in-Err-clause-refused
 returns-in-Err-clause-refused c =
     let command = c.args.command.now in
     let rows = rows_of (found_of c.args.found.now) in
-    word_explains (command, rows) (HasNoForm rows) c.in-Err.usage (λ no. inr (inl c.in-canon.is, no)) c.requires.once c.in-Err.ensures.err
+    word_explains (command, rows) (HasNoForm rows) c.in-Err.usage (λ no. inr (inl (inl c.in-canon.is, no))) c.requires.once c.in-Err.ensures.err
 
 pub returns-in-Ok-target-clause-ok : goal.returns-in-Ok-target-clause-ok
 returns-in-Ok-target-clause-ok c =
@@ -84,7 +85,7 @@ pub returns-in-Ok-target-clause-refused : goal.returns-in-Ok-target-clause-refus
 returns-in-Ok-target-clause-refused c =
     let command = c.args.command.now in
     let rows = rows_of (found_of c.args.found.now) in
-    no_memory (command, rows) c.over_file-in-Ok-target.result c.requires.task
+    no_memory (command, rows) (codes "convert") c.over_file-in-Ok-target.result refl refl c.in-convert.is c.requires.task
     (λ named. format_is_held rows c.in-Ok-target.target c.in-Ok-target.ensures.ok named.1)
     (takes_no_form (codes "convert") command rows refl refl refl refl refl c.in-convert.is) c.requires.once c.over_file-in-Ok-target.ensures.err
 
@@ -105,14 +106,15 @@ pub returns-in-Ok-form-clause-refused : goal.returns-in-Ok-form-clause-refused
 returns-in-Ok-form-clause-refused c =
     let command = c.args.command.now in
     let rows = rows_of (found_of c.args.found.now) in
-    no_memory (command, rows) c.over_files.result c.requires.task (takes_no_format (codes "same") command rows refl refl c.in-same.is)
+    no_memory (command, rows) (codes "same") c.over_files.result refl refl c.in-same.is c.requires.task
+    (takes_no_format (codes "same") command rows refl refl c.in-same.is)
     (λ named. form_is_held Placed rows c.in-Ok-form.form c.in-Ok-form.ensures.ok named.1) c.requires.once c.over_files.ensures.err
 
 pub returns-in-Err-form-clause-refused : goal.returns-in-Err-form-clause-refused
 returns-in-Err-form-clause-refused c =
     let command = c.args.command.now in
     let rows = rows_of (found_of c.args.found.now) in
-    word_explains (command, rows) (HasNoForm rows) c.in-Err-form.usage (λ no. inr (inr (inl c.in-same.is), no)) c.requires.once c.in-Err-form.ensures.err
+    word_explains (command, rows) (HasNoForm rows) c.in-Err-form.usage (λ no. inr (inl (inr (inl c.in-same.is), no))) c.requires.once c.in-Err-form.ensures.err
 
 pub returns-in-show-clause-ok : goal.returns-in-show-clause-ok
 returns-in-show-clause-ok c =
@@ -124,7 +126,8 @@ pub returns-in-show-clause-refused : goal.returns-in-show-clause-refused
 returns-in-show-clause-refused c =
     let command = c.args.command.now in
     let rows = rows_of (found_of c.args.found.now) in
-    no_memory (command, rows) c.over_file-in-show.result c.requires.task (takes_no_format (codes "show") command rows refl refl c.in-show.is)
+    no_memory (command, rows) (codes "show") c.over_file-in-show.result refl refl c.in-show.is c.requires.task
+    (takes_no_format (codes "show") command rows refl refl c.in-show.is)
     (takes_no_form (codes "show") command rows refl refl refl refl refl c.in-show.is) c.requires.once c.over_file-in-show.ensures.err
 
 pub returns-in-step-clause-ok : goal.returns-in-step-clause-ok
@@ -137,5 +140,5 @@ pub returns-in-step-clause-refused : goal.returns-in-step-clause-refused
 returns-in-step-clause-refused c =
     let command = c.args.command.now in
     let rows = rows_of (found_of c.args.found.now) in
-    no_memory (command, rows) c.step.result c.requires.task (takes_no_format (codes "step") command rows refl refl c.in-step.is)
+    step_explains (command, rows) c.step.result c.in-step.is c.requires.task (takes_no_format (codes "step") command rows refl refl c.in-step.is)
     (takes_no_form (codes "step") command rows refl refl refl refl refl c.in-step.is) c.requires.once c.step.ensures.err
