@@ -1,5 +1,5 @@
 -- From the parts of a task to what it did, or why it is refused.
-use Rattle.std.proofs.Common.{◌≡◌, ◌≢◌, ◌<◌, Contains, AllPairs, arith, ℕ, ◌^◌, ◌⊎◌, inl, inr, List, [], Bool, true, false, Option, Some, None, IfSome, Result, Ok, Err, IfErr, IfOk, OnOk, IsErrAnd, ap, refl, IsTrue, ◌↔◌, subst, sym, ◌∙◌}
+use Rattle.std.proofs.Common.{◌≡◌, ◌≢◌, ◌<◌, ◌+◌, Contains, AllPairs, arith, ℕ, suc, ◌^◌, ◌⊎◌, inl, inr, List, [], Bool, true, false, Option, Some, None, IfSome, Result, Ok, Err, IfErr, IfOk, OnOk, IsErrAnd, ap, refl, IsTrue, ◌↔◌, subst, sym, ◌∙◌}
 use Rattle.std.specs.Option.{option_map_or}
 use Rattle.std.specs.Io.KnownBytes.{Appends}
 use Rattle.life_base.specs.DeviceRuns.{SourceRun, SinkRun}
@@ -31,7 +31,7 @@ use Rattle.life_table.specs.declared.table.Table.{Table}
 use Rattle.command_line.specs.declared.plans.Form.{Form}
 use Rattle.command_line.specs.declared.plans.Form.TheVariants.{Placed, Moved, Turned}
 use Rattle.command_line.specs.declared.plans.Task.{Task}
-use Rattle.command_line.specs.declared.plans.Task.TheVariants.{Canon, Convert, Same, Show, Step, StepTable}
+use Rattle.command_line.specs.declared.plans.Task.TheVariants.{Canon, Convert, Same, Show, Step, StepTable, Later, LaterTable}
 use Rattle.command_line.specs.declared.plans.Target.TheVariants.{Rle, Mc}
 use Rattle.pattern_sources.specs.declared.refusals.Refusal.{Refusal}
 use Rattle.life_cli.specs.declared.jobs.Made.{Made}
@@ -40,7 +40,9 @@ use Rattle.pattern_sources.specs.Faults.{refusal_of}
 use Rattle.life_cli.specs.Forms.{AreSameIn, HasTooLarge}
 use Rattle.pattern_sources.specs.Forms.{IsTextIn}
 use Rattle.command_line.specs.Plans.{HasSecond}
-use Rattle.life_cli.specs.Jobs.{WritesPlacedText, AreUncompared, by_first, by_second, by_form, by_first_shortage, by_second_shortage, RefusesSame, Compares, made_text, made_status, HasAnswer, TaskMakes, TaskWrites, Worked, IsWrittenInPart, FileRefuses, by_comparing, by_reading, by_writing, by_telling, HasTextByTable, HasNoTextByTable, MadeOf, RefusesLifeStep, HasTable, HasNoTable, table_by_input, table_by_lines, table_by_memory, CanonRefuses, OfFile, TaskRan, TaskRefuses}
+use Rattle.life_cli.specs.Jobs.{WritesPlacedText, AreUncompared, by_first, by_second, by_form, by_first_shortage, by_second_shortage, RefusesSame, Compares, made_text, made_status, HasAnswer, TaskMakes, TaskWrites, Worked, IsWrittenInPart, FileRefuses, by_comparing, by_reading, by_writing, by_telling, HasTextLaterByTable, IsSteppedTimes, MadeOf, RefusesFor, RefusesLifeStep, RefusesGenerations, HasTable, HasNoTable, table_by_input, table_by_lines, table_by_memory, CanonRefuses, OfFile, TaskRan, TaskRefuses}
+use Rattle.life_generations.specs.Later.{IsTextLater}
+use Rattle.life_step.specs.Refusals.{RefusesFile, RefusesPattern}
 use Rattle.life_step.specs.Stepped.{IsStepped, IsSteppedBy}
 use Rattle.pattern_sources.specs.Sources.{InputRefuses, by_length, by_source, HasNoText, by_file, by_want, RefusesInForm, AreOfInput, IsTooSmallFor, IsTooSmallToMake, IsShortageFor, IsCallShortage, RefusesMany, HasText, ComesOf}
 use Rattle.pattern_sources.proofs.SourceLemmas.{holds_more, holds_one}
@@ -179,6 +181,28 @@ module _ {X : Type 0} (Of : (Tree → Type 0) → Rule → Tree → Type 0) (ref
       by_file has.bytes has.read (inr (inl (new, limit, want, too_small)))
   refused_step (Err fault) (inr step) needed = by_file has.bytes has.read (inr (inr (step has.bytes has.is)))
 
+-- nothing comes of a pattern that isn't taken further
+pub refused_pattern : {X : Type 0} (Reason : Universe → Option Fault → Type 0) (source : SourceRun) (empty old new : Nodes) (pattern : Pattern)
+    → ReadsWhole (2 ^ 30) empty old source pattern → new.limit ≡ 2 ^ 31 → (r : Result X Fault) → IfErr r (RefusesPattern Reason pattern old new)
+    → IfErr r (HasNoText (RefusesFor Reason) source)
+refused_pattern Reason source empty old new pattern has limit (Ok x) h = tt
+refused_pattern Reason source empty old new pattern has limit (Err fault) (inl want) = by_file has.bytes has.read (inr (inl (new, limit, want)))
+refused_pattern Reason source empty old new pattern has limit (Err fault) (inr why) = by_file has.bytes has.read (inr (inr (why has.bytes has.is)))
+
+-- a text isn't stepped in a store of 2^31 squares
+pub refused_for : (Reason : Universe → Option Fault → Type 0) (text : List ℕ) (store : Nodes) (fault : Fault) → store.limit ≡ 2 ^ 31
+    → RefusesFile Reason text store fault → RefusesFor Reason text fault
+refused_for Reason text store fault limit (inl refuses) = inl refuses
+refused_for Reason text store fault limit (inr (inl want)) = inr (inl (store, limit, want))
+refused_for Reason text store fault limit (inr (inr why)) = inr (inr why)
+
+-- one step more
+pub steps_more : (table : Table) (n : ℕ) (bytes before text : List ℕ) → IsSteppedTimes table n bytes before → IsSteppedBy table before text
+    → IsSteppedTimes table (n + 1) bytes text
+steps_more table n bytes before text stepped step =
+    let e : suc n ≡ n + 1 = omega arith in
+    subst (λ (m : ℕ). IsSteppedTimes table m bytes text) e (before, stepped, step)
+
 -- a file gives a table, or none
 pub no_table_input : (source : SourceRun) (fault : Fault) → InputRefuses source fault ⊎ (fault ≡ fault_of Memory) → HasNoTable source fault
 no_table_input source fault (inl unread) = table_by_input unread
@@ -254,23 +278,26 @@ made_of_comparison form first second (Ok is_same) m makes refuses told made fail
 made_of_comparison form first second (Err fault) m makes refuses told made failed =
     subst (MadeOf (Same form) first second) (sym failed) (record { ok = tt; err = λ output. (refl, by_comparing refuses); told = told })
 
--- of a step by a table
-pub made_of_step : {X : Type 0} (make : X → Made) (items : X → List ℕ) (first second : SourceRun) (r : Result X Refusal) (m : Result Made Refusal)
-    → ((x : X) → (made_status (make x) ≡ 0) × (made_text (make x) ≡ items x)) → IfOk r (λ x. HasTextByTable first second (items x))
-    → IfErr r (HasNoTextByTable first second)
+-- of a task by a table, where `gives` relates the bytes of a file to its text by a table
+pub made_of_step : {X : Type 0} (make : X → Made) (items : X → List ℕ) (gives : Table → List ℕ → List ℕ → Type 0) (refuses : Refusal → Type 0)
+    (task : Task) (first second : SourceRun) (r : Result X Refusal) (m : Result Made Refusal)
+    → ((x : X) → (made_status (make x) ≡ 0) × (made_text (make x) ≡ items x))
+    → ((table : Table) (bytes others text : List ℕ) → IsPlainTable (lines_of others) table → gives table bytes text → TaskWrites task bytes others 0 text)
+    → ((output : SinkRun) (refusal : Refusal) → refuses refusal → TaskRefuses task first second output refusal)
+    → IfOk r (λ x. (table : Table) × HasTable second table × HasText (gives table) first (items x)) → IfErr r refuses
     → ((first.failures ≡ 1) ⊎ (second.failures ≡ 1) → IsErrAnd r (λ refusal. refusal.fault.kind ≡ ReadFault))
-    → IfOk r (λ x. m ≡ Ok (make x)) → IfErr r (λ refusal. m ≡ Err refusal) → MadeOf StepTable first second m
-made_of_step make items first second (Ok x) m is has refuses told made failed =
-    let answer = made_of_file (IsSteppedBy has.0) StepTable first second has.1.bytes (items x) has.2 (λ _. has.1.read)
-    (λ bytes stepped. (refl, (has.0, has.1.is, stepped))) in
-    let text = subst (HasAnswer StepTable first second 0) (sym (is x).1) answer in
-    subst (MadeOf StepTable first second) (sym made) (record {
-      ok = subst (λ n. HasAnswer StepTable first second n (made_text (make x))) (sym (is x).0) text;
+    → IfOk r (λ x. m ≡ Ok (make x)) → IfErr r (λ refusal. m ≡ Err refusal) → MadeOf task first second m
+made_of_step make items gives refuses task first second (Ok x) m is writes refused has none told made failed =
+    let answer = made_of_file (gives has.0) task first second has.1.bytes (items x) has.2 (λ _. has.1.read)
+    (λ bytes stepped. writes has.0 bytes has.1.bytes (items x) has.1.is stepped) in
+    let text = subst (HasAnswer task first second 0) (sym (is x).1) answer in
+    subst (MadeOf task first second) (sym made) (record {
+      ok = subst (λ n. HasAnswer task first second n (made_text (make x))) (sym (is x).0) text;
       err = tt;
       told = λ e. absurd (told e);
     })
-made_of_step make items first second (Err refusal) m is has refuses told made failed =
-    subst (MadeOf StepTable first second) (sym failed) (record { ok = tt; err = λ output. inl refuses; told = told })
+made_of_step make items gives refuses task first second (Err refusal) m is writes refused has none told made failed =
+    subst (MadeOf task first second) (sym failed) (record { ok = tt; err = λ output. refused output refusal none; told = told })
 
 -- a test that answers no
 pub not_so : (answer : Bool) (P : Type 0) → IsTrue answer ↔ P → answer ≡ false → ¬ P
@@ -309,6 +336,14 @@ unwritten StepTable first second output made refusal other makes broken =
     let stepped : HasText (IsSteppedBy table) first (made_text made) =
     record { bytes = makes.first_bytes; read = makes.first_read; is = makes.writes.1.2 } in
     inr (broken.0, (made_text made, (table, has, stepped), broken.1))
+unwritten (Later n) first second output made refusal other makes broken =
+    (broken.0, broken_text (IsTextLater n) (RefusesGenerations n) first output _ _ refusal.fault makes.first_read makes.writes.1 broken.1)
+unwritten (LaterTable n) first second output made refusal other makes broken =
+    let table = makes.writes.1.0 in
+    let has : HasTable second table = record { bytes = makes.second_bytes; read = makes.second_read tt; is = makes.writes.1.1 } in
+    let stepped : HasText (IsSteppedTimes table n) first (made_text made) =
+    record { bytes = makes.first_bytes; read = makes.first_read; is = makes.writes.1.2 } in
+    inr (broken.0, (made_text made, (table, has, stepped), broken.1))
 
 -- nothing comes of a pattern in a form
 pub refused_form : (form : Form) (first second : SourceRun) (output : SinkRun) (refusal : Refusal) → ¬ WritesPlacedText (Canon form)
@@ -339,6 +374,8 @@ canonical_as (Same form) first second output is done = absurd is
 canonical_as Show first second output is done = absurd is
 canonical_as Step first second output is done = absurd is
 canonical_as StepTable first second output is done = absurd is
+canonical_as (Later n) first second output is done = absurd is
+canonical_as (LaterTable n) first second output is done = absurd is
 
 worked_canonical : (task : Task) (first second : SourceRun) (output : SinkRun) (r : Result ℕ Refusal) → WritesPlacedText task
     → IfOk r (λ status. status ≡ 0) → OnOk r ((second : SourceRun) → Worked (Canon Placed) 0 first second output)
@@ -359,6 +396,8 @@ canonical_refused (Same form) first second output refusal is refused = absurd is
 canonical_refused Show first second output refusal is refused = absurd is
 canonical_refused Step first second output refusal is refused = absurd is
 canonical_refused StepTable first second output refusal is refused = absurd is
+canonical_refused (Later n) first second output refusal is refused = absurd is
+canonical_refused (LaterTable n) first second output refusal is refused = absurd is
 
 small_status : (made : Made) → made_status made < 2
 small_status (Text text) = omega arith

@@ -1,5 +1,5 @@
 -- What a task writes, by the bytes of its files, and why it is refused.
-use Rattle.std.specs.Prelude.{◌≡◌, ◌⊎◌, ◌<◌, ◌^◌, ℕ, true, false, List, [], Some, Result, IfOk, IfErr, OnOk, IsErrAnd, codes, if◌then◌else◌}
+use Rattle.std.specs.Prelude.{◌≡◌, ◌⊎◌, ◌<◌, ◌^◌, ℕ, zero, suc, true, false, List, [], Option, Some, Result, IfOk, IfErr, OnOk, IsErrAnd, codes, if◌then◌else◌}
 use Rattle.std.specs.Io.KnownBytes.{Appends}
 use Rattle.life_base.specs.DeviceRuns.{SourceRun, SinkRun}
 use Rattle.life_base.specs.Inputs.{ReadAll}
@@ -14,13 +14,14 @@ use Rattle.life_quad.specs.Store.{Nodes}
 use Rattle.life_canon.specs.Files.{Accepted, Reads, Refuses}
 use Rattle.life_canon.specs.Room.{AddsFile, IsSquareOfFile}
 use Rattle.life_canon.specs.Running.{RunRefuses}
-use Rattle.life_canon.specs.Store.{IsRead}
+use Rattle.life_canon.specs.Store.{IsRead, IsShortageOf}
 use Rattle.life_canon.specs.Texts.{IsCanonical, IsRleOf, IsShownText}
 use Rattle.life_canon.specs.Universe.{Universe}
 use Rattle.life_canon.specs.declared.pattern.Pattern.{Pattern}
 use Rattle.life_table.specs.Grammar.{IsPlainTable}
 use Rattle.life_table.specs.Reading.{RefusesTable}
 use Rattle.life_table.specs.declared.table.Table.{Table}
+use Rattle.life_generations.specs.Later.{IsTextLater, LaterRefusal}
 use Rattle.life_step.specs.Refusals.{LifeRefusal, SomeOfNextFile, SomeOfNextFileBy, TableRefusal}
 use Rattle.life_step.specs.Stepped.{IsStepped, IsSteppedBy}
 use Rattle.life_cli.specs.Forms.{AreSameIn, HasTooLarge}
@@ -30,7 +31,7 @@ use Rattle.command_line.specs.Plans.{HasSecond}
 use Rattle.command_line.specs.declared.plans.Form.{Form}
 use Rattle.command_line.specs.declared.plans.Form.TheVariants.{Placed}
 use Rattle.command_line.specs.declared.plans.Task.{Task}
-use Rattle.command_line.specs.declared.plans.Task.TheVariants.{Canon, Convert, Same, Show, Step, StepTable}
+use Rattle.command_line.specs.declared.plans.Task.TheVariants.{Canon, Convert, Same, Show, Step, StepTable, Later, LaterTable}
 use Rattle.command_line.specs.declared.plans.Target.TheVariants.{Rle, Mc}
 use Rattle.pattern_sources.specs.declared.refusals.Refusal.{Refusal}
 use Rattle.life_cli.specs.declared.jobs.Made.{Made}
@@ -48,6 +49,12 @@ Compares form first second status text =
     ((status ≡ 0) × AreSameIn form MAX_LEVEL first second × (text ≡ codes "same\n"))
     ⊎ ((status ≡ 1) × (¬ AreSameIn form MAX_LEVEL first second) × (text ≡ codes "different\n"))
 
+-- The text is what so many calls of `step` by a table make of a file, of which each takes the text of the one before: after none it is the canonical text of
+-- the file.
+abbrev pub IsSteppedTimes : Table → ℕ → List ℕ → List ℕ → Type 0
+IsSteppedTimes table zero bytes text = IsCanonical MAX_LEVEL bytes text
+IsSteppedTimes table (suc n) bytes text = (before : List ℕ) × IsSteppedTimes table n bytes before × IsSteppedBy table before text
+
 -- the status and the text of a task on the bytes of its files
 abbrev pub TaskWrites : Task → List ℕ → List ℕ → ℕ → List ℕ → Type 0
 TaskWrites (Canon form) first second status text = (status ≡ 0) × IsTextIn form MAX_LEVEL first text
@@ -58,6 +65,9 @@ TaskWrites (Same form) first second status text =
 TaskWrites Show first second status text = (status ≡ 0) × IsShownText MAX_LEVEL first text
 TaskWrites Step first second status text = (status ≡ 0) × IsStepped first text
 TaskWrites StepTable first second status text = (status ≡ 0) × ((table : Table) × IsPlainTable (lines_of second) table × IsSteppedBy table first text)
+TaskWrites (Later n) first second status text = (status ≡ 0) × IsTextLater n first text
+TaskWrites (LaterTable n) first second status text =
+    (status ≡ 0) × ((table : Table) × IsPlainTable (lines_of second) table × IsSteppedTimes table n first text)
 
 -- the files were read to their ends, and these are the status and the text of the task on their bytes
 pub record HasAnswer (task : Task) (first second : SourceRun) (status : ℕ) (text : List ℕ) : Type 0 where
@@ -151,6 +161,27 @@ RefusesStepBy table bytes fault =
     ⊎ (IsCallShortage (IsSquareOfFile bytes) (λ P. SomeOfNextFileBy P table bytes) fault
     ⊎ ((u : Universe) × Reads MAX_LEVEL bytes u × TableRefusal MAX_LEVEL table u (Some fault)))
 
+-- why bytes have no later text: they are no file; a store of 2^31 squares holds its limit, or memory is wanted; or there is such a reason against their
+-- pattern
+abbrev pub RefusesFor : (Universe → Option Fault → Type 0) → List ℕ → Fault → Type 0
+RefusesFor Reason bytes fault =
+    Refuses MAX_LEVEL bytes fault
+    ⊎ (((store : Nodes) × (store.limit ≡ 2 ^ 31) × IsShortageOf store fault)
+    ⊎ ((u : Universe) × Reads MAX_LEVEL bytes u × Reason u (Some fault)))
+
+-- why bytes aren't taken so many generations further under their own rule
+abbrev pub RefusesGenerations : ℕ → List ℕ → Fault → Type 0
+RefusesGenerations n bytes fault = RefusesFor (LaterRefusal n) bytes fault
+
+-- why a text isn't stepped by a table
+abbrev pub RefusesStepOf : Table → List ℕ → Fault → Type 0
+RefusesStepOf table text fault = RefusesFor (TableRefusal MAX_LEVEL table) text fault
+
+-- why a file isn't stepped so many times by a table: the text of a generation before the last isn't, and the refusal says how many were made
+abbrev pub RefusesTimes : Table → ℕ → List ℕ → Refusal → Type 0
+RefusesTimes table n bytes refusal =
+    (refusal.made < n) × ((text : List ℕ) × IsSteppedTimes table refusal.made bytes text × RefusesStepOf table text refusal.fault)
+
 -- all of a file was read, and it is this rule table
 pub record HasTable (source : SourceRun) (table : Table) : Type 0 where
   pub bytes : List ℕ
@@ -184,6 +215,21 @@ abbrev pub HasNoTextByTable : (first second : SourceRun) → Refusal → Type 0
 HasNoTextByTable first second refusal = (OfTable (HasNoTable second) refusal × IsUnread first)
     ⊎ OfFile (λ fault. (table : Table) × HasTable second table × HasNoText (RefusesStepBy table) first fault) refusal
 
+-- the second file is a rule table, and the first was stepped so many times to this text by it
+abbrev pub HasTextLaterByTable : ℕ → (first second : SourceRun) → List ℕ → Type 0
+HasTextLaterByTable n first second text = (table : Table) × HasTable second table × HasText (IsSteppedTimes table n) first text
+
+-- why a file isn't: nothing comes of it, or one of the steps is refused
+abbrev pub HasNoTextLater : Table → ℕ → SourceRun → Refusal → Type 0
+HasNoTextLater table n first refusal =
+    HasNoText (Refuses MAX_LEVEL) first refusal.fault
+    ⊎ ((bytes : List ℕ) × ReadAll (2 ^ 30) first.before first.after bytes × RefusesTimes table n bytes refusal)
+
+-- why there is no such text by the second file: it gives no table, and the first one is unread; or the first file isn't stepped so many times
+abbrev pub HasNoTextLaterByTable : ℕ → (first second : SourceRun) → Refusal → Type 0
+HasNoTextLaterByTable n first second refusal = (OfTable (HasNoTable second) refusal × IsUnread first)
+    ⊎ ((refusal.in_table ≡ false) × ((table : Table) × HasTable second table × HasNoTextLater table n first refusal))
+
 -- why a task is refused with this fault, and what it left of its files and the output
 abbrev pub TaskRefuses : Task → (first second : SourceRun) → SinkRun → Refusal → Type 0
 TaskRefuses (Canon Placed) first second output refusal = OfFile (CanonRefuses first output) refusal
@@ -195,6 +241,9 @@ TaskRefuses Show first second output refusal = OfFile (FileRefuses (IsShownText 
 TaskRefuses Step first second output refusal = OfFile (FileRefuses IsStepped RefusesLifeStep first output) refusal
 TaskRefuses StepTable first second output refusal = HasNoTextByTable first second refusal
     ⊎ OfFile (λ fault. (text : List ℕ) × HasTextByTable first second text × IsWrittenInPart output text fault) refusal
+TaskRefuses (Later n) first second output refusal = OfFile (FileRefuses (IsTextLater n) (RefusesGenerations n) first output) refusal
+TaskRefuses (LaterTable n) first second output refusal = HasNoTextLaterByTable n first second refusal
+    ⊎ OfFile (λ fault. (text : List ℕ) × HasTextLaterByTable n first second text × IsWrittenInPart output text fault) refusal
 
 -- what comes of a task before anything is written: what it makes of its files, or why it is refused, whatever the output; and where a source
 -- failed, that is reported

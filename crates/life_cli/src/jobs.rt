@@ -4,6 +4,7 @@ ghost use Rattle.std.specs.Prelude.{◌≡◌, ◌≢◌, ◌⊎◌, ◌<◌, �
 ghost use Rattle.life_cli.specs.Words.{Appends, SourceRun, source_run, optional_source_run, sink_run, Refusal, Refuses, Keeps, stored_squares, AreWorking, ReadsPattern, ReadsWhole, RunsCanon, AreOfInput, IsRleOf, IsShownText, fault_line, refusal_of, status_of, Reports, made_status, made_text, MadeOf, TaskMakes, Worked, OfFile, InputRefuses, IsWrittenInPart, ComesOf, AreUncompared, CanonRefuses, IsPatternIn, IsShortageFor, TaskRan, TaskRefuses, RefusesMany, HasSecond, WritesPlacedText, task_of};
 
 use crate::forms::are_same_in;
+use crate::later::{later_by_table_of, later_of};
 use crate::steps::{next_by_table_of, next_of};
 use command_line::{Form, Job, Target, Task};
 use life_base::{Fault, Kind, MAX_LEVEL, Sink, Source, deliver};
@@ -215,7 +216,15 @@ fn make<A: Source, B: Source>(
         (Task::StepTable, Some(second)) => {
             made_from_step(next_by_table_of(alloc, seeds, first, second))
         }
-        (Task::Same(_), None) | (Task::StepTable, None) => unreachable!(),
+        (Task::Later(generations), _) => {
+            made_from_text(later_of(alloc, seeds, *generations, first))
+        }
+        (Task::LaterTable(generations), Some(second)) => {
+            made_from_step(later_by_table_of(alloc, seeds, *generations, first, second))
+        }
+        (Task::Same(_), None) | (Task::StepTable, None) | (Task::LaterTable(_), None) => {
+            unreachable!()
+        }
         (Task::Convert(Target::Mc), _) => unreachable!(),
     }
 }

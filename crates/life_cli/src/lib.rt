@@ -3,6 +3,7 @@
 
 mod forms;
 mod jobs;
+mod later;
 mod origins;
 mod reports;
 mod steps;

@@ -66,7 +66,11 @@ fn table_in<B: Source>(alloc: Global, seeds: &Seeds, source: &mut B) -> Result<T
 }
 
 /// The same, and a refusal that is the table's.
-fn table_of<B: Source>(alloc: Global, seeds: &Seeds, source: &mut B) -> Result<Table, Refusal>
+pub(crate) fn table_of<B: Source>(
+    alloc: Global,
+    seeds: &Seeds,
+    source: &mut B,
+) -> Result<Table, Refusal>
     requires { B.failures source.old ≡ 0 }
     ensures ok { IfOk result (HasTable (source_run B.remaining B.failures source.old source.new)) }
     ensures err { IfErr result
@@ -79,6 +83,7 @@ fn table_of<B: Source>(alloc: Global, seeds: &Seeds, source: &mut B) -> Result<T
         Err(fault) => Err(Refusal {
             fault,
             in_table: true,
+            made: 0,
         }),
     }
 }

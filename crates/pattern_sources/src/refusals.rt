@@ -12,6 +12,8 @@ pub struct Refusal {
     pub fault: Fault,
     /// Whether a rule table was being read.
     pub in_table: bool,
+    /// How many generations were made before the one that is refused, in a run of many by a rule table. Otherwise 0.
+    pub made: u64,
 }
 
 impl From<Fault> for Refusal {
@@ -25,6 +27,7 @@ impl From<Fault> for Refusal {
         Refusal {
             fault,
             in_table: false,
+            made: 0,
         }
     }
 }
