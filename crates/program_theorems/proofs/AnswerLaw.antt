@@ -1,5 +1,5 @@
 -- What a task writes is what the bytes of its files ask for in the words of the claims.
-use Rattle.std.proofs.Common.{◌≡◌, ℕ, ◌^◌, List, [], ◌++◌, refl, sym, subst, ◌⊎◌, inl, inr, ◌↔◌, codes, Option, Some, None, Ok, IsSome, IfSome, IsSomeAnd, option_and_then}
+use Rattle.std.proofs.Common.{◌≡◌, ℕ, zero, suc, ◌^◌, List, [], ◌++◌, refl, sym, subst, ◌⊎◌, inl, inr, ◌↔◌, codes, Option, Some, None, Ok, IsSome, IfSome, IsSomeAnd, option_and_then}
 use Rattle.std.specs.Io.KnownBytes.{Appends}
 use Rattle.life_base.specs.DeviceRuns.{SourceRun}
 use Rattle.life_base.specs.Inputs.{ReadAll}
@@ -10,7 +10,8 @@ use Rattle.life_canon.specs.Least.{IsLeastText}
 use Rattle.life_canon.specs.Listing.{canon_text, canonical_file}
 use Rattle.life_canon.specs.Texts.{IsCanonical, IsShownText as LayerShown}
 use Rattle.pattern_sources.specs.Forms.{IsTextIn as LayerTextIn}
-use Rattle.life_cli.specs.Jobs.{Compares, TaskWrites, HasAnswer}
+use Rattle.life_cli.specs.Jobs.{Compares, IsSteppedTimes, TaskWrites, HasAnswer}
+use Rattle.life_table.specs.declared.table.Table.{Table as LayerTable}
 use Rattle.command_line.specs.Plans.{HasSecond as LayerSecond}
 use Rattle.command_line.specs.declared.plans.Form.{Form}
 use Rattle.command_line.specs.declared.plans.Form.TheVariants.{Placed, Moved, Turned}
@@ -21,6 +22,7 @@ use Rattle.claims.specs.Counting.{claimed_node_lines, IsCanonicalText}
 use Rattle.claims.specs.Files.{pattern_of, SayOnePattern}
 use Rattle.claims.specs.Pattern.{Pattern}
 use Rattle.claims.specs.Shown.{IsClaimedShown}
+use Rattle.claims.specs.Table.{Table}
 use Rattle.theorems.proofs.CellsLaw.{few_cells}
 use Rattle.theorems.proofs.CanonicalLaw.{canonical_so}
 use Rattle.theorems.proofs.FileLaw.{files_agree, texts_are_exact, same_to, rle_format}
@@ -30,7 +32,10 @@ use Rattle.theorems.proofs.TextLaw.{rle_of_file}
 use Rattle.theorems.proofs.StreamLaw.{all_read, appended, at_end}
 use Rattle.step_theorems.proofs.StepLaw.{stepped_is}
 use Rattle.step_theorems.proofs.StepBy.{stepped_text}
-use Rattle.program_theorems.specs.Jobs.{HasClaimedSecond, WritesCanonical, IsOutcome, IsShortFile}
+use Rattle.step_theorems.proofs.StepBy as by_table
+use Rattle.table_laws.specs.Tables.{IsTable}
+use Rattle.generation_theorems.proofs.FurtherLaw.{later-is}
+use Rattle.program_theorems.specs.Jobs.{AreClaimedSteps, HasClaimedSecond, WritesCanonical, IsOutcome, IsShortFile}
 use Rattle.program_theorems.specs.Forms.{SameIn, IsClaimedTextIn}
 use Rattle.program_theorems.specs.Layers.{LayersAgree}
 use Rattle.program_theorems.proofs.FormTexts.{moved_exact, turned_exact}
@@ -41,11 +46,13 @@ use Rattle.program_theorems.proofs.FormLaw.{moved_text_is, own_moved, own_text_o
 to_layer : (task : Task) → HasClaimedSecond task → LayerSecond task
 to_layer (tasks.Same form) h = tt
 to_layer tasks.StepTable h = tt
+to_layer (tasks.LaterTable n) h = tt
 to_layer _ h = h
 
 from_layer : (task : Task) → LayerSecond task → HasClaimedSecond task
 from_layer (tasks.Same form) h = tt
 from_layer tasks.StepTable h = tt
+from_layer (tasks.LaterTable n) h = tt
 from_layer _ h = h
 
 -- a second file is given where the task has one
@@ -97,6 +104,13 @@ text_in laws Turned file text h =
     let p = files_agree file h.universe h.reads in
     (is, canonical laws text text (own_turned laws file text h), (p.pattern, p.is, turned_exact laws file text h))
 
+-- many steps by a table
+pub times : LayersAgree → (layer : LayerTable) (table : Table) → IsTable layer table → (n : ℕ) (bytes text : List ℕ) → IsSteppedTimes layer n bytes text
+    → AreClaimedSteps table n bytes text
+times laws layer table is zero bytes text h = canonical laws bytes text h
+times laws layer table is (suc n) bytes text h =
+    (h.0, times laws layer table is n bytes h.0 h.1, by_table.stepped_is laws.decide layer table is laws.on_plane h.0 text h.2)
+
 answers : LayersAgree → (task : Task) (file second : List ℕ) (status : ℕ) (text : List ℕ) → TaskWrites task file second status text
     → IsOutcome task file second status text
 answers laws (tasks.Canon form) file second status text h = (h.0, text_in laws form file text h.1)
@@ -113,6 +127,10 @@ answers laws tasks.Show file second status text h =
 answers laws tasks.Step file second status text h = (h.0, stepped_is laws.on_plane file text h.1)
 answers laws tasks.StepTable file second status text h =
     (h.0, stepped_text laws.on_plane laws.read laws.decide second file text h.1.0 ((laws.grammars (lines_of second) h.1.0).0 h.1.1) h.1.2)
+answers laws (tasks.Later n) file second status text h = (h.0, later-is laws.on_plane n file text h.1)
+answers laws (tasks.LaterTable n) file second status text h =
+    let found = (laws.read second).0 h.1.0 ((laws.grammars (lines_of second) h.1.0).0 h.1.1) in
+    (h.0, (found.0, found.1, times laws h.1.0 found.0 found.2 n file text h.1.2))
 
 -- a task without a second file asks for nothing of one
 second_free : (task : Task) (file a b : List ℕ) (status : ℕ) (text : List ℕ) → (HasClaimedSecond task → a ≡ b) → IsOutcome task file a status text
@@ -124,6 +142,8 @@ second_free (tasks.Same form) file a b status text e h = subst (λ (s : List ℕ
 second_free tasks.Show file a b status text e h = h
 second_free tasks.Step file a b status text e h = h
 second_free tasks.StepTable file a b status text e h = subst (λ (s : List ℕ). IsOutcome tasks.StepTable file s status text) (e tt) h
+second_free (tasks.Later n) file a b status text e h = h
+second_free (tasks.LaterTable n) file a b status text e h = subst (λ (s : List ℕ). IsOutcome (tasks.LaterTable n) file s status text) (e tt) h
 
 module _ (laws : LayersAgree) (task : Task) (first second : SourceRun) (status : ℕ) (text : List ℕ) (h : HasAnswer task first second status text) where
   -- what was made of the files is what their bytes ask for
@@ -164,6 +184,10 @@ two_written old new other_old other_new held kept text other one two e f related
 own_canonical : LayersAgree → (bytes text : List ℕ) → IsCanonical 62 bytes text → IsCanonical 62 text text
 own_canonical laws bytes text c = own_text_of laws c.universe text (laws.on_plane bytes c.universe c.reads) c.is
 
+pub own_times : LayersAgree → (layer : LayerTable) (n : ℕ) (bytes text : List ℕ) → IsSteppedTimes layer n bytes text → IsCanonical 62 text text
+own_times laws layer zero bytes text h = own_canonical laws bytes text h
+own_times laws layer (suc n) bytes text h = let t = h.2.3 in record { universe = t.universe; reads = t.reads; is = t.canonical }
+
 own_text : LayersAgree → (task : Task) (file second : List ℕ) (status : ℕ) (text : List ℕ) → WritesCanonical task → TaskWrites task file second status text
     → IsCanonical 62 text text
 own_text laws (tasks.Canon Placed) file second status text w h = own_canonical laws file text h.1
@@ -175,6 +199,8 @@ own_text laws (tasks.Same form) file second status text w h = absurd w
 own_text laws tasks.Show file second status text w h = absurd w
 own_text laws tasks.Step file second status text w h = let t = h.1.3 in record { universe = t.universe; reads = t.reads; is = t.canonical }
 own_text laws tasks.StepTable file second status text w h = let t = h.1.2.3 in record { universe = t.universe; reads = t.reads; is = t.canonical }
+own_text laws (tasks.Later n) file second status text w h = let t = h.1.3 in record { universe = t.universe; reads = t.reads; is = t.canonical }
+own_text laws (tasks.LaterTable n) file second status text w h = own_times laws h.1.0 n file text h.1.2
 
 pub equal_outputs : LayersAgree → (task other_task : Task) (first second other_first other_second : SourceRun) (status other_status : ℕ) (text other : List ℕ)
     → HasAnswer task first second status text → HasAnswer other_task other_first other_second other_status other

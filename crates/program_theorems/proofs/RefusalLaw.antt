@@ -17,6 +17,7 @@ use Rattle.life_canon.specs.Files.{Accepted, Refuses as LayerRefuses, is_file_ki
 use Rattle.life_canon.specs.Running.{RunRefuses, ReadRefuses}
 use Rattle.life_canon.specs.Running as running
 use Rattle.life_canon.specs.Texts.{IsCanonical, IsRleOf, IsShownText as LayerShown}
+use Rattle.life_generations.specs.Later.{IsTextLater}
 use Rattle.life_step.specs.Stepped.{IsStepped as LayerStepped}
 use Rattle.pattern_sources.specs.Faults.{is_of_table, place_text, Reports, fault_line as layer_line, status_of as layer_status}
 use Rattle.life_cli.specs.Jobs as layer
@@ -36,13 +37,18 @@ use Rattle.claims.specs.Generation as steps
 use Rattle.claims.specs.Table.{Table, table_of}
 use Rattle.claims.specs.ByTable.{IsUnsteppedBy, IsFirstReasonBy}
 use Rattle.claims.specs.ByTable as table_steps
+use Rattle.generation_theorems.specs.ManyGenerations.{IsFirstReasonWithin, IsNotTakenFurther}
+use Rattle.generation_theorems.specs.ManyGenerations as many
+use Rattle.generation_theorems.proofs.FurtherLaw.{reason-of}
 use Rattle.theorems.proofs.CellsLaw.{says_more}
+use Rattle.theorems.proofs.FileLaw.{files_agree}
 use Rattle.theorems.proofs.RefusalLaw.{refuses_agree, want_as, accepted_is_ok}
 use Rattle.theorems.proofs.StreamLaw.{all_read, appended, beyond}
 use Rattle.step_theorems.proofs.StepBy as by_table
 use Rattle.table_laws.specs.Tables.{IsTable}
 use Rattle.step_theorems.proofs.StepLaw.{unstepped_is}
-use Rattle.program_theorems.specs.Jobs.{HasClaimedSecond, IsShortFile, RefusesTask, RefusesClaimedMany, IsReason, of_files, of_want, of_length, of_source, of_sink, DeviceHolds}
+use Rattle.program_theorems.proofs.AnswerLaw.{own_times, times}
+use Rattle.program_theorems.specs.Jobs.{AreClaimedSteps, HasClaimedSecond, IsShortFile, RefusesTask, RefusesClaimedMany, IsReason, of_files, of_want, of_length, of_source, of_sink, DeviceHolds}
 use Rattle.program_theorems.specs.Layers.{LayersAgree}
 use Rattle.program_theorems.specs.Faults.{claimed_fault_line, claimed_status_of}
 
@@ -82,6 +88,11 @@ placeless_reason now _ (steps.no_table name r) = record { line = refl; kind = λ
 placeless_reason now _ (steps.last_generation n b s r g) = record { line = refl; kind = λ e. cc }
 placeless_reason now _ (steps.many_cells n b s r g m) = record { line = refl; kind = λ e. cc }
 placeless_reason now _ (steps.leaves_plane n b s r g f l) = record { line = refl; kind = λ e. cc }
+
+placeless_later : (n : ℕ) (now : Pattern) (fault : Fault) → IsFirstReasonWithin n now fault → IsPlaceless fault
+placeless_later n now _ (many.no_table_for name r some) = record { line = refl; kind = λ e. cc }
+placeless_later n now _ (many.beyond_last_generation m b s r large) = record { line = refl; kind = λ e. cc }
+placeless_later n now _ (many.leaves_plane_within m b s r small leaves) = record { line = refl; kind = λ e. cc }
 
 -- a fault of no line or of one of a table, whose kind isn't that of a sink
 record IsOfTable (fault : Fault) : Type 0 where
@@ -258,6 +269,21 @@ module _ (laws : LayersAgree) (first second : SourceRun) (output : SinkRun) (ref
         inr (subst (λ (b : List ℕ). IsUnstepped b refusal.fault) (all_read (2 ^ 30) first.before first.after file bytes read f) un),
       ))
 
+  of_later : (n : ℕ) → refusal.in_table ≡ false → (bytes : List ℕ) → ReadAll (2 ^ 30) first.before first.after bytes
+      → layer.RefusesGenerations n bytes refusal.fault → Origin (tasks.Later n) first second output refusal
+  of_later n e bytes read (inl h) =
+      of_pattern laws (tasks.Later n) first second output refusal e bytes h
+      (λ file other f g. let r = read_as _ _ bytes file _ read f h in (r.0, refl, inl r.1))
+  of_later n e bytes read (inr (inl want)) = from_want (want_as want.0 refusal.fault want.2)
+  of_later n e bytes read (inr (inr h)) =
+      let un = reason-of laws.on_plane n bytes h.0 refusal.fault h.1 h.2 in
+      of_none laws (tasks.Later n) first second output refusal false (placeless_later n un.0 refusal.fault un.2)
+      (λ file other f g. (
+        short _ _ bytes file read f,
+        refl,
+        inr (subst (λ (b : List ℕ). IsNotTakenFurther n b refusal.fault) (all_read (2 ^ 30) first.before first.after file bytes read f) un),
+      ))
+
   -- two files
   of_files_compared : (form : Form) → refusal.in_table ≡ false → layer.AreUncompared form first second refusal.fault
       → Origin (tasks.Same form) first second output refusal
@@ -287,19 +313,20 @@ module _ (laws : LayersAgree) (first second : SourceRun) (output : SinkRun) (ref
   of_same form e (layer.by_telling status text answer breaks) = from_sink breaks.is status text answer breaks.written breaks.cause
 
   -- a file and a rule table
-  of_no_table : refusal.in_table ≡ true → layer.HasNoTable second refusal.fault → Origin tasks.StepTable first second output refusal
-  of_no_table e (layer.table_by_input h) = of_second_input laws tasks.StepTable first second output refusal tt h
-  of_no_table e (layer.table_by_lines bytes read h) =
+  of_no_table : (task : Task) → HasClaimedSecond task
+      → ((file other : List ℕ) → IsShortFile other → table_of other ≡ Err refusal.fault → RefusesTask task file other true refusal.fault)
+      → refusal.in_table ≡ true → layer.HasNoTable second refusal.fault → Origin task first second output refusal
+  of_no_table task has to e (layer.table_by_input h) = of_second_input laws task first second output refusal has h
+  of_no_table task has to e (layer.table_by_lines bytes read h) =
       let kind = laws.table_kinds (lines_of bytes) refusal.fault h in
       from_files true
       (λ file other f g.
-      let same = all_read (2 ^ 30) second.before second.after other bytes read (g tt) in (
-        short _ _ bytes other read (g tt),
-        inl (refl, subst (λ (b : List ℕ). table_of b ≡ Err refusal.fault) same ((laws.refuse bytes refusal.fault).0 h)),
-      ))
+      let same = all_read (2 ^ 30) second.before second.after other bytes read (g has) in
+      to file other (short _ _ bytes other read (g has))
+      (subst (λ (b : List ℕ). table_of b ≡ Err refusal.fault) same ((laws.refuse bytes refusal.fault).0 h)))
       (no_write_in is_table_kind refusal.fault.kind refl kind)
       (line_of refusal true (ap (λ (v : Bool). is_of_table v refusal.fault.kind) e ∙ table_line refusal.fault.kind kind))
-  of_no_table e (layer.table_by_memory is) = from_want (inr is)
+  of_no_table task has to e (layer.table_by_memory is) = from_want (inr is)
 
   module _ (e : refusal.in_table ≡ false) (table : LayerTable) (has : layer.HasTable second table) where
     found : (t : Table) × (table_of has.bytes ≡ Ok t) × IsTable table t
@@ -344,8 +371,82 @@ module _ (laws : LayersAgree) (first second : SourceRun) (output : SinkRun) (ref
     of_table_text (sources.by_file bytes read h) = of_step_by bytes read h
     of_table_text (sources.by_want want) = from_want (wanted [] first refusal.fault want)
 
+    -- one of many steps isn't made
+    of_times : (n : ℕ) (bytes : List ℕ) → ReadAll (2 ^ 30) first.before first.after bytes → layer.RefusesTimes table n bytes refusal
+        → Origin (tasks.LaterTable n) first second output refusal
+    of_times n bytes read h = by h.1.2
+      where
+        text : List ℕ
+        text = h.1.0
+
+        claimed : AreClaimedSteps found.0 refusal.made bytes text
+        claimed = times laws table found.0 found.2 refusal.made bytes text h.1.1
+
+        -- a canonical text is a file
+        no_fault : LayerRefuses 62 text refusal.fault → ⊥
+        no_fault refuses =
+            let c = own_times laws table refusal.made bytes text h.1.1 in
+            let is = (files_agree text c.universe c.reads).is in
+            let bad = sym is ∙ refuses_agree text refusal.fault refuses in
+            absurd cc
+
+        by : layer.RefusesStepOf table text refusal.fault → Origin (tasks.LaterTable n) first second output refusal
+        by (inl refuses) = absurd (no_fault refuses)
+        by (inr (inl want)) = from_want (want_as want.0 refusal.fault want.2)
+        by (inr (inr k)) =
+            let un : IsUnsteppedBy found.0 text refusal.fault = by_table.unstepped_is laws.decide table found.0 found.2 text k.0 k.1 refusal.fault k.2 in
+            let reason = table_reason found.0 un.0 refusal.fault un.2 in
+            from_files true
+            (λ file other f g.
+            let same = all_read (2 ^ 30) first.before first.after file bytes read f in (
+              short _ _ has.bytes other has.read (g tt),
+              inr (
+                short _ _ bytes file read f,
+                (
+                  found.0,
+                  second_is other (g tt),
+                  inr (refl, (refusal.made, h.0, (text, subst (λ (b : List ℕ). AreClaimedSteps found.0 refusal.made b text) same claimed, un))),
+                ),
+              ),
+            ))
+            reason.kind
+            (elim reason.line [
+              | inl of_table ↦ line_of refusal true (ap (λ (v : Bool). is_of_table v refusal.fault.kind) e ∙ of_table)
+              | inr none ↦ line_of_none refusal true none
+            ])
+
+    of_no_later : (n : ℕ) → sources.HasNoText (LayerRefuses 62) first refusal.fault → Origin (tasks.LaterTable n) first second output refusal
+    of_no_later n (sources.by_input h) = of_first_input laws (tasks.LaterTable n) first second output refusal h
+    of_no_later n (sources.by_file bytes read h) =
+        of_pattern laws (tasks.LaterTable n) first second output refusal e bytes h
+        (λ file other f g. let r = read_as _ _ bytes file _ read f h in (
+          short _ _ has.bytes other has.read (g tt),
+          inr (r.0, (found.0, second_is other (g tt), inl (refl, r.1))),
+        ))
+    of_no_later n (sources.by_want want) = from_want (wanted [] first refusal.fault want)
+
+    of_later_text : (n : ℕ) → layer.HasNoTextLater table n first refusal → Origin (tasks.LaterTable n) first second output refusal
+    of_later_text n (inl h) = of_no_later n h
+    of_later_text n (inr h) = of_times n h.0 h.1 h.2
+
+  of_later_by_table : (n : ℕ) → layer.TaskRefuses (tasks.LaterTable n) first second output refusal → Origin (tasks.LaterTable n) first second output refusal
+  of_later_by_table n (inl (inl h)) = of_no_table (tasks.LaterTable n) tt (λ file other s r. (s, inl (refl, r))) h.0.0 h.0.1
+  of_later_by_table n (inl (inr h)) = of_later_text h.0 h.1.0 h.1.1 n h.1.2
+  of_later_by_table n (inr h) =
+      let made = h.1.1 in
+      let breaks = h.1.2 in
+      from_sink breaks.is 0 h.1.0
+      (record {
+        first_bytes = made.2.bytes;
+        second_bytes = made.1.bytes;
+        first_read = made.2.read;
+        second_read = λ _. made.1.read;
+        writes = (refl, (made.0, made.1.is, made.2.is));
+      })
+      breaks.written breaks.cause
+
   of_table_task : layer.TaskRefuses tasks.StepTable first second output refusal → Origin tasks.StepTable first second output refusal
-  of_table_task (inl (inl h)) = of_no_table h.0.0 h.0.1
+  of_table_task (inl (inl h)) = of_no_table tasks.StepTable tt (λ file other s r. (s, inl (refl, r))) h.0.0 h.0.1
   of_table_task (inl (inr h)) = of_table_text h.0 h.1.0 h.1.1 h.1.2
   of_table_task (inr h) =
       let made = h.1.1 in
@@ -387,6 +488,10 @@ origin_of laws tasks.Step first second output refusal h =
     of_file laws tasks.Step first second output refusal LayerStepped layer.RefusesLifeStep (λ bytes other text is. (refl, is)) (λ has. has)
     (of_step laws first second output refusal h.0) h.1
 origin_of laws tasks.StepTable first second output refusal h = of_table_task laws first second output refusal h
+origin_of laws (tasks.Later n) first second output refusal h =
+    of_file laws (tasks.Later n) first second output refusal (IsTextLater n) (layer.RefusesGenerations n) (λ bytes other text is. (refl, is)) (λ has. has)
+    (of_later laws first second output refusal n h.0) h.1
+origin_of laws (tasks.LaterTable n) first second output refusal h = of_later_by_table laws first second output refusal n h
 
 -- ---- what the origin tells
 

@@ -1,5 +1,5 @@
 -- What the program does with each of its jobs, by the bytes of its files. The jobs, their words and their limits are this project's own.
-use Rattle.std.specs.Prelude.{◌≡◌, ◌⊎◌, ◌↔◌, ℕ, ◌^◌, ◌≤◌, ◌<◌, Bool, true, false, List, ◌++◌, length, take, codes, Option, Some, IsSome, IfSome, Ok, Err, IsOk}
+use Rattle.std.specs.Prelude.{◌≡◌, ◌⊎◌, ◌↔◌, ℕ, zero, suc, ◌^◌, ◌≤◌, ◌<◌, Bool, true, false, List, ◌++◌, length, take, codes, Option, Some, IsSome, IfSome, Ok, Err, IsOk}
 use Rattle.life_base.specs.Text.{begins_with}
 use Rattle.life_base.specs.declared.fault.Fault.{Fault}
 use Rattle.life_base.specs.declared.kind.Kind.TheVariants.{ReadFault, WriteFault, InputTooLong, TooManyCells}
@@ -16,6 +16,7 @@ use Rattle.claims.specs.Generation.{SaysMoreCells, IsClaimedStep, IsUnstepped}
 use Rattle.claims.specs.Table.{Table, table_of}
 use Rattle.claims.specs.ByTable.{IsClaimedStepBy, IsUnsteppedBy}
 use Rattle.theorems.specs.Patterns.{IsRleOfFile}
+use Rattle.generation_theorems.specs.ManyGenerations.{IsClaimedTextLater, IsNotTakenFurther}
 use Rattle.program_theorems.specs.Forms.{SameIn, IsClaimedTextIn}
 use Rattle.program_theorems.specs.Faults.{claimed_status_of, claimed_fault_line}
 
@@ -23,6 +24,7 @@ use Rattle.program_theorems.specs.Faults.{claimed_status_of, claimed_fault_line}
 abbrev pub HasClaimedSecond : Task → Type 0
 HasClaimedSecond (tasks.Same form) = Unit {0}
 HasClaimedSecond tasks.StepTable = Unit {0}
+HasClaimedSecond (tasks.LaterTable n) = Unit {0}
 HasClaimedSecond _ = ⊥
 
 -- what a task is given: sources and sinks that have not failed, sinks that take bytes, and a second file exactly if the task has one
@@ -36,12 +38,21 @@ pub record IsGiven {B : Type 0} (task : Task) (first : ℕ) (failures : B → �
   pub tells : error ≡ 0
   pub hears : error_stalled ≡ false
 
--- the task writes the canonical text of a pattern: of the file, in a form, or of its next one
+-- the task writes the canonical text of a pattern: of the file, in a form, or of its next one or a later one
 abbrev pub WritesCanonical : Task → Type 0
 WritesCanonical (tasks.Same form) = ⊥
 WritesCanonical tasks.Show = ⊥
 WritesCanonical (tasks.Convert Rle) = ⊥
 WritesCanonical _ = Unit {0}
+
+-- the text is that of so many steps of a file by a table, each from the text of the one before: after none it is the canonical text of the file
+abbrev pub AreClaimedSteps : Table → ℕ → (file text : List ℕ) → Type 0
+AreClaimedSteps table zero file text = IsCanonicalText file text
+AreClaimedSteps table (suc n) file text = (before : List ℕ) × AreClaimedSteps table n file before × IsClaimedStepBy table before text
+
+-- one of so many steps of a file by a table isn't made: after fewer of them the text has no next one by the table, for this reason
+abbrev pub StepsEndBefore : Table → ℕ → (file : List ℕ) → Fault → Type 0
+StepsEndBefore table n file fault = (made : ℕ) × (made < n) × ((text : List ℕ) × AreClaimedSteps table made file text × IsUnsteppedBy table text fault)
 
 -- the status and the text of a task on the bytes of its files
 abbrev pub IsOutcome : Task → (file second : List ℕ) → (status : ℕ) → (text : List ℕ) → Type 0
@@ -57,6 +68,8 @@ IsOutcome tasks.Show file second status text =
     × ((canonical : List ℕ) × IsCanonicalText file canonical × IsClaimedShown pattern (claimed_node_lines canonical) text))
 IsOutcome tasks.Step file second status text = (status ≡ 0) × IsClaimedStep file text
 IsOutcome tasks.StepTable file second status text = (status ≡ 0) × ((table : Table) × (table_of second ≡ Ok table) × IsClaimedStepBy table file text)
+IsOutcome (tasks.Later n) file second status text = (status ≡ 0) × IsClaimedTextLater n file text
+IsOutcome (tasks.LaterTable n) file second status text = (status ≡ 0) × ((table : Table) × (table_of second ≡ Ok table) × AreClaimedSteps table n file text)
 
 -- a file that may be read
 abbrev pub IsShortFile : List ℕ → Type 0
@@ -77,6 +90,11 @@ RefusesTask tasks.Step file second of_table fault = IsShortFile file × (of_tabl
 RefusesTask tasks.StepTable file second of_table fault =
     IsShortFile second × (((of_table ≡ true) × (table_of second ≡ Err fault)) ⊎ (IsShortFile file × ((table : Table) × (table_of second ≡ Ok table)
     × (((of_table ≡ false) × (pattern_of file ≡ Err fault)) ⊎ ((of_table ≡ true) × IsUnsteppedBy table file fault)))))
+RefusesTask (tasks.Later n) file second of_table fault =
+    IsShortFile file × (of_table ≡ false) × ((pattern_of file ≡ Err fault) ⊎ IsNotTakenFurther n file fault)
+RefusesTask (tasks.LaterTable n) file second of_table fault =
+    IsShortFile second × (((of_table ≡ true) × (table_of second ≡ Err fault)) ⊎ (IsShortFile file × ((table : Table) × (table_of second ≡ Ok table)
+    × (((of_table ≡ false) × (pattern_of file ≡ Err fault)) ⊎ ((of_table ≡ true) × StepsEndBefore table n file fault)))))
 RefusesTask _ file second of_table fault = IsShortFile file × (of_table ≡ false) × (pattern_of file ≡ Err fault)
 
 -- Why a run has no answer: what its files say; room or memory was wanted, to read them or for the squares of the answer; a file is too long; a file could
