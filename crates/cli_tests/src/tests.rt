@@ -44,12 +44,19 @@ const LINE: &[u8] = b"x = 3, y = 1, rule = B3/S23\n3o!\n";
 /// The next generation of `LINE`.
 const NEXT_LINE: &[u8] = b"[M2] (canonical 1)\n#R B3/S23\n#G 1\n$$$.....*$.....*$.....*$$$\n";
 
+/// `LINE`, and the generation 2 of it: it turns about its middle cell.
+const LINE_TEXT: &[u8] = b"[M2] (canonical 1)\n#R B3/S23\n$$$$....***$$$$\n";
+
+const SECOND_LINE: &[u8] = b"[M2] (canonical 1)\n#R B3/S23\n#G 2\n$$$$....***$$$$\n";
+
 /// A state spreads to cells that have one cell of it beside them.
 const SPREAD: &[u8] =
     b"@RULE Spread\n@TABLE\nn_states:3\nneighborhood:vonNeumann\nsymmetries:rotate4\nvar a={1,2}\n0,a,0,0,0,a\n";
 
 /// A cell of state 2, and the text of the next generation by the table `SPREAD`.
 const SEED: &[u8] = b"x = 1, y = 1, rule = Spread\nB!\n";
+
+const SEED_TEXT: &[u8] = b"[M2] (canonical 1)\n#R Spread\n1 0 0 0 2\n";
 
 const SPREAD_TEXT: &[u8] =
     b"[M2] (canonical 1)\n#R Spread\n#G 1\n1 0 0 2 0\n1 0 2 0 0\n1 2 2 2 0\n2 0 1 2 3\n";
@@ -62,7 +69,7 @@ const SAME: &[u8] = b"same\n";
 const DIFFERENT: &[u8] = b"different\n";
 
 /// Jobs with their files, the status that they end with, and what they write.
-const TASKS: [(Task, &[u8], Option<&[u8]>, u8, &[u8]); 13] = [
+const TASKS: [(Task, &[u8], Option<&[u8]>, u8, &[u8]); 18] = [
     (Task::Show, TWINS, None, 0, TWINS_SHOWN),
     (Task::Canon(Form::Placed), TWINS_IN_RLE, None, 0, TWINS_TEXT),
     (Task::Canon(Form::Moved), GLIDER, None, 0, MOVED_GLIDER),
@@ -76,4 +83,9 @@ const TASKS: [(Task, &[u8], Option<&[u8]>, u8, &[u8]); 13] = [
     (Task::Same(Form::Moved), GLIDER, Some(EAST_GLIDER), 0, SAME),
     (Task::Same(Form::Turned), LINE, Some(TWINS), 1, DIFFERENT),
     (Task::StepTable, SEED, Some(SPREAD), 0, SPREAD_TEXT),
+    (Task::Later(0), LINE, None, 0, LINE_TEXT),
+    (Task::Later(1), LINE, None, 0, NEXT_LINE),
+    (Task::Later(2), LINE, None, 0, SECOND_LINE),
+    (Task::LaterTable(0), SEED, Some(SPREAD), 0, SEED_TEXT),
+    (Task::LaterTable(1), SEED, Some(SPREAD), 0, SPREAD_TEXT),
 ];

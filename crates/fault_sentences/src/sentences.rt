@@ -73,7 +73,7 @@ pub fn sentence(kind: Kind) -> &'static str
             "More than 2^20 cells aren't 0: too many for convert --to rle and for step."
         }
         Kind::GenerationTooLarge => {
-            "The pattern is of generation 2^64 - 1, and so has no next one."
+            "The step leads beyond generation 2^64 - 1, the last one that a file can name."
         }
         Kind::StateBeyondTable => "A cell of the pattern has a state that the rule table lacks.",
         Kind::ReadFault => "A file can't be opened or read, or the system gives no random bytes.",

@@ -167,23 +167,33 @@ fn push_file(text: &mut Vec<u8>, name: &str) -> Result<(), AllocError> {
     }
 }
 
-/// Adds where a fault is: `FILE, line N: `, as far as that is known.
+/// Adds where a fault is: `FILE, line N: `, as far as that is known. `made` generations were made before it, by a rule table.
 fn push_place(
     rt: &HostRuntime,
     text: &mut Vec<u8>,
     place: Place<'_>,
     number: u64,
+    made: u64,
 ) -> Result<(), AllocError> {
     match place {
         Place::Nowhere => return Ok(()),
         Place::File { name, .. } => push_file(text, name)?,
         Place::OneOfTwo => text.extend_from_slice(b"one of the two files")?,
     }
-    if number == 0 {
-        return text.extend_from_slice(b": ");
+    if number > 0 {
+        let line = format!(in rt.alloc(); ", line {number}")?;
+        text.extend_from_slice(line.as_bytes())?;
     }
-    let line = format!(in rt.alloc(); ", line {number}: ")?;
-    text.extend_from_slice(line.as_bytes())
+    if made > 0 {
+        let unit = if made == 1 {
+            "generation"
+        } else {
+            "generations"
+        };
+        let after = format!(in rt.alloc(); ", after {made} {unit}")?;
+        text.extend_from_slice(after.as_bytes())?;
+    }
+    text.extend_from_slice(b": ")
 }
 
 /// The part of a line that is shown: not the carriage return at its end.
@@ -235,7 +245,7 @@ fn explanation(
     let mut text = Vec::new(rt.alloc());
     let place = Place::of(rt, seeds, plan, refusal);
     let Fault { kind, place: at } = refusal.fault;
-    push_place(rt, &mut text, place, at.line)?;
+    push_place(rt, &mut text, place, at.line, refusal.made)?;
     push_sentence(&mut text, sentence(kind))?;
     let (advice, is_text) = match place.foreign(rt) {
         Some(foreign) => (foreign.advice(), is_text(foreign)),

@@ -206,7 +206,7 @@ fn takes_two(task: &Task) -> bool
     ensures { IsTrue result ↔ HasSecond task.now }
 {
     match task {
-        Task::Same(_) | Task::StepTable => true,
+        Task::Same(_) | Task::StepTable | Task::LaterTable(_) => true,
         _ => false,
     }
 }

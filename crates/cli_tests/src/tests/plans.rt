@@ -26,7 +26,7 @@ fn is_second(name: &Option<String>, wanted: Option<&str>) -> bool {
 }
 
 /// Arguments with the job that they ask for, and its files.
-const PLANS: [(&str, Job, &str, Option<&str>); 19] = [
+const PLANS: [(&str, Job, &str, Option<&str>); 24] = [
     ("canon -", Job::Canon, "-", None),
     ("canon - --form placed", Job::Canon, "-", None),
     ("show -", Job::Show, "-", None),
@@ -56,6 +56,26 @@ const PLANS: [(&str, Job, &str, Option<&str>); 19] = [
     ("same - --explain b", Job::Same, "-", Some("b")),
     ("show --explain -- -", Job::Show, "-", None),
     ("step - --table=a --explain", Job::StepTable, "-", Some("a")),
+    ("step - --generations 0", Job::Later(0), "-", None),
+    ("step --generations=0007 -", Job::Later(7), "-", None),
+    (
+        "step - --generations 18446744073709551615",
+        Job::Later(u64::MAX),
+        "-",
+        None,
+    ),
+    (
+        "step - --generations 1 --table a",
+        Job::LaterTable(1),
+        "-",
+        Some("a"),
+    ),
+    (
+        "step --table=a --generations=9 -",
+        Job::LaterTable(9),
+        "-",
+        Some("a"),
+    ),
 ];
 
 /// The arguments of a text ask for this job of these files.
@@ -83,7 +103,7 @@ fn plans(rt: HostRuntime) {
 }
 
 /// Arguments with the task that they ask for and its files, and whether they ask for a sentence about an error. The words after `--` are names.
-const REQUESTS: [(&str, Task, &str, Option<&str>, bool); 22] = [
+const REQUESTS: [(&str, Task, &str, Option<&str>, bool); 24] = [
     ("canon -", Task::Canon(Form::Placed), "-", None, false),
     (
         "canon - --form placed",
@@ -193,6 +213,20 @@ const REQUESTS: [(&str, Task, &str, Option<&str>, bool); 22] = [
         "-",
         Some("a"),
         true,
+    ),
+    (
+        "step - --generations 12 --explain",
+        Task::Later(12),
+        "-",
+        None,
+        true,
+    ),
+    (
+        "step - --table a --generations=0",
+        Task::LaterTable(0),
+        "-",
+        Some("a"),
+        false,
     ),
     ("show -- --explain", Task::Show, "--explain", None, false),
     (
@@ -429,7 +463,7 @@ fn assert_usage(rt: &impl Abort, alloc: Global, text: &str, kind: ErrorKind) {
 }
 
 /// Arguments with the kind with which they are refused. Those that ask for another form than that of a pattern as it lies have a request and no plan.
-const USAGES: [(&str, ErrorKind); 40] = [
+const USAGES: [(&str, ErrorKind); 51] = [
     ("", ErrorKind::MissingSubcommand),
     ("canon", ErrorKind::MissingRequiredArgument),
     ("canon a b", ErrorKind::UnknownArgument),
@@ -451,6 +485,23 @@ const USAGES: [(&str, ErrorKind); 40] = [
     ("step", ErrorKind::MissingRequiredArgument),
     ("step --table a", ErrorKind::MissingRequiredArgument),
     ("step a --table", ErrorKind::InvalidValue),
+    ("step a --generations", ErrorKind::InvalidValue),
+    ("step a --generations=", ErrorKind::InvalidValue),
+    ("step a --generations ten", ErrorKind::InvalidValue),
+    ("step a --generations=-1", ErrorKind::InvalidValue),
+    ("step a --generations +1", ErrorKind::InvalidValue),
+    ("step a --generations 1.5", ErrorKind::InvalidValue),
+    (
+        "step a --generations 18446744073709551616",
+        ErrorKind::InvalidValue,
+    ),
+    ("step a --table b --generations x", ErrorKind::InvalidValue),
+    (
+        "step a --generations 1 --generations 1",
+        ErrorKind::ArgumentConflict,
+    ),
+    ("step --generations 1", ErrorKind::MissingRequiredArgument),
+    ("canon a --generations 1", ErrorKind::UnknownArgument),
     ("show a --table b", ErrorKind::UnknownArgument),
     ("canon -r a", ErrorKind::UnknownArgument),
     ("keys", ErrorKind::MissingRequiredArgument),
@@ -480,13 +531,14 @@ fn usages(rt: HostRuntime) {
 }
 
 /// Arguments that name standard input twice.
-const TWICE: [&str; 6] = [
+const TWICE: [&str; 7] = [
     "duplicates - a -",
     "duplicates --from - -r -",
     "same - -",
     "same - - --form none",
     "same -- - -",
     "step - --table -",
+    "step - --table - --generations x",
 ];
 
 #[test]
