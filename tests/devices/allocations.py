@@ -86,6 +86,8 @@ PROGRAM_RUNS = [
     Run("step FILE", ["step", "line.rle"], Answer(0, LINE_STEPPED)),
     Run("step FILE row by row", ["step", "long.rle"], Answer(0, LINE_STEPPED)),
     Run("step FILE --table RULE", ["step", "spread.rle", "--table", "spread.rule"], Answer(0, SPREAD_STEPPED)),
+    Run("step FILE --generations N", ["step", "line.rle", "--generations", "1"], Answer(0, LINE_STEPPED)),
+    Run("step FILE --table RULE --generations N", ["step", "spread.rle", "--table", "spread.rule", "--generations", "1"], Answer(0, SPREAD_STEPPED)),
     Run("canon of 2 MiB", ["canon", "leaves.mc"], Answer(0, LIFE + b"....*$$$$$$$$\n")),
     Run("canon -", ["canon", "-"], Answer(0, canonical(b"WireWorld", 7) + b"1 1 25 0 0\n"), TWO_CELLS),
     Run("canon of a refused file", ["canon", "child.mc"], Answer(2, b"", b"line 4: BadChild\n")),

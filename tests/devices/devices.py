@@ -72,6 +72,8 @@ JOBS = [Job(*job) for job in [
     ("step line.rle", Answer(0, LINE_STEPPED), b""),
     ("step spread.rle --table spread.rule", Answer(0, SPREAD_STEPPED), b""),
     ("step spread.rle --table -", Answer(0, SPREAD_STEPPED), FILES["spread.rule"]),
+    ("step line.rle --generations 1", Answer(0, LINE_STEPPED), b""),
+    ("step spread.rle --table spread.rule --generations 1", Answer(0, SPREAD_STEPPED), b""),
     ("canon bad.rle", REFUSED, b""),
     ("same bad.rle pair.mc", REFUSED, b""),
     ("keys pair.mc", Answer(0, PAIR_KEY + b"  pair.mc\n"), b"", b"pair.mc"),

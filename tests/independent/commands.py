@@ -5,7 +5,7 @@ from functools import cached_property
 from typing import NamedTuple
 
 from .forms import is_same_in, text_in
-from .generations import MOST_CELLS, step_by_rule, step_by_table
+from .generations import MOST_CELLS, later_by_rule, step_by_rule, step_by_table
 from .lines import Fault
 from .patterns import canonical_text, listed, read
 from .rle import rle_text
@@ -90,8 +90,8 @@ def show(file):
     return answer_of(lambda: (0, shown(file)))
 
 
-def step(file, table=None):
-    return answer_of(lambda: (0, stepped(file, table)))
+def step(file, table=None, generations=None):
+    return answer_of(lambda: (0, stepped(file, table, generations)))
 
 
 def rle_of(pattern):
@@ -135,9 +135,12 @@ def shown(file):
     return "".join(f"{line}\n" for line in lines).encode()
 
 
-def stepped(file, table):
-    """The next generation's canonical text. A table is read, and refused, before the pattern."""
+def stepped(file, table, generations):
+    """The canonical text of the next generation, or of the one that comes so many generations later. A table is read, and refused, before the pattern."""
     if table is None:
-        return canonical_text(file.squares, step_by_rule(file.squares, file.pattern))
-    by = table.table
-    return canonical_text(file.squares, step_by_table(file.squares, file.pattern, by))
+        pattern = step_by_rule(file.squares, file.pattern) if generations is None else later_by_rule(file.squares, file.pattern, generations)
+        return canonical_text(file.squares, pattern)
+    by, pattern = table.table, file.pattern
+    for _ in range(1 if generations is None else generations):
+        pattern = step_by_table(file.squares, pattern, by)
+    return canonical_text(file.squares, pattern)

@@ -1,4 +1,4 @@
-"""One generation: the section "One generation" of docs/FORMATS.md."""
+"""One generation, and many: the sections "One generation" and "Many generations" of docs/FORMATS.md."""
 
 from collections import Counter
 
@@ -21,12 +21,26 @@ def check_cells(pattern):
         raise Fault("TooManyCells")
 
 
+def check_places(places):
+    """No cell outside the plane may have a state other than 0."""
+    if not all(FIRST <= x < END and FIRST <= y < END for x, y in places):
+        raise Fault("OutOfPlane")
+
+
 def next_of(squares, pattern, states):
     """The next pattern, where these places have states other than 0."""
-    if not all(FIRST <= x < END and FIRST <= y < END for x, y in states):
-        raise Fault("OutOfPlane")
+    check_places(states)
     plane = squares.of_runs([(x, y, 1, state) for (x, y), state in states.items()])
     return Pattern(pattern.rule, pattern.generation + 1, plane)
+
+
+def next_alive(rule, alive):
+    """The places of the live cells of the next generation under a B/S rule."""
+    around = MOORE if rule.neighbours == 8 else VON_NEUMANN
+    counts = Counter((x + right, y + down) for x, y in alive for right, down in around)
+    born = {place for place, count in counts.items() if place not in alive and count in rule.births}
+    staying = {place for place in alive if counts[place] in rule.survivals}
+    return born | staying
 
 
 def step_by_rule(squares, pattern):
@@ -34,12 +48,23 @@ def step_by_rule(squares, pattern):
     if not pattern.rule.is_life:
         raise Fault("NeedsTable")
     check_cells(pattern)
+    alive = next_alive(pattern.rule, {(x, y) for x, y, _ in cells_of(pattern.plane)})
+    return next_of(squares, pattern, dict.fromkeys(alive, 1))
+
+
+def later_by_rule(squares, pattern, generations):
+    """The pattern so many generations later under a B/S rule, generation by generation."""
+    if generations == 0:
+        return pattern
+    if not pattern.rule.is_life:
+        raise Fault("NeedsTable")
+    if pattern.generation + generations > LAST_GENERATION:
+        raise Fault("GenerationTooLarge")
     alive = {(x, y) for x, y, _ in cells_of(pattern.plane)}
-    around = MOORE if pattern.rule.neighbours == 8 else VON_NEUMANN
-    counts = Counter((x + right, y + down) for x, y in alive for right, down in around)
-    born = {place for place, count in counts.items() if place not in alive and count in pattern.rule.births}
-    staying = {place for place in alive if counts[place] in pattern.rule.survivals}
-    return next_of(squares, pattern, dict.fromkeys(born | staying, 1))
+    for _ in range(generations):
+        alive = next_alive(pattern.rule, alive)
+        check_places(alive)
+    return Pattern(pattern.rule, pattern.generation + generations, squares.of_runs([(x, y, 1, 1) for x, y in alive]))
 
 
 def step_by_table(squares, pattern, table):

@@ -33,11 +33,22 @@ SAME = [
     (["duplicates", "absent", "pair.rle", "pair.mc"], b""), (["duplicates", "--from", "-"], LIST),
     (["duplicates", "--from", "-", "--zero"], b"pair.rle\0pair.mc\0"),
     (["duplicates", "-", "pair.mc"], fixtures.FILES["pair.rle"]),
+    (["step", "line.rle"], b""), (["step", "line.rle", "--generations", "0"], b""), (["step", "--generations=0001000001", "-"], GLIDER),
+    (["step", "line.rle", "--generations", "18446744073709551615"], b""), (["step", "last.rle", "--generations", "1"], b""),
+    (["step", "edge.rle", "--generations", "3"], b""), (["step", "spread.rle", "--generations", "1"], b""), (["step", "spread.rle", "--generations", "0"], b""),
+    (["step", "bad.rle", "--generations", "5"], b""),
+    (["step", "spread.rle", "--table", "spread.rule"], b""), (["step", "spread.rle", "--table", "spread.rule", "--generations", "0"], b""),
+    (["step", "spread.rle", "--table", "-", "--generations", "3"], fixtures.FILES["spread.rule"]),
+    (["step", "line.rle", "--table", "spread.rule", "--generations", "0"], b""), (["step", "line.rle", "--table", "spread.rule", "--generations", "1"], b""),
+    (["step", "two.rle", "--table", "two.rule", "--generations", "0"], b""), (["step", "two.rle", "--table", "two.rule", "--generations", "2"], b""),
+    (["step", "spread.rle", "--table", "bad.rule", "--generations", "0"], b""),
 ]
 # The status alone is that of the program, since the words are others.
 MISUSED = ["keys", "keys --form moved", "keys -r", "duplicates", "duplicates --zero", "duplicates --form still pair.rle", "duplicates --json pair.rle",
            "keys --to mc pair.rle", "canon -r pair.rle", "keys --from", "canon --from list", "keys --zero=yes pair.rle", "keys --from list --from list",
-           "keys --form moved --form moved pair.rle"]
+           "keys --form moved --form moved pair.rle", "step line.rle --generations", "step line.rle --generations ten", "step line.rle --generations +1",
+           "step line.rle --generations 18446744073709551616", "step line.rle --generations 1 --generations 1", "show line.rle --generations 1",
+           "step - --table - --generations x"]
 # Endings that only a shell makes: the status, and what is on standard error.
 ENDINGS = [
     ("a full output", '"$command" keys pair.rle pair.mc > /dev/full', Answer(3, b"", b"WriteFault\n")),

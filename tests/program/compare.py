@@ -32,6 +32,8 @@ REPLACED_BY = [0, 10, ord("$"), ord("9"), ord("o"), ord("!"), ord(","), 127, 128
 MOST_CELLS = 2**12
 # One with more cells than this, and no more than the program takes, is neither moved nor turned: the reader makes eight of it.
 MOST_TURNED = 2**9
+# How many generations a pattern with at most MOST_TURNED cells is taken further; one with more cells only two, and with more than MOST_CELLS none.
+GENERATIONS = [0, 1, 2, 3, 7]
 # Files above this size are not respelled, since that could make a line too long.
 LARGE = 2**19
 # What files and their patterns can be refused by. Want of memory or room, devices and inputs above 2^30 bytes are other tests' part.
@@ -126,6 +128,17 @@ def has_slow_form(file):
     return not isinstance(file.reading, commands.Fault) and MOST_TURNED < file.reading.plane.population
 
 
+def generations_of(case, file):
+    """How many generations further the pattern of a case is taken: the reader makes one after the other. A number of them may be beyond the last generation."""
+    if isinstance(file.reading, commands.Fault):
+        return [len(case.pattern) % 3]
+    population = file.reading.plane.population
+    if population > MOST_CELLS:
+        return []
+    few = [GENERATIONS[len(case.pattern) % len(GENERATIONS)] if population <= MOST_TURNED else 2]
+    return [*few, 2**64 - file.reading.generation] if file.reading.generation else few
+
+
 def can_be_longer(case, file):
     """Whether comments may stand before the file without another answer: it is in RLE, and isn't refused."""
     return not isinstance(file.reading, commands.Fault) and not case.pattern.startswith(b"[M2]")
@@ -144,8 +157,14 @@ def wanted_answers(case):
             yield ["step", name], commands.step(file)
             if can_be_longer(case, file):
                 yield ["step", "longer"], commands.step(file)
+            for number in generations_of(case, file):
+                yield ["step", name, "--generations", str(number)], commands.step(file, generations=number)
     if case.table is not None and not is_slow(file):
-        yield ["step", name, "--table", "table"], commands.step(file, commands.File(case.table))
+        table = commands.File(case.table)
+        yield ["step", name, "--table", "table"], commands.step(file, table)
+        if not case.only_step:
+            for number in generations_of(case, file)[:1]:
+                yield ["step", name, "--generations", str(number), "--table", "table"], commands.step(file, table, number)
     if case.respelling is not None:
         yield ["convert", name, "--to", "mc"], commands.convert_to_mc(file)
         yield ["same", "other", name], commands.same(other, file)
@@ -196,6 +215,8 @@ def compared(judged, case):
             judged.put(name, data)
     problems, answers, text = [], collections.Counter(), None
     for words, wanted in wanted_answers(case):
+        if not judged.knows(words):
+            continue
         if "longer" in words:
             judged.put("longer", COMMENTS + case.pattern)
         got = judged.answer(words, "pattern")

@@ -653,11 +653,24 @@ STEPS = [
     told("standard input for both", "step - --table -", error="TwoInputs", status=5),
     faulty("a step from the last generation", "step last.rle", "GenerationTooLarge"),
     faulty("a step over the edge", "step edge.rle", "OutOfPlane"),
+    told("many generations", "step line.rle --generations 18446744073709551615", canonical(b"B3/S23", 2**64 - 1) + b"$$$.....*$.....*$.....*$$$\n"),
+    told("no generation", "step --generations=0 pair.rle", PAIR_TEXT),
+    told("no generation of many cells", "step --generations 0 many.rle", MANY_TEXT),
+    told("one generation by a table", "step spread.rle --table spread.rule --generations 1", SPREAD_STEPPED),
+    told("many generations by a table that keeps all", "step still --table still.rule --generations 1000", canonical(b"Still", 1000) + b"1 0 0 0 1\n",
+         setup="printf 'x = 1, y = 1, rule = Still\nA!\n' > still"),
+    faulty("many generations of a name without its table", "step spread.rle --generations 2", "NeedsTable"),
+    faulty("many generations from the last one", "step last.rle --generations 2", "GenerationTooLarge"),
+    faulty("many generations over the edge", "step edge.rle --generations 18446744073709551615", "OutOfPlane"),
+    faulty("many generations by a refused table", "step bad.rle --table bad.rule --generations 2", "table line 2: NoTable"),
+    failing("many generations of an absent file", "step absent --generations 2", "ReadFault"),
+    told("standard input for both, and no number", "step - --table - --generations x", error="TwoInputs", status=5),
 ]
 
 # One for each job.
 EACH_JOB = ["same pair.rle pair.mc", "same pair.rle named.rle", "show pair.rle", "convert pair.mc --to rle", "convert pair.rle --to mc",
-            "step line.rle", "step spread.rle --table spread.rule", "keys pair.rle pair.mc", "keys pair.rle --form turned"]
+            "step line.rle", "step spread.rle --table spread.rule", "step line.rle --generations 5",
+            "step spread.rle --table spread.rule --generations 1", "keys pair.rle pair.mc", "keys pair.rle --form turned"]
 
 SINKS = [
     *(failing(f"{words} to a full output", words, "WriteFault", by=TO_FULL) for words in EACH_JOB),
@@ -1044,6 +1057,16 @@ MISUSED = [
     misused("a table without its name", "step", "input", "--table"),
     misused("a table twice", "step", "input", "--table", "input", "--table", "input"),
     misused("a table for another command", "show", "input", "--table", "input"),
+    misused("generations without their number", "step", "input", "--generations"),
+    misused("generations without a file", "step", "--generations", "1"),
+    misused("no number of generations", "step", "input", "--generations", "ten"),
+    misused("the empty number of generations", "step", "input", "--generations", ""),
+    misused("a number of generations with a sign", "step", "input", "--generations", "+1"),
+    misused("a number of generations below 0", "step", "input", "--generations=-1"),
+    misused("a number of generations with a blank", "step", "input", "--generations", " 1"),
+    misused("2^64 generations", "step", "input", "--generations", "18446744073709551616"),
+    misused("generations twice", "step", "input", "--generations", "1", "--generations", "1"),
+    misused("generations for another command", "show", "input", "--generations", "1"),
     misused("a second file that is no UTF-8 text", "same", "input", NO_TEXT),
     misused("a format that is no UTF-8 text", "convert", "input", "--to", os.fsdecode(b"\xff")),
     misused("standard input for both files", "same", "-", "-"),
@@ -1058,6 +1081,8 @@ MISUSED = [
               b"golly_canon keys [OPTIONS] [FILE]...", "keys", "input", "--form", "still"),
     explained("the text for a format that isn't there", b"the value of --to is rle or mc", b"golly_canon convert --to <FORMAT> <FILE>",
               "convert", "input", "--to", "png"),
+    explained("the text for no number of generations", b"the value of --generations is a number from 0 to 2^64 - 1", b"golly_canon step [OPTIONS] <FILE>",
+              "step", "input", "--generations", "1e6"),
     explained("the text for keys of no file", b"a FILE or --from LIST has to be given", b"golly_canon keys [OPTIONS] [FILE]...", "keys"),
     Case("the line for a word that is no UTF-8 text", ["canon", NO_TEXT], 5, "error: an argument isn't UTF-8 text: a\ufffdb"),
 ]
@@ -1079,6 +1104,7 @@ ASKED = [
     asked("convert --help", rb"Usage: golly_canon convert \[OPTIONS\] --to <FORMAT> <FILE>"),
     asked("step --help", rb"Usage: golly_canon step \[OPTIONS\] <FILE>"),
     asked("an example of step", rb"  golly_canon step glider\.rle", "step", "--help"),
+    asked("an example of many generations", rb"  golly_canon step glider\.rle --generations 1000000", "step", "--help"),
     asked("the statuses of same", rb"  1  they are different patterns", "same", "--help"),
     asked("an example of show", rb"  golly_canon show glider\.rle", "show", "--help"),
     asked("help convert", rb"^mc   macrocell"),

@@ -8,6 +8,8 @@ from shared.c_interface import AMBIGUOUS, FULL, MEMORY, NO_ROOM, Stream
 
 # The statuses of the program.
 SAME, DIFFERENT, REFUSED, WANTS = 0, 1, 2, 4
+# What the name of a call ends in that takes the value of an option.
+MORE = {"--form": "_form", "--generations": "_generations"}
 CALLS = {"canon": "canon", "show": "show", "step": "step", "rle": "to_rle", "mc": "canon"}
 
 
@@ -21,6 +23,9 @@ class Program:
         with open(name, "wb") as it:
             it.write(data)
 
+    def knows(self, words):
+        return True
+
     def answer(self, words, given):
         """Runs it on these words."""
         found = processes.spawned([self.path, *words], given)
@@ -32,9 +37,11 @@ def store():
     return ctypes.c_uint64(c_interface.SQUARES), c_interface.seed()
 
 
-def numbers_of(form):
-    """The number of a form as a call in a form takes it, and nothing for a call in none."""
-    return [] if form is None else [ctypes.c_uint32(forms.FORMS.index(form))]
+def numbers_of(words):
+    """The number of a form as a call in a form takes it, or that of generations, and nothing for a call with neither."""
+    if words[-2] == "--generations":
+        return [ctypes.c_uint64(int(words[-1]))]
+    return [ctypes.c_uint32(forms.FORMS.index(words[-1]))] if words[-2] == "--form" else []
 
 
 class Library:
@@ -48,6 +55,10 @@ class Library:
 
     def put(self, name, data):
         self.files[name] = data
+
+    def knows(self, words):
+        """Whether there is a call for these words: by a table there is none for many generations."""
+        return "--table" not in words or "--generations" not in words
 
     def loaded(self):
         """The library, loaded at the first call in each process, and the memory for its answers."""
@@ -72,14 +83,14 @@ class Library:
             self.room = 2 * self.needed.value
             self.out = ctypes.create_string_buffer(self.room)
 
-    def by_call(self, name, data, form):
+    def by_call(self, name, data, numbers):
         call = getattr(self.calls, f"golly_canon_{name}")
-        return self.asked(lambda *out: call(data, ctypes.c_size_t(len(data)), *numbers_of(form), *store(), *out))
+        return self.asked(lambda *out: call(data, ctypes.c_size_t(len(data)), *numbers, *store(), *out))
 
-    def by_stream(self, name, data, form):
+    def by_stream(self, name, data, numbers):
         """The same with the file in some eight pieces. A refused piece ends it, as the stream tells the fault again at its end."""
         stream = Stream()
-        status = getattr(self.calls, f"golly_canon_open_{name}")(ctypes.byref(stream), *numbers_of(form), *store())
+        status = getattr(self.calls, f"golly_canon_open_{name}")(ctypes.byref(stream), *numbers, *store())
         size = len(data) // 8 + 1
         for at in range(0, len(data), size):
             piece = data[at: at + size]
@@ -94,11 +105,11 @@ class Library:
         lengths = ctypes.c_size_t(len(data)), ctypes.c_size_t(len(table))
         return self.asked(lambda *out: call(data, lengths[0], table, lengths[1], *store(), *out, ctypes.byref(self.flag)))
 
-    def compared(self, one, other, form):
-        call = self.calls.golly_canon_same if form is None else self.calls.golly_canon_same_form
+    def compared(self, one, other, numbers):
+        call = self.calls.golly_canon_same_form if numbers else self.calls.golly_canon_same
         sizes = ctypes.c_size_t(len(one)), ctypes.c_size_t(len(other))
         answered = ctypes.byref(self.flag), ctypes.byref(self.line)
-        status = call(one, sizes[0], other, sizes[1], *numbers_of(form), *store(), *answered)
+        status = call(one, sizes[0], other, sizes[1], *numbers, *store(), *answered)
         if status:
             return self.refusal(status, False)
         return commands.Answer(SAME, b"same\n") if self.flag.value else commands.Answer(DIFFERENT, b"different\n")
@@ -106,16 +117,17 @@ class Library:
     def answer(self, words, given):
         """Calls the library as these words of the program say. `-` is the file whose name is given."""
         self.loaded()
-        form = words[-1] if words[-2] == "--form" else None
+        numbers = numbers_of(words)
         first = self.files[given if words[1] == "-" else words[1]]
         if words[0] == "same":
-            return self.compared(first, self.files[given if words[2] == "-" else words[2]], form)
+            return self.compared(first, self.files[given if words[2] == "-" else words[2]], numbers)
         self.flag.value = 0
         if words[-2] == "--table":
             status = self.by_table(first, self.files[words[-1]])
         else:
-            name = "canon_form" if form else CALLS[words[-1] if words[0] == "convert" else words[0]]
-            status = (self.by_stream if words[1] == "-" else self.by_call)(name, first, form)
+            name = CALLS[words[-1] if words[0] == "convert" else words[0]]
+            name = f"{name}{MORE.get(words[-2], '')}"
+            status = (self.by_stream if words[1] == "-" else self.by_call)(name, first, numbers)
         if status:
             return self.refusal(status, self.flag.value)
         return commands.Answer(0, self.out[: self.needed.value])

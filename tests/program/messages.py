@@ -298,6 +298,15 @@ OTHERS = [
      ("named.rle", None, "Take the table of that name; for a B/S rule leave --table out.")),
     (["step", "--table", "two.rule", "two.rle"], b"", 2, "table line 8: Ambiguous",
      ("two.rule, line 8", "0,a,b,0,0,a", "Split the line: write one for each value of its variable, in the order of the values.")),
+    (["step", "--table", "two.rule", "two.rle", "--generations", "5"], b"", 2, "table line 8: Ambiguous",
+     ("two.rule, line 8", "0,a,b,0,0,a", "Split the line: write one for each value of its variable, in the order of the values.")),
+    (["step", "--table", "two.rule", "-", "--generations", "5"], b"x = 4, y = 2, rule = Spread\nA2.B$.A!\n", 2, "table line 8: Ambiguous",
+     ("two.rule, line 8, after 1 generation", "0,a,b,0,0,a", "Split the line: write one for each value of its variable, in the order of the values.")),
+    (["step", "--generations=9", "--table", "spread.rule", "-"], b"#CXRLE Gen=18446744073709551612\nx = 1, y = 1, rule = Spread\nA!\n", 2,
+     "GenerationTooLarge", ("standard input, after 3 generations", None, None)),
+    (["step", "--generations=9", "-"], b"#CXRLE Gen=18446744073709551612\nx = 3, y = 1\n3o!\n", 2, "GenerationTooLarge", ("standard input", None, None)),
+    (["step", "named.rle", "--generations", "9"], b"", 2, "NeedsTable",
+     ("named.rle", None, "Name the rule table: golly_canon step --table NAME.rule FILE.")),
     (["step", "--table", "packed.gz", "spread.rle"], b"", 2, "table line 1: NoRuleLine",
      ("packed.gz, line 1", None, "This is a gzip file: unpack it first, with gunzip.")),
     (["step", "--table", "named.cells", "spread.rle"], b"", 2, "table line 1: NoRuleLine",
@@ -464,7 +473,8 @@ def warning_rows(place):
 ODD_FILES = [(b"lost", RETURN), (b"squareless", SQUARES), (b"commented.mc", COMMENT), (b"dead.rle", CELLS), (b"cut.rle", CUT), (b"joined.rle", JOINED),
              (b"pair", None), (b"od\x1bd\n\\", SQUARES)]
 # The commands over one file, and over two, with what they answer and what is said, in its order.
-SINGLE = [["canon"], ["canon", "--form", "turned"], ["convert", "--to", "rle"], ["convert", "--to", "mc"], ["show"], ["step"]]
+SINGLE = [["canon"], ["canon", "--form", "turned"], ["convert", "--to", "rle"], ["convert", "--to", "mc"], ["show"], ["step"],
+          ["step", "--generations", "3"]]
 DOUBLE = [
     (["same", "lost", "dead.rle"], Answer(0, b"same\n"), [(b"lost", RETURN), (b"dead.rle", CELLS)]),
     (["same", "dead.rle", "pair", "--form=moved"], Answer(1, b"different\n"), [(b"dead.rle", CELLS)]),

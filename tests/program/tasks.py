@@ -186,6 +186,43 @@ STEPPED = [
     ]),
 ]
 
+# Three cells in a row, in generation 0 or another one, lie and stand by turns.
+LYING, STANDING = b"$$$$....***$$$$\n", b"$$$.....*$.....*$.....*$$$\n"
+LAST, LAST_WIRES = FILES["last.rle"], b"#CXRLE Gen=18446744073709551615\nx = 2, y = 1, rule = WireWorld\nA!\n"
+LAST_EDGE = b"#CXRLE Pos=0,2305843009213693951 Gen=18446744073709551615\nx = 3, y = 1\n3o!\n"
+SEED_TEXT = canonical(b"Spread") + b"1 0 0 0 2\n"
+
+
+def later(number, *words):
+    return ["step", "--generations", str(number), *words]
+
+
+GENERATIONS = [
+    *of_one(later(0), [(LINE, LIFE + LYING), (WIRES, WIRES_TEXT), (LAST, canonical(b"B3/S23", 2**64 - 1) + LYING), (MANY, MANY_TEXT)]),
+    *of_one(later(1), [(LINE, LINE_STEPPED), (b"x = 1, y = 1, rule = b1s0v\no!\n", canonical(b"B1/S0V", 1) + b"$$$....*$...***$....*$$$\n")]),
+    *of_one(later("0002"), [(LINE, canonical(b"B3/S23", 2) + LYING)]),
+    *of_one(later(4), [(EAST_GLIDER, canonical(b"B3/S23", 4) + b"$$$$$......*$.......*$.....***$\n"), (BLANK, canonical(b"B3/S23", 4))]),
+    *of_one(later(2**64 - 1), [(LINE, canonical(b"B3/S23", 2**64 - 1) + STANDING), (BLANK, canonical(b"B3/S23", 2**64 - 1))]),
+    *refusing(later(0), [(NONE, b"line 1: NoHeader"), (BAD, b"line 2: StateRange")]),
+    *refusing(later(1), [(NONE, b"line 1: NoHeader"), (WIRES, b"NeedsTable"), (LAST_WIRES, b"NeedsTable"), (LAST, b"GenerationTooLarge"),
+                         (LAST_EDGE, b"GenerationTooLarge"), (FILES["edge.rle"], b"OutOfPlane")]),
+    *refusing(later(2**64 - 1), [(FILES["edge.rle"], b"OutOfPlane"), (b"#CXRLE Gen=1\n" + LINE, b"GenerationTooLarge"), (WIRES, b"NeedsTable")]),
+    # A glider beside the edge of the plane touches it before it leaves.
+    *refusing(later(2**62), [(EAST_GLIDER, b"OutOfPlane")]),
+    (later(0, "--table"), [SPREAD, FILES["spread.rle"]], Answer(0, SEED_TEXT)),
+    (later(0, "--table"), [SPREAD, WIRES], Answer(0, WIRES_TEXT)),
+    (later(1, "--table"), [SPREAD, FILES["spread.rle"]], Answer(0, SPREAD_STEPPED)),
+    *refusing(later(0, "--table"), [([b"", NONE], b"table line 1: NoRuleLine"), ([SPREAD, NONE], b"line 1: NoHeader")]),
+    *refusing(later(2, "--table"), [
+        ([EITHER, FILES["two.rle"]], b"table line 8: Ambiguous"),
+        ([EITHER, b"x = 4, y = 2, rule = Spread\nA2.B$.A!\n"], b"table line 8: Ambiguous"),
+        ([SPREAD, LINE], b"RuleMismatch"),
+        ([SPREAD, FILES["beyond.rle"]], b"StateBeyondTable"),
+        ([SPREAD, b"#CXRLE Gen=18446744073709551614\n" + FILES["spread.rle"]], b"GenerationTooLarge"),
+        ([b"@RULE Spread\n", NONE], b"table line 2: NoTable"),
+    ]),
+]
+
 
 def answered(program, words, files):
     """What the program answers for files, of which the last is read from standard input, too. The answers have to be the same."""
@@ -202,7 +239,7 @@ def main(program):
     program = processes.program_of(program)
     with tempfile.TemporaryDirectory() as folder:
         os.chdir(folder)
-        for words, files, wanted in [*CANON, *SAME_FILES, *CONVERTED, *SHOWN, *FORMS, *STEPPED]:
+        for words, files, wanted in [*CANON, *SAME_FILES, *CONVERTED, *SHOWN, *FORMS, *STEPPED, *GENERATIONS]:
             shown = b" beside ".join(file[:60] for file in files)
             for found in answered(program, words, files):
                 counting.check(found == wanted, f"{' '.join(words)} of {shown!r}: {found}, not {wanted}")
