@@ -15,6 +15,8 @@ const USAGE = `Usage: golly_canon COMMAND
   same A B [--form FORM]         whether two files are one pattern: same or different
   show FILE                      rule, generation, population, bounding box, and squares of the canonical text
   step FILE [--table RULE]       the next generation, under a B/S rule or by a rule table (a .rule file)
+  step FILE [--table RULE] --generations N
+                                 N generations further in place of one
   keys [OPTIONS] [FILE]..        a line for each file: the SHA-256 of its canonical text, and its name
   duplicates [OPTIONS] [FILE]..  the groups of files that are the same pattern: a name a line, an empty line between groups
 Options of keys and duplicates:
@@ -222,8 +224,8 @@ function* filesOf({ files, recursive }, listed, leftOut) {
 
 // ---- arguments
 
-const OPTIONS = { form: { type: "string" }, to: { type: "string" }, table: { type: "string" }, from: { type: "string" }, zero: { type: "boolean" },
-  json: { type: "boolean" }, recursive: { type: "boolean", short: "r" } };
+const OPTIONS = { form: { type: "string" }, to: { type: "string" }, table: { type: "string" }, generations: { type: "string" }, from: { type: "string" },
+  zero: { type: "boolean" }, json: { type: "boolean" }, recursive: { type: "boolean", short: "r" } };
 
 /** The arguments of a command, which takes these options. */
 function parsed(words, options) {
@@ -338,6 +340,34 @@ function takeFiles(golly, found, tell, take) {
 
 const tellReason = (name, { said }) => report(escaped(name), `: ${said}\n`);
 
+/** The number of `--generations`. */
+function countOf(word) {
+  const count = /^[0-9]+$/.test(word) ? BigInt(word) : null;
+  if (count === null || count >= 1n << 64n) {
+    throw new Misused("the value of --generations is a number from 0 to 2^64 - 1");
+  }
+  return count;
+}
+
+/** The text of a file after so many single steps by a table. With none, only the table and the file can be refused. */
+function steppedBy(golly, table, file, count) {
+  if (count === 0n) {
+    try {
+      golly.step(file, { table });
+    } catch (why) {
+      if (!(why instanceof Refused) || (why.inTable && why.kind !== "Ambiguous")) {
+        throw why;
+      }
+    }
+    return golly.canon(file);
+  }
+  let text = file;
+  for (let made = 0n; made < count; made += 1n) {
+    text = golly.step(text, { table });
+  }
+  return text;
+}
+
 /** What each command does with its arguments. It returns the status, where that isn't 0. */
 const COMMANDS = {
   canon(golly, words) {
@@ -367,8 +397,14 @@ const COMMANDS = {
   },
 
   step(golly, words) {
-    const { files, table } = taken(words, 1, ["table"]);
-    write(golly.step(read(files[0]), table === undefined ? {} : { table: read(table) }));
+    const { files, table, generations } = taken(words, 1, ["table", "generations"]);
+    const count = generations === undefined ? undefined : countOf(generations);
+    if (table === undefined) {
+      write(golly.step(read(files[0]), { generations: count }));
+      return;
+    }
+    const rules = read(table);
+    write(count === undefined ? golly.step(read(files[0]), { table: rules }) : steppedBy(golly, rules, read(files[0]), count));
   },
 
   keys(golly, words) {
