@@ -4,7 +4,8 @@ writes has to be the one that the library gives. The patterns are random soups u
 are compared. Of some the population is also the one that the literature names.
 
 At the edge of the plane, which Golly's plane doesn't have, many generations are held against repeated single ones. Limits of squares from 0 on give the
-answer, or `Full`. A text in pieces is the text of the whole file. A small file that grows for ever is refused in bounded time and memory.
+answer, or `Full`. A text in pieces is the text of the whole file. A small file that grows for ever is refused in bounded time and memory. A run of many leaps
+gets along with the squares of a few of them.
 
 usage: tests/library/generations.py ARCHIVE [--golly BGOLLY] [--patterns FOLDER] [--cases N] [--seed SEED]
 
@@ -183,6 +184,25 @@ def growing():
         counting.row(f"a soup that grows for ever under {rule} is refused", [] if is_right else [f"{run.stdout} {run.stderr[-300:]}"])
 
 
+def in_stages(golly_canon, golly, folder):
+    """A block at the corner of the plane makes each leap a single generation. One generation of the acorn beside it stores more than 300 squares: the limit of
+    squares is far below those of all generations together, so that without a fresh store from time to time the run is refused."""
+    acorn, far = "bo$3bo$2o2b3o", EDGE - 2
+    file = f"#CXRLE Pos=0,0\nx = {EDGE}, y = {EDGE}, rule = B3/S23\n{acorn}{far - 2}${far}b2o${far}b2o!\n".encode()
+    wanted = singly(golly_canon, file, 200)
+    few = [at_once(golly_canon, file, 1, limit=limit) for limit in range(0, 2049, 64)]
+    one = 64 * sum(answer == "Full" for answer in few)
+    counting.row(f"one generation with a block at the edge, which needs more than {one - 64} squares", [] if 300 < one < 2048 else [str(one)])
+    answer = at_once(golly_canon, file, 200, limit=1 << 14)
+    counting.row("200 generations with a block at the edge, within 2^14 squares", [] if answer == wanted else [f"{answer!r:.200}"])
+    if golly is not None:
+        rle = f"x = 7, y = 3, rule = B3/S23\n{acorn}!\n".encode()
+        population = golly_canon.show(golly_canon.canon(golly.later(rle, 3000, folder))).population + 4
+        answer = at_once(golly_canon, file, 3000, limit=1 << 16)
+        counted = None if answer == "Full" else golly_canon.show(answer).population
+        counting.row(f"3,000 generations with a block at the edge, within 2^16 squares: {population} cells", [] if counted == population else [f"{counted} cells"])
+
+
 def in_pieces(golly_canon):
     """A file in pieces, cut anywhere."""
     file = b"#CXRLE Gen=7\nx = 3, y = 3\nb2o$2o$bo!\n"
@@ -210,6 +230,7 @@ def main():
             beside_golly(golly_canon, Golly(given.golly, given.patterns), given.cases, given.seed)
         at_the_edge(golly_canon, given.seed)
         within_limits(golly_canon)
+        in_stages(golly_canon, None if given.golly is None else Golly(given.golly, given.patterns), folder)
         in_pieces(golly_canon)
         growing()
     return counting.ended()

@@ -6,7 +6,7 @@ ghost use Rattle.life_generations.specs.Words.{fault_of, ForEachFile, IsOfFile, 
 use life_base::{Fault, Kind, MAX_LEVEL, Rule};
 use life_canon::laws::{files_are_on_plane, patterns_fit};
 use life_canon::{Pattern, read};
-use life_later::later;
+use life_later::later_in_stages;
 use life_quad::Shared;
 use life_step::text_of_square;
 use std::alloc::Global;
@@ -51,7 +51,7 @@ pub fn later_by_rule(
         return Err(Fault::of(Kind::NeedsTable));
     };
     let generation = later_generation(pattern.generation, generations)?;
-    let square = later(alloc, store, rule, pattern.root, generations)?;
+    let square = later_in_stages(alloc, store, rule, pattern.root, generations)?;
     text_of_square(alloc, store, pattern.rule, generation, square)
 }
 

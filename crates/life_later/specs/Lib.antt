@@ -1,3 +1,4 @@
 pub mod Course
 pub mod Margins
+pub mod Stores
 pub mod Words

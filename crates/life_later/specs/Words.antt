@@ -4,4 +4,8 @@ pub use Rattle.life_later.specs.Margins.{IsBoxOnPlane, IsPlaneMargin}
 pub use Rattle.life_leap.specs.After.{after}
 pub use Rattle.life_quad.specs.Cells.{IsBoundingBoxOfTree}
 pub use Rattle.life_quad.specs.Grows.{KeepsStore}
-pub use Rattle.life_later.specs.Course.{IsCourseFault, LeavesWithin}
+pub use Rattle.life_later.specs.Course.{IsCourse, IsCourseFault, IsFaultApart, LeavesWithin}
+pub use Rattle.life_later.specs.Stores.{IsKnown, Keeps}
+pub use Rattle.life_leap.specs.Leaps.{RemembersLeaps}
+pub use Rattle.life_quad.specs.IdMap.{value_of_id}
+pub use Rattle.life_quad.specs.Store.{content, stored_squares}

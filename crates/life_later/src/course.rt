@@ -1,11 +1,11 @@
 //! The leaps that lead to a later generation: `later` makes one leap after another, each as long as the pattern's distance to the edge of the plane allows.
 ghost use Rattle.std.specs.Prelude.{◌≡◌, ℤ, ◌+◌, ◌^◌, ◌<◌, ◌≤◌, IfOk, IfErr};
-ghost use Rattle.life_later.specs.Words.{after, depth, IsCourseFault, LeavesWithin, tree_cell, KeepsStore, IsBoundingBoxOfTree, IsBoxOnPlane, IsPlaneMargin};
+ghost use Rattle.life_later.specs.Words.{after, depth, IsCourseFault, LeavesWithin, tree_cell, KeepsStore, IsBoundingBoxOfTree, IsBoxOnPlane, IsPlaneMargin, RemembersLeaps, value_of_id};
 
 use life_base::{Bounds, Fault, LifeRule, MAX_LEVEL};
 use life_leap::{FASTEST, leap_on_plane, next_on_plane};
 use life_quad::laws::{trimming_keeps_cells, trimming_stops};
-use life_quad::{Id, SharedSquares, Squares, bounds, trim};
+use life_quad::{Id, IdMap, SharedSquares, Squares, bounds, trim};
 use std::alloc::Global;
 
 /// The least level to which the square of a generation is trimmed. A leap requires this level or more.
@@ -66,17 +66,23 @@ fn pace_for(margin: u64, left: u64) -> u8
 fn leap<S: SharedSquares>(
     alloc: Global,
     squares: &mut S,
+    memory: &mut IdMap<Option<Id>>,
     rule: &LifeRule,
     root: Id,
     bounding_box: &Bounds,
     left: u64,
 ) -> Result<(u64, Id), Fault>
+    requires remembers { RemembersLeaps (S.knows squares.old) (S.content squares.old) rule.now
+        FASTEST (value_of_id memory.old) }
     requires known { S.knows squares.old root }
     requires low { 3 ≤ depth (S.content squares.old root) }
     requires states { (x y : ℤ) → tree_cell (S.content squares.old root) x y < 2 }
     requires some { 1 ≤ left }
     requires inside { IsBoundingBoxOfTree (S.content squares.old root) bounding_box.now }
     ensures taken { IfOk result (λ r. (1 ≤ r.0) × (r.0 ≤ left)) }
+    ensures remembers { IfOk result
+        (λ _. RemembersLeaps (S.knows squares.new)
+        (S.content squares.new) rule.now FASTEST (value_of_id memory.new)) }
     ensures known { IfOk result (λ r. S.knows squares.new r.1) }
     ensures low { IfOk result (λ r. 3 ≤ depth (S.content squares.new r.1)) }
     ensures later { IfOk result (λ r. (x y : ℤ) → tree_cell (S.content squares.new r.1) x y
@@ -95,7 +101,7 @@ fn leap<S: SharedSquares>(
         return Ok((1, next));
     }
     let pace = pace_for(margin, left);
-    let next = leap_on_plane(alloc, squares, rule, pace, root)?;
+    let next = leap_on_plane(alloc, squares, memory, rule, pace, root)?;
     Ok((1 << pace, next))
 }
 
@@ -103,17 +109,23 @@ fn leap<S: SharedSquares>(
 fn leap_trimmed<S: SharedSquares>(
     alloc: Global,
     squares: &mut S,
+    memory: &mut IdMap<Option<Id>>,
     rule: &LifeRule,
     root: Id,
     bounding_box: &Bounds,
     left: u64,
 ) -> Result<(u64, Id), Fault>
+    requires remembers { RemembersLeaps (S.knows squares.old) (S.content squares.old) rule.now
+        FASTEST (value_of_id memory.old) }
     requires known { S.knows squares.old root }
     requires low { 3 ≤ depth (S.content squares.old root) }
     requires states { (x y : ℤ) → tree_cell (S.content squares.old root) x y < 2 }
     requires some { 1 ≤ left }
     requires inside { IsBoundingBoxOfTree (S.content squares.old root) bounding_box.now }
     ensures taken { IfOk result (λ r. (1 ≤ r.0) × (r.0 ≤ left)) }
+    ensures remembers { IfOk result
+        (λ _. RemembersLeaps (S.knows squares.new)
+        (S.content squares.new) rule.now FASTEST (value_of_id memory.new)) }
     ensures known { IfOk result (λ r. S.knows squares.new r.1) }
     ensures low { IfOk result (λ r. 3 ≤ depth (S.content squares.new r.1)) }
     ensures later { IfOk result (λ r. (x y : ℤ) → tree_cell (S.content squares.new r.1) x y
@@ -126,9 +138,46 @@ fn leap_trimmed<S: SharedSquares>(
 {
     trimming_keeps_cells();
     trimming_stops();
-    let (taken, next) = leap(alloc, squares, rule, root, bounding_box, left)?;
+    let (taken, next) = leap(alloc, squares, memory, rule, root, bounding_box, left)?;
     let trimmed = trim(squares, next, LEAST_LEVEL)?;
     Ok((taken, trimmed))
+}
+
+/// The next leap of a course, and the square after it without blank outer parts. A square without cells stays so for all generations that are left.
+pub(crate) fn next_leap<S: SharedSquares>(
+    alloc: Global,
+    squares: &mut S,
+    memory: &mut IdMap<Option<Id>>,
+    rule: &LifeRule,
+    root: Id,
+    left: u64,
+) -> Result<(u64, Id), Fault>
+    requires remembers { RemembersLeaps (S.knows squares.old) (S.content squares.old) rule.now
+        FASTEST (value_of_id memory.old) }
+    requires known { S.knows squares.old root }
+    requires low { 3 ≤ depth (S.content squares.old root) }
+    requires states { (x y : ℤ) → tree_cell (S.content squares.old root) x y < 2 }
+    requires some { 1 ≤ left }
+    ensures taken { IfOk result (λ r. (1 ≤ r.0) × (r.0 ≤ left)) }
+    ensures remembers { IfOk result
+        (λ _. RemembersLeaps (S.knows squares.new)
+        (S.content squares.new) rule.now FASTEST (value_of_id memory.new)) }
+    ensures known { IfOk result (λ r. S.knows squares.new r.1) }
+    ensures low { IfOk result (λ r. 3 ≤ depth (S.content squares.new r.1)) }
+    ensures later { IfOk result (λ r. (x y : ℤ) → tree_cell (S.content squares.new r.1) x y
+        ≡ after rule.now r.0 (tree_cell (S.content squares.old root)) x y) }
+    ensures stays { IfOk result
+        (λ r. ¬ (LeavesWithin rule.now r.0 (tree_cell (S.content squares.old root)))) }
+    ensures keeps { KeepsStore S.Squares squares.old squares.new }
+    ensures refusals { IfErr result (IsCourseFault rule.now left
+        (tree_cell (S.content squares.old root)) (S.stored squares.new) (S.most squares.new)) }
+{
+    // Reading a field gives its invariant to the proof: no cell is born without live neighbours.
+    let _ = &rule.births;
+    let Some(bounding_box) = bounds(alloc, &*squares, root)? else {
+        return Ok((left, root));
+    };
+    leap_trimmed(alloc, squares, memory, rule, root, &bounding_box, left)
 }
 
 /// The cells of a square so many generations later, as a square around the same centre. With 0 generations, these are the same cells.
@@ -157,15 +206,11 @@ pub fn later<S: SharedSquares>(
     ensures refusals { IfErr result (IsCourseFault rule.now generations
         (tree_cell (S.content squares.old root)) (S.stored squares.new) (S.most squares.new)) }
 {
-    // Reading a field gives its invariant to the proof: no cell is born without live neighbours.
-    let _ = &rule.births;
+    let mut memory = IdMap::new(alloc, None);
     let mut left = generations;
     let mut now = root;
     while left > 0 {
-        let Some(bounding_box) = bounds(alloc, &*squares, now)? else {
-            return Ok(now);
-        };
-        let (taken, next) = leap_trimmed(alloc, squares, rule, now, &bounding_box, left)?;
+        let (taken, next) = next_leap(alloc, squares, &mut memory, rule, now, left)?;
         left -= taken;
         now = next;
     }

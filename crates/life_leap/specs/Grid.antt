@@ -1,10 +1,10 @@
 -- Squares of one level side by side, as pieces of a plane of cells.
-use Rattle.std.specs.Prelude.{◌≡◌, ℕ, ◌-◌, ◌^◌, ℤ}
+use Rattle.std.specs.Prelude.{◌≡◌, ℕ, ◌+◌, ◌-◌, ◌^◌, ℤ}
 use Rattle.life_base.specs.Tree.{Tree}
 use Rattle.life_quad.specs.declared.id.Id.{Id}
 use Rattle.life_quad.specs.declared.moves.Quarters.{Quarters}
 use Rattle.life_quad.specs.Moves.{quad_of}
-use Rattle.life_block.specs.Pieces.{IsPiece, step_ahead}
+use Rattle.life_block.specs.Pieces.{IsOfLevel, IsPiece, step_ahead}
 use Rattle.life_leap.specs.declared.grid.Triple.{Triple}
 use Rattle.life_leap.specs.declared.grid.Row.{Row}
 
@@ -95,6 +95,18 @@ NineBlocks = Triple (Triple Quarters)
 -- the same of four rows of four
 abbrev pub nine_blocks_of : SixteenIds → NineBlocks
 nine_blocks_of s = record { first = blocks_of_rows s.first s.second; second = blocks_of_rows s.second s.third; third = blocks_of_rows s.third s.fourth }
+
+-- the squares are those of the four blocks at the corners
+pub record AreCorners (content : Id → Tree) (blocks : NineBlocks) (corners : Quarters) : Type 0 where
+  pub nw : content corners.nw ≡ quad_of content blocks.first.first
+  pub ne : content corners.ne ≡ quad_of content blocks.first.third
+  pub sw : content corners.sw ≡ quad_of content blocks.third.first
+  pub se : content corners.se ≡ quad_of content blocks.third.third
+
+-- so they are, of blocks of squares of level k, and they are known
+pub record AreKnownCorners (knows : Id → Type 0) (content : Id → Tree) (k : ℕ) (blocks : NineBlocks) (corners : Quarters) : Type 0 where
+  pub known : InFourIds (IsOfLevel knows content (k + 1)) corners
+  pub are : AreCorners content blocks corners
 
 -- each of the squares is joined of the four squares of a block
 module _ (old next : Id → Tree) where

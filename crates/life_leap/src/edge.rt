@@ -233,7 +233,7 @@ pub(crate) fn next_of_plane<S: SharedSquares>(
     let level = MAX_LEVEL - 1;
     let sixteen = amid_blank(&*squares, level, id);
     let mut memory = IdMap::new(alloc, None);
-    let nine = nine_after(squares, &mut memory, rule, 0, level, &sixteen)?;
+    let nine = nine_after(squares, &mut memory, rule, 0, level, &sixteen, &None)?;
     if is_ring_blank(&*squares, level - 1, &nine) {
         return inner_of_nine(squares, level, &nine);
     }

@@ -1,6 +1,6 @@
 //! Squares of one level side by side: rows of three and of four, and their blocks of two by two.
 ghost use Rattle.std.specs.Prelude.{◌≡◌, ℕ, ℤ, ◌+◌, ◌^◌};
-ghost use Rattle.life_leap.specs.Words.{IsOfLevel, IsPiece, InRow, AreFourSquares, AreSixteenSquares, IsTwoAt, step_ahead, blocks_of_rows, nine_blocks_of, western_block, eastern_block};
+ghost use Rattle.life_leap.specs.Words.{IsOfLevel, IsPiece, InRow, AreFourSquares, AreSixteenSquares, IsTwoAt, step_ahead, AreCorners, quad, quad_of, QuartersValue, blocks_of_rows, nine_blocks_of, western_block, eastern_block};
 
 use life_quad::{Id, Quarters, Squares, divide};
 
@@ -45,6 +45,12 @@ fn halves_of_two<S: Squares>(squares: &S, level: u8, west: Id, east: Id) -> (Row
         → IsTwoAt (S.content squares.now) cells (2 ^ (level + 1)) x y west east
         → AreFourSquares (S.content squares.now) cells (2 ^ level) x (step_ahead y (2 ^ level))
         result.1 }
+    ensures west { S.content squares.now west ≡ quad
+        (S.content squares.now result.0.first) (S.content squares.now result.0.second)
+        (S.content squares.now result.1.first) (S.content squares.now result.1.second) }
+    ensures east { S.content squares.now east ≡ quad
+        (S.content squares.now result.0.third) (S.content squares.now result.0.fourth)
+        (S.content squares.now result.1.third) (S.content squares.now result.1.fourth) }
 {
     let west = divide(squares, west);
     let east = divide(squares, east);
@@ -70,6 +76,9 @@ pub(crate) fn sixteenths<S: Squares>(squares: &S, level: u8, id: Id) -> Sixteen
         result }
     ensures pieces { (cells : ℤ → ℤ → ℕ) (x y : ℤ) → IsPiece cells x y (S.content squares.now id)
         → AreSixteenSquares (S.content squares.now) cells (2 ^ level) x y result }
+    ensures corners { (quarters : QuartersValue)
+        → S.content squares.now id ≡ quad_of (S.content squares.now) quarters
+        → AreCorners (S.content squares.now) (nine_blocks_of result) quarters }
 {
     let Quarters { nw, ne, sw, se } = divide(squares, id);
     let (first, second) = halves_of_two(squares, level, nw, ne);

@@ -1,12 +1,12 @@
 //! A leap on the plane. The square is grown first, so that no cell can leave it.
 ghost use Rattle.std.specs.Prelude.{◌≡◌, ℤ, ◌+◌, ◌^◌, ◌<◌, ◌≤◌, max, ◌⊎◌, IfOk, IfErr};
-ghost use Rattle.life_leap.specs.Words.{after, depth, tree_cell, HasCellOutside, HasPlaneMargin, KeepsStore, IsShortageIn, OutOfPlane};
+ghost use Rattle.life_leap.specs.Words.{after, depth, tree_cell, HasCellOutside, HasPlaneMargin, KeepsStore, IsShortageIn, OutOfPlane, RemembersLeaps, value_of_id};
 
 use crate::edge::next_of_plane;
 use crate::leap::square_after;
 use life_base::{Kind, LifeRule, MAX_LEVEL};
 use life_quad::laws::growing_keeps_cells;
-use life_quad::{Id, SharedSquares, Squares, grow};
+use life_quad::{Id, IdMap, SharedSquares, Squares, grow};
 use std::alloc::Global;
 
 /// The greatest pace of a leap. A leap of pace p is 2^p generations, and needs a square of level p + 2 or more: the plane has level 62.
@@ -46,7 +46,7 @@ fn level_for(level: u8, pace: u8) -> u8
 }
 
 /// The cells of a square 2^pace generations later, as a square around the same centre that is large enough for them. It requires at least 2^pace columns and
-/// rows of the plane beyond each cell on each side, so that none can leave the plane.
+/// rows of the plane beyond each cell on each side, so that none can leave the plane. The memory is that of `square_after`.
 ///
 /// # Errors
 ///
@@ -54,15 +54,21 @@ fn level_for(level: u8, pace: u8) -> u8
 pub fn leap_on_plane<S: SharedSquares>(
     alloc: Global,
     squares: &mut S,
+    memory: &mut IdMap<Option<Id>>,
     rule: &LifeRule,
     pace: u8,
     id: Id,
 ) -> Result<Id, Kind>
+    requires remembers { RemembersLeaps (S.knows squares.old) (S.content squares.old) rule.now
+        FASTEST (value_of_id memory.old) }
     requires known { S.knows squares.old id }
     requires low { 3 ≤ depth (S.content squares.old id) }
     requires slow { pace ≤ FASTEST }
     requires states { (x y : ℤ) → tree_cell (S.content squares.old id) x y < 2 }
     requires margin { HasPlaneMargin (2 ^ pace) (S.content squares.old id) }
+    ensures remembers { IfOk result
+        (λ _. RemembersLeaps (S.knows squares.new)
+        (S.content squares.new) rule.now FASTEST (value_of_id memory.new)) }
     ensures known { IfOk result (S.knows squares.new) }
     ensures level { IfOk result (λ r. 3 ≤ depth (S.content squares.new r)) }
     ensures later { IfOk result (λ r. (x y : ℤ) → tree_cell (S.content squares.new r) x y
@@ -72,7 +78,7 @@ pub fn leap_on_plane<S: SharedSquares>(
 {
     let level = level_for(squares.level(id), pace);
     let grown = grown_to(squares, level, id)?;
-    square_after(alloc, squares, rule, pace, grown)
+    square_after(alloc, squares, memory, rule, pace, grown)
 }
 
 /// The next generation of the whole plane, as a square of the level of the plane. Unlike in a leap, cells may be at the edge of the plane. The time depends

@@ -5,11 +5,13 @@
 //! (`nine_halfway`), and of these the four in the middle of each block again (`middle_of_nine`). If the pace is less than the level of the sixteen squares,
 //! the second
 //! part already takes all generations, so that the first part takes none (`nine_centres`).
-ghost use Rattle.std.specs.Prelude.{◌≡◌, ℕ, ℤ, ◌+◌, ◌-◌, ◌^◌, ◌<◌, ◌≤◌, false, IfOk, IfErr, Some};
-ghost use Rattle.life_leap.specs.Words.{after, HasEnds, has_digit, depth, tree_cell, HasMargin, IsOfLevel, InRow, InTriple, InFourIds, IsBlankSquareBeyond, OuterTotalistic, IsMiddleAfter, IsMiddleOfNine, IsPiece, AreMiddlesOfSixteen, AreThreeMiddles, AreNineJoined, AreFourJoined, IsInnerBlock, AreThreeInner, AreNineSquares, AreThreeSquares, IsFirstPart, leap_length, RemembersLeaps, KeepsStore, IsShortageIn, step_ahead, step_back, is_blank_tree, value_of_id};
+ghost use Rattle.std.specs.Prelude.{◌≡◌, ℕ, ℤ, ◌+◌, ◌-◌, ◌^◌, ◌<◌, ◌≤◌, false, IfOk, IfErr, IfSome, Some};
+ghost use Rattle.life_leap.specs.Words.{after, AreKnownCorners, HasEnds, has_digit, depth, tree_cell, HasMargin, IsOfLevel, InRow, InTriple, InFourIds, IsBlankSquareBeyond, OuterTotalistic, IsMiddleAfter, IsMiddleOfNine, IsPiece, AreMiddlesOfSixteen, AreThreeMiddles, nine_blocks_of, AreNineJoined, AreFourJoined, IsInnerBlock, AreThreeInner, AreNineSquares, AreThreeSquares, IsFirstPart, leap_length, RemembersLeaps, KeepsStore, IsShortageIn, step_ahead, step_back, is_blank_tree, value_of_id};
 
 use crate::bands::leaf_after;
 use crate::grid::{Nine, NineBlocks, Row, Sixteen, Triple, sixteenths};
+use crate::growing::FASTEST;
+use crate::slow::middle_of_nine_at_pace;
 use life_base::{Kind, LifeRule, MAX_LEVEL};
 use life_quad::{Id, IdMap, Quarters, SharedSquares, Squares, divide, is_blank_at};
 use std::alloc::Global;
@@ -17,7 +19,7 @@ use std::alloc::Global;
 /// The square in the middle of a square of this level, `leap_length` generations later. It has half of the side. The memory has the answers of earlier calls by
 /// the Ids of their squares. All are for one rule and one pace, so that the Id is the whole key.
 #[cycle(leap)]
-fn middle_after<S: Squares>(
+pub(crate) fn middle_after<S: Squares>(
     squares: &mut S,
     memory: &mut IdMap<Option<Id>>,
     rule: &LifeRule,
@@ -86,8 +88,9 @@ fn middle_of_new<S: Squares>(
         return leaf_after(squares, rule, pace, id);
     }
     let below = level - 2;
+    let corners = divide(squares, id);
     let sixteen = sixteenths(squares, below, id);
-    let nine = nine_halfway(squares, memory, rule, pace, below, &sixteen)?;
+    let nine = nine_halfway(squares, memory, rule, pace, below, &sixteen, &Some(corners))?;
     middle_of_nine(squares, memory, rule, pace, below, &nine)
 }
 
@@ -100,11 +103,14 @@ fn nine_halfway<S: Squares>(
     pace: u8,
     level: u8,
     sixteen: &Sixteen,
+    corners: &Option<Quarters>,
 ) -> Result<Nine, Kind>
     requires remembers { RemembersLeaps (S.knows squares.old) (S.content squares.old) rule.now pace
         (value_of_id memory.old) }
     requires known { InRow (InRow (IsOfLevel (S.knows squares.old)
         (S.content squares.old) level)) sixteen.now }
+    requires corners { IfSome corners.now (AreKnownCorners (S.knows squares.old)
+        (S.content squares.old) level (nine_blocks_of sixteen.now)) }
     requires low { 3 ≤ level }
     requires high { level < MAX_LEVEL }
     requires quiet { has_digit rule.now.sets.births 0 ≡ false }
@@ -121,10 +127,11 @@ fn nine_halfway<S: Squares>(
     if pace < level {
         return nine_centres(squares, level, sixteen);
     }
-    nine_after(squares, memory, rule, pace, level, sixteen)
+    nine_after(squares, memory, rule, pace, level, sixteen, corners)
 }
 
-/// The squares in the middle of the nine blocks of two by two, `leap_length` generations later.
+/// The squares in the middle of the nine blocks of two by two, `leap_length` generations later. The corners are the squares that the four blocks
+/// there make, if they are known.
 #[cycle(leap)]
 pub(crate) fn nine_after<S: Squares>(
     squares: &mut S,
@@ -133,11 +140,14 @@ pub(crate) fn nine_after<S: Squares>(
     pace: u8,
     level: u8,
     sixteen: &Sixteen,
+    corners: &Option<Quarters>,
 ) -> Result<Nine, Kind>
     requires remembers { RemembersLeaps (S.knows squares.old) (S.content squares.old) rule.now pace
         (value_of_id memory.old) }
     requires known { InRow (InRow (IsOfLevel (S.knows squares.old)
         (S.content squares.old) level)) sixteen.now }
+    requires corners { IfSome corners.now (AreKnownCorners (S.knows squares.old)
+        (S.content squares.old) level (nine_blocks_of sixteen.now)) }
     requires low { 3 ≤ level }
     requires high { level < MAX_LEVEL }
     requires quiet { has_digit rule.now.sets.births 0 ≡ false }
@@ -152,7 +162,7 @@ pub(crate) fn nine_after<S: Squares>(
     ensures refusals { IfErr result (IsShortageIn S.Squares squares.new) }
 {
     let blocks = sixteen.blocks();
-    let joined = nine_joined(squares, level, &blocks)?;
+    let joined = nine_made(squares, level, &blocks, corners)?;
     let first = three_after(squares, memory, rule, pace, level + 1, &joined.first)?;
     let second = three_after(squares, memory, rule, pace, level + 1, &joined.second)?;
     let third = three_after(squares, memory, rule, pace, level + 1, &joined.third)?;
@@ -285,8 +295,86 @@ fn nine_joined<S: Squares>(squares: &mut S, level: u8, blocks: &NineBlocks) -> R
     })
 }
 
+/// The same of nine blocks whose four at the corners make known squares, so that only five are joined.
+fn nine_amid<S: Squares>(
+    squares: &mut S,
+    level: u8,
+    blocks: &NineBlocks,
+    corners: &Quarters,
+) -> Result<Nine, Kind>
+    requires known { InTriple (InTriple (InFourIds (IsOfLevel (S.knows squares.old)
+        (S.content squares.old) level))) blocks.now }
+    requires corners { AreKnownCorners (S.knows squares.old)
+        (S.content squares.old) level blocks.now corners.now }
+    requires high { level < MAX_LEVEL }
+    ensures known { IfOk result
+        (InTriple (InTriple (IsOfLevel (S.knows squares.new) (S.content squares.new)
+        (level + 1)))) }
+    ensures squares { IfOk result (AreNineJoined (S.content squares.old)
+        (S.content squares.new) blocks.now) }
+    ensures keeps { KeepsStore S.Squares squares.old squares.new }
+    ensures refusals { IfErr result (IsShortageIn S.Squares squares.new) }
+{
+    let five = [
+        blocks.first.second,
+        blocks.second.first,
+        blocks.second.second,
+        blocks.second.third,
+        blocks.third.second,
+    ];
+    let mut ids = [corners.nw; 5];
+    squares.join_all(&five, &mut ids)?;
+    Ok(Triple {
+        first: Triple {
+            first: corners.nw,
+            second: ids[0],
+            third: corners.ne,
+        },
+        second: Triple {
+            first: ids[1],
+            second: ids[2],
+            third: ids[3],
+        },
+        third: Triple {
+            first: corners.sw,
+            second: ids[4],
+            third: corners.se,
+        },
+    })
+}
+
+/// The squares that nine blocks make, where those of the four at the corners may be known.
+fn nine_made<S: Squares>(
+    squares: &mut S,
+    level: u8,
+    blocks: &NineBlocks,
+    corners: &Option<Quarters>,
+) -> Result<Nine, Kind>
+    requires known { InTriple (InTriple (InFourIds (IsOfLevel (S.knows squares.old)
+        (S.content squares.old) level))) blocks.now }
+    requires corners { IfSome corners.now (AreKnownCorners (S.knows squares.old)
+        (S.content squares.old) level blocks.now) }
+    requires high { level < MAX_LEVEL }
+    ensures known { IfOk result
+        (InTriple (InTriple (IsOfLevel (S.knows squares.new) (S.content squares.new)
+        (level + 1)))) }
+    ensures squares { IfOk result (AreNineJoined (S.content squares.old)
+        (S.content squares.new) blocks.now) }
+    ensures keeps { KeepsStore S.Squares squares.old squares.new }
+    ensures refusals { IfErr result (IsShortageIn S.Squares squares.new) }
+{
+    match corners {
+        Some(corners) => nine_amid(squares, level, blocks, corners),
+        None => nine_joined(squares, level, blocks),
+    }
+}
+
 /// The squares that the four blocks of two by two among nine squares make, each one level higher.
-fn four_joined<S: Squares>(squares: &mut S, level: u8, nine: &Nine) -> Result<Quarters, Kind>
+pub(crate) fn four_joined<S: Squares>(
+    squares: &mut S,
+    level: u8,
+    nine: &Nine,
+) -> Result<Quarters, Kind>
     requires known { InTriple (InTriple (IsOfLevel (S.knows squares.old)
         (S.content squares.old) level)) nine.now }
     requires high { level < MAX_LEVEL }
@@ -350,7 +438,11 @@ fn three_inner_blocks<S: Squares>(
 }
 
 /// The squares in the middle of the nine blocks of sixteen squares, in the same generation.
-fn nine_centres<S: Squares>(squares: &mut S, level: u8, sixteen: &Sixteen) -> Result<Nine, Kind>
+pub(crate) fn nine_centres<S: Squares>(
+    squares: &mut S,
+    level: u8,
+    sixteen: &Sixteen,
+) -> Result<Nine, Kind>
     requires known { InRow (InRow (IsOfLevel (S.knows squares.old)
         (S.content squares.old) level)) sixteen.now }
     requires low { 3 ≤ level }
@@ -443,21 +535,29 @@ fn nine_around<S: Squares>(squares: &mut S, level: u8, id: Id) -> Result<Nine, K
 /// The cells of a square 2^pace generations later, as a square of the same level around the same centre. The square requires level 4 or more, and at least
 /// two more than the pace. It also requires at least 2^pace columns and rows of the square beyond each cell on each side, so that none can leave it.
 ///
+/// The memory has the answers of earlier leaps in the same store, of any pace and under the same rule. This leap adds its own.
+///
 /// # Errors
 ///
 /// `Full` if the store has reached its limit, and `Memory` if memory ran out. After an error each Id still has its square.
 pub fn square_after<S: SharedSquares>(
     alloc: Global,
     squares: &mut S,
+    memory: &mut IdMap<Option<Id>>,
     rule: &LifeRule,
     pace: u8,
     id: Id,
 ) -> Result<Id, Kind>
+    requires remembers { RemembersLeaps (S.knows squares.old) (S.content squares.old) rule.now
+        FASTEST (value_of_id memory.old) }
     requires known { S.knows squares.old id }
     requires low { 4 ≤ depth (S.content squares.old id) }
     requires slow { pace + 2 ≤ depth (S.content squares.old id) }
     requires states { (x y : ℤ) → tree_cell (S.content squares.old id) x y < 2 }
     requires margin { HasMargin (2 ^ pace) (S.content squares.old id) }
+    ensures remembers { IfOk result
+        (λ _. RemembersLeaps (S.knows squares.new)
+        (S.content squares.new) rule.now FASTEST (value_of_id memory.new)) }
     ensures known { IfOk result (S.knows squares.new) }
     ensures level { IfOk result
         (λ r. depth (S.content squares.new r) ≡ depth (S.content squares.old id)) }
@@ -469,7 +569,7 @@ pub fn square_after<S: SharedSquares>(
     // Reading a field gives its invariant to the proof: no cell is born without live neighbours.
     let _ = &rule.births;
     let level = squares.level(id);
-    let mut memory = IdMap::new(alloc, None);
+    let mut slow = IdMap::new(alloc, None);
     let nine = nine_around(squares, level - 2, id)?;
-    middle_of_nine(squares, &mut memory, rule, pace, level - 1, &nine)
+    middle_of_nine_at_pace(squares, memory, &mut slow, rule, pace, level - 1, &nine)
 }

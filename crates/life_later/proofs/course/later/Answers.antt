@@ -1,13 +1,12 @@
 use Rattle.std.proofs.Common.{◌≡◌, ◌+◌, ◌-◌, sym, ◌∙◌, ap, subst, arith}
 use Rattle.std.proofs.lemmas.Result.{err_from_is_err_and}
-use Rattle.life_base.specs.Rules.{has_digit}
-use Rattle.life_base.specs.Sets.{OuterTotalistic}
 use Rattle.life_base.specs.Tree.{tree_cell}
 use Rattle.life_quad.proofs.KeepingLemmas.{keeps-same, keeps-then}
 use Rattle.life_leap.specs.After.{after}
+use Rattle.life_leap.proofs.LeapLemmas.{no-leaps}
 use Rattle.life_later.specs.Course.{LeavesWithin, IsCourseFault}
-use Rattle.life_later.proofs.CourseLemmas.{binary-later, blank-cells, blank-later, none-later, then-later}
-use Rattle.life_later.proofs.StayLemmas.{fault-then, none-leaves, blank-stays, stays-then}
+use Rattle.life_later.proofs.CourseLemmas.{binary-later, none-later, then-later}
+use Rattle.life_later.proofs.StayLemmas.{fault-then, none-leaves, stays-then}
 use Rattle.life_later.proofs.course.later.Goals as goal
 
 pub loop-left-init : goal.loop-left-init
@@ -17,6 +16,7 @@ loop-left-init g c =
     let e : n - n ≡ 0 = omega arith in
     record {
       most = omega arith;
+      remembers = no-leaps _ c.new-memory.ensures;
       known = c.requires.known;
       low = c.requires.low;
       states = c.requires.states;
@@ -24,37 +24,6 @@ loop-left-init g c =
       stays = λ h. none-leaves c.args.rule.now (n - n) (tree_cell u) e h;
       keeps = keeps-same c.args.squares.now;
     }
-
-pub returns-in_default-clause-later : goal.returns-in_default-clause-later
-returns-in_default-clause-later g c =
-    let inv = c.loop-left.invariant in
-    let rule = c.args.rule.now in
-    let t = g.S.Squares.content c.args.squares.now c.args.root in
-    let u = g.S.Squares.content c.loop-left.squares c.loop-left.now in
-    let low = inv.low in
-    let most = inv.most in
-    let blank = rw c.in_default.is at c.in_ok-bounding_box.ensures.least in
-    let quiet = ap (λ (d : OuterTotalistic). has_digit d.sets.births 0) (sym c.rule.view_is) ∙ c.rule.invariant.no_birth_on_zero in
-    let e : c.loop-left.left + (c.args.generations - c.loop-left.left) ≡ c.args.generations = omega (arith, most) in
-    let none = blank-cells u (g.met.S.Squares.full _ _ inv.known) (omega (arith, low)) blank in
-    λ x y. then-later rule (c.args.generations - c.loop-left.left) c.loop-left.left t u u inv.later (blank-later rule c.loop-left.left u quiet none) x y
-    ∙ ap (λ m. after rule m (tree_cell t) x y) e
-
-pub returns-in_default-clause-stays : goal.returns-in_default-clause-stays
-returns-in_default-clause-stays g c =
-    let inv = c.loop-left.invariant in
-    let rule = c.args.rule.now in
-    let t = g.S.Squares.content c.args.squares.now c.args.root in
-    let u = g.S.Squares.content c.loop-left.squares c.loop-left.now in
-    let low = inv.low in
-    let most = inv.most in
-    let blank = rw c.in_default.is at c.in_ok-bounding_box.ensures.least in
-    let quiet = ap (λ (d : OuterTotalistic). has_digit d.sets.births 0) (sym c.rule.view_is) ∙ c.rule.invariant.no_birth_on_zero in
-    let e : c.loop-left.left + (c.args.generations - c.loop-left.left) ≡ c.args.generations = omega (arith, most) in
-    let none = blank-cells u (g.met.S.Squares.full _ _ inv.known) (omega (arith, low)) blank in
-    let same : tree_cell u ≡ after rule (c.args.generations - c.loop-left.left) (tree_cell t) = (λ i x y. inv.later x y i) in
-    λ h. stays-then rule (c.args.generations - c.loop-left.left) c.loop-left.left (tree_cell t) (tree_cell u) same inv.stays
-    (blank-stays rule c.loop-left.left u quiet none) (subst (λ m. LeavesWithin rule m (tree_cell t)) (sym e) h)
 
 pub returns-in_err-taken-clause-refusals : goal.returns-in_err-taken-clause-refusals
 returns-in_err-taken-clause-refusals g c =
@@ -65,7 +34,7 @@ returns-in_err-taken-clause-refusals g c =
     let most = inv.most in
     let e : c.loop-left.left + (c.args.generations - c.loop-left.left) ≡ c.args.generations = omega (arith, most) in
     let same : tree_cell u ≡ after rule (c.args.generations - c.loop-left.left) (tree_cell t) = (λ i x y. inv.later x y i) in
-    let now = c.leap_trimmed.new.squares in
+    let now = c.next_leap.new.squares in
     let p = err_from_is_err_and c.from_residual-in_err-taken.result c.from_residual-in_err-taken.ensures.1 in
     rw (p.1, p.2) (subst (λ m. IsCourseFault rule m (tree_cell t) (g.S.Squares.stored now) (g.S.Squares.most now) c.in_err-taken.field-0.0) e
     (fault-then rule (c.args.generations - c.loop-left.left) c.loop-left.left (tree_cell t) (tree_cell u) same _ _ _ c.in_err-taken.ensures.refusals))
@@ -76,7 +45,7 @@ loop-left-preserved g c =
     let rule = c.args.rule.now in
     let t = g.S.Squares.content c.args.squares.now c.args.root in
     let u = g.S.Squares.content c.loop-left.squares c.loop-left.now in
-    let v = g.S.Squares.content c.leap_trimmed.new.squares c.in_ok-taken.next in
+    let v = g.S.Squares.content c.next_leap.new.squares c.in_ok-taken.next in
     let n = c.in_ok-taken.ensures in
     let most = inv.most in
     let a = n.taken.0 in
@@ -86,6 +55,7 @@ loop-left-preserved g c =
     let same : tree_cell u ≡ after rule done (tree_cell t) = (λ i x y. inv.later x y i) in
     record {
       most = omega (arith, most);
+      remembers = n.remembers;
       known = n.known;
       low = n.low;
       states = binary-later rule c.in_ok-taken.taken u v inv.states n.later;

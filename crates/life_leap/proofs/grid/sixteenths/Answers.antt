@@ -1,5 +1,6 @@
-use Rattle.std.proofs.Common.{◌≡◌, ◌+◌, ◌^◌, arith}
+use Rattle.std.proofs.Common.{◌≡◌, ◌+◌, ◌^◌, sym, ◌∙◌, arith}
 use Rattle.std.proofs.lemmas.Int.{ints}
+use Rattle.life_base.proofs.Squares.{quad_nw, quad_ne, quad_sw, quad_se}
 use Rattle.life_base.specs.Tree.{depth}
 use Rattle.life_block.specs.Pieces.{step_ahead}
 use Rattle.life_block.proofs.PieceLemmas.{pieces-of, twice}
@@ -28,4 +29,16 @@ returns-clause-pieces g c cells x y p =
       second = c.halves_of_two.ensures.south cells x y north;
       third = row-moved content cells s x _ _ _ e (c.halves_of_two-2.ensures.north cells x _ south);
       fourth = row-moved content cells s x _ _ _ f (c.halves_of_two-2.ensures.south cells x _ south);
+    }
+
+pub returns-clause-corners : goal.returns-clause-corners
+returns-clause-corners g c q is =
+    let same = sym c.divide.ensures.square ∙ is in
+    let north = c.halves_of_two.ensures in
+    let south = c.halves_of_two-2.ensures in
+    record {
+      nw = sym (quad_nw same) ∙ north.west;
+      ne = sym (quad_ne same) ∙ north.east;
+      sw = sym (quad_sw same) ∙ south.west;
+      se = sym (quad_se same) ∙ south.east;
     }

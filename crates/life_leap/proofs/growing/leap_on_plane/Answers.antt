@@ -1,8 +1,12 @@
 use Rattle.std.proofs.Common.{◌≡◌, ◌⊎◌, inl, inr, ◌+◌, ◌^◌, ◌<◌, ◌≤◌, sym, ◌∙◌, subst, arith}
 use Rattle.std.proofs.lemmas.Result.{IfOk-weaker}
 use Rattle.life_base.specs.Tree.{depth}
+use Rattle.life_leap.proofs.LeapLemmas.{leaps-kept}
 use Rattle.life_leap.proofs.PlaneSteps.{after-same, margin-grown}
 use Rattle.life_leap.proofs.growing.leap_on_plane.Goals as goal
+
+pub square_after-requires-clause-remembers : goal.square_after-requires-clause-remembers
+square_after-requires-clause-remembers g c = leaps-kept c.in_ok-grown.ensures.keeps c.requires.remembers
 
 pub square_after-requires-clause-states : goal.square_after-requires-clause-states
 square_after-requires-clause-states g c x y =

@@ -10,13 +10,15 @@ use Rattle.life_block.proofs.RootLemmas.{corner, piece-of_root}
 use Rattle.life_leap.specs.After.{after, leap_length}
 use Rattle.life_leap.specs.Grid.{AreNineSquares}
 use Rattle.life_leap.specs.Leaps.{IsBlankSquareBeyond}
-use Rattle.life_leap.proofs.LeapLemmas.{no-leaps}
+use Rattle.life_leap.proofs.LeapLemmas.{leaps-kept, no-leaps}
 use Rattle.life_leap.proofs.RootSteps.{beyond-root, root-later}
 use Rattle.life_leap.proofs.leap.square_after.Goals as goal
 
-pub middle_of_nine-requires-clause-remembers : goal.middle_of_nine-requires-clause-remembers
-middle_of_nine-requires-clause-remembers g c =
-    no-leaps _ c.new-memory.ensures
+pub middle_of_nine_at_pace-requires-clause-fast : goal.middle_of_nine_at_pace-requires-clause-fast
+middle_of_nine_at_pace-requires-clause-fast g c = leaps-kept c.in_ok-nine.ensures.keeps c.requires.remembers
+
+pub middle_of_nine_at_pace-requires-clause-slow : goal.middle_of_nine_at_pace-requires-clause-slow
+middle_of_nine_at_pace-requires-clause-slow g c = no-leaps _ c.new-slow.ensures
 
 pub returns-clause-later : goal.returns-clause-later
 returns-clause-later g c =
@@ -27,7 +29,7 @@ returns-clause-later g c =
     let cells = tree_cell t in
     let start = corner t in
     let C1 = g.S.Squares.content c.nine_around.new.squares in
-    let C2 = g.S.Squares.content c.middle_of_nine.new.squares in
+    let C2 = g.S.Squares.content c.middle_of_nine_at_pace.new.squares in
     let level : l ≡ depth t = c.level-level.ensures.level in
     let low = c.requires.low in
     let slow = c.requires.slow in
@@ -44,7 +46,7 @@ returns-clause-later g c =
     let s : 2 ^ (l - 1 - 1) ≡ 2 ^ (l - 2) = ap (λ k. 2 ^ k) two in
     let to : step_ahead back (2 ^ (l - 1 - 1)) ≡ start = omega (arith, ints, s) in
     let few : min pace (l - 1 + 1 - 2) ≡ pace = omega (arith, level, slow) in
-    if_ok_two c.middle_of_nine.result
+    if_ok_two c.middle_of_nine_at_pace.result
     (λ r at h.
     let piece = h.later cells back back c.requires.states nine in
     let moved = IsPiece-moved (after rule (leap_length pace (l - 1 + 1)) cells) (step_ahead back (2 ^ (l - 1 - 1))) start (step_ahead back (2 ^ (l - 1 - 1)))
@@ -52,4 +54,4 @@ returns-clause-later g c =
     let so : depth (C2 r) ≡ depth t = (let a = at.level in omega (arith, a, level, low)) in
     root-later rule (2 ^ pace) t (C2 r) quiet high (g.met.S.Squares.full _ _ at.known) so c.requires.margin
     (subst (λ k. IsPiece (after rule (2 ^ k) cells) start start (C2 r)) few moved))
-    c.middle_of_nine.ensures.at c.middle_of_nine.ensures.later
+    c.middle_of_nine_at_pace.ensures.at c.middle_of_nine_at_pace.ensures.later

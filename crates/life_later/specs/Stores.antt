@@ -1,0 +1,12 @@
+-- Squares of a shared store.
+use Rattle.life_quad.specs.Keeping.{KeepsSquares}
+use Rattle.life_quad.specs.Store.{Nodes, Knows, IsShared, content, stored_squares}
+use Rattle.life_quad.specs.declared.id.Id.{Id}
+
+-- the Id names a square of the store
+abbrev pub IsKnown : Nodes → Id → Type 0
+IsKnown store id = Knows store id × IsShared store
+
+-- each Id keeps its square, nothing stored is taken away, and the limit stays
+abbrev pub Keeps : Nodes → Nodes → Type 0
+Keeps = KeepsSquares IsKnown content stored_squares (λ store. store.limit)
