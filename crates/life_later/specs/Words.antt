@@ -9,3 +9,4 @@ pub use Rattle.life_later.specs.Stores.{IsKnown, Keeps}
 pub use Rattle.life_leap.specs.Leaps.{RemembersLeaps}
 pub use Rattle.life_quad.specs.IdMap.{value_of_id}
 pub use Rattle.life_quad.specs.Store.{content, stored_squares}
+pub use Rattle.life_quad.specs.Keeping.{IsShortageFault}

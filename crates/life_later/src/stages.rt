@@ -1,6 +1,6 @@
 //! The leaps of a long course in stages: once the leaps have more than doubled a store, the pattern alone goes on in a fresh one.
 ghost use Rattle.std.specs.Prelude.{◌≡◌, ◌⊎◌, ℤ, ◌-◌, ◌<◌, ◌≤◌, IfOk, IfErr};
-ghost use Rattle.life_later.specs.Words.{after, depth, content, IsCourse, IsCourseFault, IsFaultApart, IsKnown, Keeps, LeavesWithin, stored_squares, tree_cell};
+ghost use Rattle.life_later.specs.Words.{after, depth, content, IsCourse, IsCourseFault, IsFaultApart, IsKnown, IsShortageFault, Keeps, LeavesWithin, stored_squares, tree_cell};
 
 use crate::course::{later, next_leap};
 use life_base::{Fault, Kind, LifeRule};
@@ -101,6 +101,48 @@ fn later_apart(
     Ok((own, now))
 }
 
+/// The answer of another store, in the store of the caller.
+fn brought_back(alloc: Global, from: &Shared, to: &mut Shared, id: Id) -> Result<Id, Fault>
+    requires { IsKnown from.now id }
+    ensures known { IfOk result (IsKnown to.new) }
+    ensures square { IfOk result (λ r. content to.new r ≡ content from.now id) }
+    ensures keeps { Keeps to.old to.new }
+    ensures refusals { IfErr result (IsShortageFault (stored_squares to.new) to.new.limit) }
+{
+    let copy = turned(alloc, from, to, SAME, id)?;
+    Ok(copy)
+}
+
+/// The rest of a course in fresh stores, or, if one of these is full, in the store of the square.
+fn rest_of_course(
+    alloc: Global,
+    squares: &mut Shared,
+    rule: &LifeRule,
+    root: Id,
+    generations: u64,
+) -> Result<Id, Fault>
+    requires known { IsKnown squares.old root }
+    requires low { 3 ≤ depth (content squares.old root) }
+    requires states { (x y : ℤ) → tree_cell (content squares.old root) x y < 2 }
+    ensures known { IfOk result (IsKnown squares.new) }
+    ensures low { IfOk result (λ r. 3 ≤ depth (content squares.new r)) }
+    ensures later { IfOk result (λ r. (x y : ℤ) → tree_cell (content squares.new r) x y
+        ≡ after rule.now generations (tree_cell (content squares.old root)) x y) }
+    ensures stays { IfOk result
+        (λ _. ¬ (LeavesWithin rule.now generations (tree_cell (content squares.old root)))) }
+    ensures keeps { Keeps squares.old squares.new }
+    ensures refusals { IfErr result (IsCourseFault rule.now generations
+        (tree_cell (content squares.old root)) (stored_squares squares.new) squares.new.limit) }
+{
+    match later_apart(alloc, &*squares, rule, root, generations) {
+        Ok((own, answer)) => brought_back(alloc, &own, squares, answer),
+        Err(fault) => match fault.kind {
+            Kind::Full => later(alloc, squares, rule, root, generations),
+            _ => Err(fault),
+        },
+    }
+}
+
 /// The cells of a square so many generations later, as `later` returns them. The leaps begin in the store of the square. Once they have more than doubled it
 /// and it has more than 2^20 squares, or half of its limit, the square of that generation is copied into a fresh store, in which the leaps go on in the same
 /// way. So the memory is that of one leap and of a few squares, and not that of all leaps. In the end the answer is copied into the store of the square.
@@ -137,14 +179,5 @@ pub fn later_in_stages(
     if left == 0 {
         return Ok(now);
     }
-    match later_apart(alloc, &*squares, rule, now, left) {
-        Ok((own, answer)) => {
-            let copy = turned(alloc, &own, squares, SAME, answer)?;
-            Ok(copy)
-        }
-        Err(fault) => match fault.kind {
-            Kind::Full => later(alloc, squares, rule, now, left),
-            _ => Err(fault),
-        },
-    }
+    rest_of_course(alloc, squares, rule, now, left)
 }

@@ -67,13 +67,13 @@ returns-in_err-generation-clause-refused c =
       generation-refused-read c.patterns_fit.ensures c.args.store.now c.args.pattern bytes r c.args.generations c.in-Life.rule c.in-Life.is large.0,
     )))
 
-pub later-requires-clause-low : goal.later-requires-clause-low
-later-requires-clause-low c =
+pub later_in_stages-requires-clause-low : goal.later_in_stages-requires-clause-low
+later_in_stages-requires-clause-low c =
     let fits = c.patterns_fit.ensures _ _ _ c.requires.1 in
     subst (λ q. least_level q ≤ depth (content c.args.store.now c.args.pattern.root)) c.in-Life.is fits.0.level
 
-pub later-requires-clause-states : goal.later-requires-clause-states
-later-requires-clause-states c =
+pub later_in_stages-requires-clause-states : goal.later_in_stages-requires-clause-states
+later_in_stages-requires-clause-states c =
     let r = c.requires.1 in
     let u = r.universe in
     let fits = c.patterns_fit.ensures _ _ _ r in
@@ -103,12 +103,12 @@ returns-in_err-square-clause-refused c =
 
 pub text_of_square-requires-2-clause-high : goal.text_of_square-requires-2-clause-high
 text_of_square-requires-2-clause-high c =
-    subst (λ q. least_level q ≤ depth (content c.later.new.squares c.in_ok-square.square)) (sym c.in-Life.is) c.in_ok-square.ensures.low
+    subst (λ q. least_level q ≤ depth (content c.later_in_stages.new.squares c.in_ok-square.square)) (sym c.in-Life.is) c.in_ok-square.ensures.low
 
 pub text_of_square-requires-2-clause-states : goal.text_of_square-requires-2-clause-states
 text_of_square-requires-2-clause-states c =
     let store = c.args.store.now in
-    let next = content c.later.new.squares c.in_ok-square.square in
+    let next = content c.later_in_stages.new.squares c.in_ok-square.square in
     let r = c.requires.1 in
     let u = r.universe in
     let fits = c.patterns_fit.ensures _ _ _ r in
@@ -124,7 +124,7 @@ text_of_square-requires-2-clause-states c =
 
 pub returns-clause-later : goal.returns-clause-later
 returns-clause-later c =
-    let next = content c.later.new.squares c.in_ok-square.square in
+    let next = content c.later_in_stages.new.squares c.in_ok-square.square in
     IfOk-weaker c.text_of_square-2.result _ _
     (λ text h bytes r. text-later c.patterns_fit.ensures c.args.store.now c.args.pattern bytes r c.args.generations c.in-Life.rule c.in-Life.is
     c.in_ok-generation.generation next text.items c.in_ok-generation.ensures.after c.in_ok-generation.ensures.named

@@ -35,7 +35,7 @@ returns-in_err-taken-clause-refusals g c =
     let e : c.loop-left.left + (c.args.generations - c.loop-left.left) ≡ c.args.generations = omega (arith, most) in
     let same : tree_cell u ≡ after rule (c.args.generations - c.loop-left.left) (tree_cell t) = (λ i x y. inv.later x y i) in
     let now = c.next_leap.new.squares in
-    let p = err_from_is_err_and c.from_residual-in_err-taken.result c.from_residual-in_err-taken.ensures.1 in
+    let p = err_from_is_err_and c.from_residual.result c.from_residual.ensures.1 in
     rw (p.1, p.2) (subst (λ m. IsCourseFault rule m (tree_cell t) (g.S.Squares.stored now) (g.S.Squares.most now) c.in_err-taken.field-0.0) e
     (fault-then rule (c.args.generations - c.loop-left.left) c.loop-left.left (tree_cell t) (tree_cell u) same _ _ _ c.in_err-taken.ensures.refusals))
 
@@ -64,3 +64,6 @@ loop-left-preserved g c =
           (subst (λ m. LeavesWithin rule m (tree_cell t)) (sym e) h);
       keeps = keeps-then inv.keeps n.keeps;
     }
+
+pub returns-in_err-taken-clause-keeps : goal.returns-in_err-taken-clause-keeps
+returns-in_err-taken-clause-keeps g c = keeps-then c.loop-left.invariant.keeps c.in_err-taken.ensures.keeps

@@ -4,7 +4,11 @@ use Rattle.std.proofs.lemmas.Result.{err_from_is_err_and}
 use Rattle.life_base.specs.Rules.{has_digit}
 use Rattle.life_base.specs.Sets.{OuterTotalistic}
 use Rattle.life_later.proofs.StayLemmas.{edge-refused, edge-stays, margin-stays}
+use Rattle.life_leap.proofs.LeapLemmas.{leaps-kept}
 use Rattle.life_later.proofs.course.leap.Goals as goal
+
+pub returns-then-margin-eq0-clause-remembers : goal.returns-then-margin-eq0-clause-remembers
+returns-then-margin-eq0-clause-remembers g c = leaps-kept c.in_ok-next.ensures.keeps c.requires.remembers
 
 pub leap_on_plane-requires-clause-margin : goal.leap_on_plane-requires-clause-margin
 leap_on_plane-requires-clause-margin g c =

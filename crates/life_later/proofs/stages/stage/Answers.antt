@@ -40,6 +40,19 @@ returns-in_err-taken-clause-refusals c =
     let most = inv.most in
     let left = c.loop-left.left in
     let e : left + (c.args.generations - left) ≡ c.args.generations = omega (arith, most) in
-    let p = err_from_is_err_and c.from_residual-in_err-taken.result c.from_residual-in_err-taken.ensures.1 in
+    let p = err_from_is_err_and c.from_residual.result c.from_residual.ensures.1 in
     rw (p.1, p.2) (refused-later c.args.rule.now (c.args.generations - left) left c.args.generations (content c.args.squares.now c.args.root)
     (content c.loop-left.squares c.loop-left.now) _ _ _ e inv.course c.in_err-taken.ensures.refusals)
+
+pub returns-in_err-taken-clause-keeps : goal.returns-in_err-taken-clause-keeps
+returns-in_err-taken-clause-keeps c = keeps-then c.loop-left.invariant.keeps c.in_err-taken.ensures.keeps
+
+pub returns-then-len-most-clause-course : goal.returns-then-len-most-clause-course
+returns-then-len-most-clause-course c =
+    let inv = c.loop-left.invariant in
+    let n = c.in_ok-taken.ensures in
+    next-course c.args.rule.now c.args.generations c.loop-left.left c.in_ok-taken.taken (content c.args.squares.now c.args.root) _ _ inv.most n.taken.1
+    inv.course n.low n.later n.stays
+
+pub returns-then-len-most-clause-keeps : goal.returns-then-len-most-clause-keeps
+returns-then-len-most-clause-keeps c = keeps-then c.loop-left.invariant.keeps c.in_ok-taken.ensures.keeps
