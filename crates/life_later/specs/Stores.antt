@@ -4,9 +4,9 @@ use Rattle.life_quad.specs.Store.{Nodes, Knows, IsShared, content, stored_square
 use Rattle.life_quad.specs.declared.id.Id.{Id}
 
 -- the Id names a square of the store
-abbrev pub IsKnown : Nodes → Id → Type 0
-IsKnown store id = Knows store id × IsShared store
+abbrev pub IsKnownInShared : Nodes → Id → Type 0
+IsKnownInShared store id = Knows store id × IsShared store
 
 -- each Id keeps its square, nothing stored is taken away, and the limit stays
-abbrev pub Keeps : Nodes → Nodes → Type 0
-Keeps = KeepsSquares IsKnown content stored_squares (λ store. store.limit)
+abbrev pub KeepsShared : Nodes → Nodes → Type 0
+KeepsShared = KeepsSquares IsKnownInShared content stored_squares (λ store. store.limit)

@@ -1,6 +1,6 @@
 //! The leaps of a long course in stages: once the leaps have more than doubled a store, the pattern alone goes on in a fresh one.
 ghost use Rattle.std.specs.Prelude.{◌≡◌, ◌⊎◌, ℤ, ◌-◌, ◌<◌, ◌≤◌, IfOk, IfErr};
-ghost use Rattle.life_later.specs.Words.{after, depth, content, IsCourse, IsCourseFault, IsFaultApart, IsKnown, IsShortageFault, Keeps, LeavesWithin, stored_squares, tree_cell};
+ghost use Rattle.life_later.specs.Words.{after, depth, content, IsCourse, IsCourseFault, IsFaultApart, IsKnownInShared, IsShortageFault, KeepsShared, LeavesWithin, stored_squares, tree_cell};
 
 use crate::course::{later, next_leap};
 use life_base::{Fault, Kind, LifeRule};
@@ -24,8 +24,8 @@ fn most_in_stage(begun: u64, limit: u64) -> u64 {
 
 /// A square in a fresh store with the same seed and limit, which has nothing but that square and its parts.
 fn copied(alloc: Global, from: &Shared, id: Id) -> Result<(Shared, Id), Kind>
-    requires { IsKnown from.now id }
-    ensures known { IfOk result (λ r. IsKnown r.0 r.1) }
+    requires { IsKnownInShared from.now id }
+    ensures known { IfOk result (λ r. IsKnownInShared r.0 r.1) }
     ensures square { IfOk result (λ r. content r.0 r.1 ≡ content from.now id) }
     ensures refusals { IfErr result (λ kind. (kind ≡ Kind.Memory) ⊎ (kind ≡ Kind.Full)) }
 {
@@ -42,15 +42,15 @@ fn stage(
     root: Id,
     generations: u64,
 ) -> Result<(u64, Id), Fault>
-    requires known { IsKnown squares.old root }
+    requires known { IsKnownInShared squares.old root }
     requires low { 3 ≤ depth (content squares.old root) }
     requires states { (x y : ℤ) → tree_cell (content squares.old root) x y < 2 }
     requires some { 1 ≤ generations }
     ensures left { IfOk result (λ r. r.0 < generations) }
-    ensures known { IfOk result (λ r. IsKnown squares.new r.1) }
+    ensures known { IfOk result (λ r. IsKnownInShared squares.new r.1) }
     ensures course { IfOk result (λ r. IsCourse rule.now (generations - r.0)
         (content squares.old root) (content squares.new r.1)) }
-    ensures keeps { Keeps squares.old squares.new }
+    ensures keeps { KeepsShared squares.old squares.new }
     ensures refusals { IfErr result (IsCourseFault rule.now generations
         (tree_cell (content squares.old root)) (stored_squares squares.new) squares.new.limit) }
 {
@@ -77,10 +77,10 @@ fn later_apart(
     root: Id,
     generations: u64,
 ) -> Result<(Shared, Id), Fault>
-    requires known { IsKnown from.now root }
+    requires known { IsKnownInShared from.now root }
     requires low { 3 ≤ depth (content from.now root) }
     requires states { (x y : ℤ) → tree_cell (content from.now root) x y < 2 }
-    ensures known { IfOk result (λ r. IsKnown r.0 r.1) }
+    ensures known { IfOk result (λ r. IsKnownInShared r.0 r.1) }
     ensures course { IfOk result (λ r. IsCourse rule.now generations
         (content from.now root) (content r.0 r.1)) }
     ensures refusals { IfErr result
@@ -103,10 +103,10 @@ fn later_apart(
 
 /// The answer of another store, in the store of the caller.
 fn brought_back(alloc: Global, from: &Shared, to: &mut Shared, id: Id) -> Result<Id, Fault>
-    requires { IsKnown from.now id }
-    ensures known { IfOk result (IsKnown to.new) }
+    requires { IsKnownInShared from.now id }
+    ensures known { IfOk result (IsKnownInShared to.new) }
     ensures square { IfOk result (λ r. content to.new r ≡ content from.now id) }
-    ensures keeps { Keeps to.old to.new }
+    ensures keeps { KeepsShared to.old to.new }
     ensures refusals { IfErr result (IsShortageFault (stored_squares to.new) to.new.limit) }
 {
     let copy = turned(alloc, from, to, SAME, id)?;
@@ -121,16 +121,16 @@ fn rest_of_course(
     root: Id,
     generations: u64,
 ) -> Result<Id, Fault>
-    requires known { IsKnown squares.old root }
+    requires known { IsKnownInShared squares.old root }
     requires low { 3 ≤ depth (content squares.old root) }
     requires states { (x y : ℤ) → tree_cell (content squares.old root) x y < 2 }
-    ensures known { IfOk result (IsKnown squares.new) }
+    ensures known { IfOk result (IsKnownInShared squares.new) }
     ensures low { IfOk result (λ r. 3 ≤ depth (content squares.new r)) }
     ensures later { IfOk result (λ r. (x y : ℤ) → tree_cell (content squares.new r) x y
         ≡ after rule.now generations (tree_cell (content squares.old root)) x y) }
     ensures stays { IfOk result
         (λ _. ¬ (LeavesWithin rule.now generations (tree_cell (content squares.old root)))) }
-    ensures keeps { Keeps squares.old squares.new }
+    ensures keeps { KeepsShared squares.old squares.new }
     ensures refusals { IfErr result (IsCourseFault rule.now generations
         (tree_cell (content squares.old root)) (stored_squares squares.new) squares.new.limit) }
 {
@@ -159,16 +159,16 @@ pub fn later_in_stages(
     root: Id,
     generations: u64,
 ) -> Result<Id, Fault>
-    requires known { IsKnown squares.old root }
+    requires known { IsKnownInShared squares.old root }
     requires low { 3 ≤ depth (content squares.old root) }
     requires states { (x y : ℤ) → tree_cell (content squares.old root) x y < 2 }
-    ensures known { IfOk result (IsKnown squares.new) }
+    ensures known { IfOk result (IsKnownInShared squares.new) }
     ensures low { IfOk result (λ r. 3 ≤ depth (content squares.new r)) }
     ensures later { IfOk result (λ r. (x y : ℤ) → tree_cell (content squares.new r) x y
         ≡ after rule.now generations (tree_cell (content squares.old root)) x y) }
     ensures stays { IfOk result
         (λ _. ¬ (LeavesWithin rule.now generations (tree_cell (content squares.old root)))) }
-    ensures keeps { Keeps squares.old squares.new }
+    ensures keeps { KeepsShared squares.old squares.new }
     ensures refusals { IfErr result (IsCourseFault rule.now generations
         (tree_cell (content squares.old root)) (stored_squares squares.new) squares.new.limit) }
 {
