@@ -44,7 +44,7 @@ use Rattle.life_cli.specs.Jobs.{WritesPlacedText, AreUncompared, by_first, by_se
 use Rattle.life_generations.specs.Later.{IsTextLater}
 use Rattle.life_step.specs.Refusals.{RefusesFile, RefusesPattern}
 use Rattle.life_step.specs.Stepped.{IsStepped, IsSteppedBy}
-use Rattle.pattern_sources.specs.Sources.{InputRefuses, by_length, by_source, HasNoText, by_file, by_want, RefusesInForm, AreOfInput, IsTooSmallFor, IsTooSmallToMake, IsShortageFor, IsCallShortage, RefusesMany, HasText, ComesOf}
+use Rattle.pattern_sources.specs.Sources.{InputRefuses, by_length, by_source, HasNoText, by_input, by_file, by_want, RefusesInForm, AreOfInput, IsTooSmallFor, IsTooSmallToMake, IsShortageFor, IsCallShortage, RefusesMany, HasText, ComesOf}
 use Rattle.pattern_sources.proofs.SourceLemmas.{holds_more, holds_one}
 use Rattle.life_step.proofs.NeedFacts.{step-lacks}
 
@@ -195,6 +195,13 @@ pub refused_for : (Reason : Universe → Option Fault → Type 0) (text : List �
 refused_for Reason text store fault limit (inl refuses) = inl refuses
 refused_for Reason text store fault limit (inr (inl want)) = inr (inl (store, limit, want))
 refused_for Reason text store fault limit (inr (inr why)) = inr (inr why)
+
+-- a pattern as it lies has no form that is too large
+pub placed_refused : (source : SourceRun) (fault : Fault) → HasNoText (RefusesInForm Placed) source fault → HasNoText (Refuses MAX_LEVEL) source fault
+placed_refused source fault (by_input h) = by_input h
+placed_refused source fault (by_file bytes read (inl refuses)) = by_file bytes read refuses
+placed_refused source fault (by_file bytes read (inr large)) = absurd large.1
+placed_refused source fault (by_want want) = by_want want
 
 -- one step more
 pub steps_more : (table : Table) (n : ℕ) (bytes before text : List ℕ) → IsSteppedTimes table n bytes before → IsSteppedBy table before text
