@@ -1,6 +1,7 @@
 -- The first line of a text, and the first that has an item.
-use Rattle.std.proofs.Common.{◌≡◌, ℕ, ◌+◌, ◌<◌, List, [], ◌∷◌, true, false, None, Some, length, take, drop, refl, ap, sym, ◌∙◌, arith, codes, ◌==◌}
+use Rattle.std.proofs.Common.{◌≡◌, ℕ, ◌+◌, ◌<◌, ◌≤◌, List, [], ◌∷◌, true, false, None, Some, length, take, take_all, drop, refl, ap, sym, ◌∙◌, arith, codes, ◌==◌}
 use Rattle.std.specs.Prelude.{position}
+use Rattle.std.proofs.lemmas.Grind.{common_steps}
 use Rattle.std.proofs.lemmas.List.{drop_all}
 use Rattle.life_base.specs.Text.{lines_of, begins_with}
 use Rattle.life_base.specs.Lines.{one_line}
@@ -45,3 +46,10 @@ none_left (b ∷ text) h = absurd (omega arith)
 -- what is shorter than the place of the mark is no tar file
 pub too_short : (head : List ℕ) → length head < 257 → false ≡ begins_with (drop 257 head) (codes "ustar")
 too_short head h = sym (ap (λ t. begins_with t (codes "ustar")) (drop_all 257 head (omega arith)))
+
+-- the front of a text, and a text that is no longer than its front
+pub cut_length : (n : ℕ) (text : List ℕ) → n ≤ length text → n ≡ length (take n text)
+cut_length n text h = grind (arith, common_steps)
+
+pub whole : (n : ℕ) (text : List ℕ) → length text ≤ n → text ≡ take n text
+whole n text h = sym (take_all n text h)

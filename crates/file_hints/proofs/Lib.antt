@@ -1,2 +1,4 @@
 mod Rows
+mod Counts
+mod Watching
 pub mod FirstLines

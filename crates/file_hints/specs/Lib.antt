@@ -1,3 +1,6 @@
 pub mod Recognition
+pub mod Refused
 pub mod Warnings
+pub mod Damage
+pub mod Watching
 pub mod Words

@@ -1,10 +1,13 @@
 //! Files of other kinds than patterns and rule tables, recognized by their first bytes.
 
 ghost use Rattle.std.specs.Prelude.{◌≡◌, ◌<◌, length};
-ghost use Rattle.file_hints.specs.Words.{foreign_of, binary_of, text_kind_of, other_pattern_of, returns_of, first_item_line, first_text, has_byte, has_no_item, has_only, lines_but_first, lines_of, holds_text, is_headerless, is_image, is_plaintext, is_tar, without_space};
+ghost use Rattle.file_hints.specs.Words.{foreign_at_start, foreign_of, binary_of, text_kind_of, other_pattern_of, returns_of, first_item_line, first_text, has_byte, has_no_item, has_only, lines_but_first, lines_of, holds_text, is_headerless, is_image, is_plaintext, is_tar, without_space};
 
 use fault_sentences::Foreign;
 use life_base::{begins_with, line_end};
+
+/// How many bytes of a file are looked at to recognize it: the mark of a tar file is among them. They are few, because `keys` looks at those of each file.
+pub const HEAD: usize = 512;
 
 /// Whether a file of this kind holds text, so that a line of it can be shown.
 pub fn is_text(foreign: Foreign) -> bool
@@ -198,9 +201,8 @@ fn recognize_returns(head: &[u8]) -> Option<Foreign>
     }
 }
 
-/// What a file is by its first bytes, if it is something that the program doesn't read. The first 512 bytes are enough. `is_table` says whether a rule table
-/// was wanted.
-pub fn recognize(head: &[u8], is_table: bool) -> Option<Foreign>
+/// What a file is by these first bytes, if it is something that the program doesn't read.
+fn recognize_head(head: &[u8], is_table: bool) -> Option<Foreign>
     ensures { result ≡ foreign_of is_table head.now }
 {
     if let Some(foreign) = recognize_binary(head) {
@@ -215,4 +217,15 @@ pub fn recognize(head: &[u8], is_table: bool) -> Option<Foreign>
         }
     }
     recognize_returns(head)
+}
+
+/// What a file is, if it is something that the program doesn't read, by no more than its first `HEAD` bytes. `is_table` says whether a rule table was wanted.
+pub fn recognize(bytes: &[u8], is_table: bool) -> Option<Foreign>
+    ensures { result ≡ foreign_at_start is_table bytes.now }
+{
+    if bytes.len() > HEAD {
+        recognize_head(&bytes[..HEAD], is_table)
+    } else {
+        recognize_head(bytes, is_table)
+    }
 }

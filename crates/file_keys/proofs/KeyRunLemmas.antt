@@ -26,7 +26,8 @@ use Rattle.command_line.specs.Origins.{OpenerGives}
 use Rattle.command_line.specs.declared.origins.Origin.{Origin}
 use Rattle.command_line.specs.declared.plans.KeyForm.{KeyForm}
 use Rattle.command_line.specs.declared.plans.KeysPlan.{KeysPlan}
-use Rattle.file_keys.specs.Keys.{foreign_on, end_byte_of_name, IsKeyIn, IsStatus, pieces_of}
+use Rattle.file_hints.specs.Refused.{foreign_on}
+use Rattle.file_keys.specs.Keys.{end_byte_of_name, IsKeyIn, IsStatus, pieces_of}
 use Rattle.file_keys.specs.declared.keys.outcome.Outcome.{Outcome}
 use Rattle.file_keys.specs.declared.keys.refusal.OpenedFile.{OpenedFile}
 use Rattle.file_keys.specs.declared.keys.refusal.FileRefusal.{FileRefusal}

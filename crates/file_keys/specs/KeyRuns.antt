@@ -16,7 +16,8 @@ use Rattle.life_base.specs.declared.kind.Kind.{Kind}
 use Rattle.life_base.specs.declared.kind.Kind.TheVariants as kinds
 use Rattle.pattern_sources.specs.Faults.{fault_line, refusal_of, status_of, Reports}
 use Rattle.pattern_sources.specs.Sources.{HasNoText, HasText, InputRefuses, RefusesInForm}
-use Rattle.file_keys.specs.Keys.{foreign_on, without_advice, end_byte_of_name, IsKeyIn, key_line, pieces_of, refused_line, unopened_line}
+use Rattle.file_hints.specs.Refused.{foreign_on}
+use Rattle.file_keys.specs.Keys.{without_advice, end_byte_of_name, IsKeyIn, key_line, pieces_of, refused_line, unopened_line}
 use Rattle.file_keys.specs.Objects.{object_text}
 use Rattle.command_line.specs.Origins.{OpenerGives, IsOriginOf}
 use Rattle.file_keys.specs.declared.keys.outputs.Outputs.{Outputs}

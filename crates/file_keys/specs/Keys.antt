@@ -4,9 +4,9 @@ use Rattle.std.specs.List.{list_any}
 use Rattle.std.specs.Str.{byte}
 use Rattle.std.specs.declared.io.ErrorKind.{ErrorKind}
 use Rattle.std.specs.declared.io.ErrorKind.TheVariants as io
-use Rattle.fault_sentences.specs.Foreign.{advice_of}
 use Rattle.fault_sentences.specs.Sentences.{sentence_of}
 use Rattle.fault_sentences.specs.declared.foreign.Foreign.{Foreign}
+use Rattle.file_hints.specs.Refused.{advice_words}
 use Rattle.hex.specs.Hex.{encode_lower}
 use Rattle.sha2.specs.Sha256.{sha256}
 use Rattle.life_base.specs.Kinds.{kind_name}
@@ -57,25 +57,14 @@ abbrev pub key_line : Bool → List ℕ → List ℕ → List ℕ
 key_line false key name = name_mark name ++ (encode_lower key ++ (codes "  " ++ (escaped_name name ++ codes "\n")))
 key_line true key name = encode_lower key ++ (codes "  " ++ (name ++ 0 ∷ []))
 
--- what is said of what a file is where a fault of this kind is reported: nothing where the file was not read to its end
-abbrev pub foreign_on : Kind → Option Foreign → Option Foreign
-foreign_on kinds.ReadFault foreign = None
-foreign_on kinds.Full foreign = None
-foreign_on kinds.Memory foreign = None
-foreign_on _ foreign = foreign
-
 -- a fault of which nothing more is said
 abbrev pub without_advice : Fault → FileRefusal
 without_advice fault = record { fault = fault; foreign = None }
 
--- what comes between the sentence on a fault and the one on what the file is, and that one
+-- what comes between the sentence on a fault and the one on what the file is
 abbrev pub advice_lead : Option Foreign → List ℕ
 advice_lead None = []
 advice_lead (Some foreign) = codes " "
-
-abbrev pub advice_words : Option Foreign → List ℕ
-advice_words None = []
-advice_words (Some foreign) = advice_of foreign
 
 -- the report of a fault: its line, where it names one, its kind, what that means, and what the file is, if that is something else than a pattern
 abbrev pub fault_text : FileRefusal → List ℕ

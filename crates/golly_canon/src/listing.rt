@@ -7,7 +7,7 @@ use crate::opening::{Input, ReservedStreams, hint_before, open_no_folder};
 use crate::outputs::{Errors, Listed, Output, Visible};
 use crate::progress::ProgressLine;
 use crate::recognizing::Recognized;
-use crate::watching::{Watch, Watched, Watcher, push_warning, watch_opened};
+use crate::watching::{Watched, Watcher, push_warning, watch_opened};
 use file_keys::{OpenedFile, write_duplicates, write_keys};
 use life_base::{Device, Kind};
 use life_cli::plans::KeysPlan;
@@ -142,7 +142,10 @@ impl<'a> Run<'a> {
         let reported = self.report_lines.count.get();
         let is_reported = self.earlier_reports.replace(reported) != reported;
         let is_refused = self.listed.is_refused.replace(false);
-        let Some(warning) = self.watcher.watch.replace(Watch::Known(None)).warning() else {
+        let Some(watch) = self.watcher.watch.take() else {
+            return;
+        };
+        let Some(warning) = watch.warning() else {
             return;
         };
         if is_reported || is_refused {

@@ -14,7 +14,6 @@ mod outputs;
 mod progress;
 mod recognizing;
 mod rereading;
-mod rle_watching;
 mod tasks;
 mod watching;
 

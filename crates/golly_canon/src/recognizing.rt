@@ -1,8 +1,7 @@
 //! Inputs whose first bytes are looked at before they are read, to see whether the file is something else than a pattern.
 
-use crate::rereading::HEAD;
 use fault_sentences::Foreign;
-use file_hints::recognize;
+use file_hints::{HEAD, recognize};
 use std::io::{Error, Read, Result as IoResult};
 
 /// An input, and its first bytes, which are read from it once more.

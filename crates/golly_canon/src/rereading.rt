@@ -1,13 +1,10 @@
 //! Files that are read again, to say more of a fault.
 
 use fault_sentences::Foreign;
-use file_hints::recognize;
+use file_hints::{HEAD, recognize};
 use std::fs;
 use std::fs::File;
 use std::io::{ErrorKind, Read, Result as IoResult};
-
-/// How many bytes of a file are looked at to recognize it: the mark of a tar file is among them. They are few, because `keys` looks at those of each file.
-pub(crate) const HEAD: usize = 512;
 
 /// How many bytes of a line are shown at most.
 pub(crate) const SHOWN: usize = 200;

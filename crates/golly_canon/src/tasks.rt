@@ -6,7 +6,8 @@ ghost use Rattle.life_cli.specs.Plans.{HasSecond};
 use crate::explaining::{explain, explain_unread, warn};
 use crate::opening::{Input, ReservedStreams, hint_before, open};
 use crate::outputs::Output;
-use crate::watching::{Watch, Watched, watch_opened};
+use crate::watching::{Watched, watch_opened};
+use file_hints::Watch;
 use life_base::{Device, Fault, Kind};
 use life_cli::plans::{Task, TaskPlan};
 use life_cli::{Opened, Origin, Refusal, Seeds, carry_out, open_files, refuse, status, tell};
@@ -21,25 +22,23 @@ fn is_explained(rt: &HostRuntime, plan: &TaskPlan) -> bool {
 /// What is watched of the files of a task.
 #[derive(Drop)]
 struct Watches {
-    first: Cell<Watch>,
-    second: Cell<Watch>,
+    first: Cell<Option<Watch>>,
+    second: Cell<Option<Watch>>,
     /// Whether the first file was opened.
     is_begun: Cell<bool>,
 }
 
-/// The watch of a file that is opened later.
-fn watch_if(is_watched: bool) -> Cell<Watch> {
-    Cell::new(if is_watched {
-        Watch::Start
-    } else {
-        Watch::Known(None)
-    })
+/// The watch of a file that is opened later, or nothing where it isn't watched.
+fn watch_if(is_watched: bool) -> Cell<Option<Watch>> {
+    Cell::new(is_watched.then_some(Watch::new()))
 }
 
 /// Writes the warning of a file that was read, if there is one.
-fn warn_of(rt: &HostRuntime, name: &str, watch: &Cell<Watch>) {
-    if let Some(warning) = watch.get().warning() {
-        warn(rt, name, warning);
+fn warn_of(rt: &HostRuntime, name: &str, watch: &Cell<Option<Watch>>) {
+    if let Some(watch) = watch.get() {
+        if let Some(warning) = watch.warning() {
+            warn(rt, name, warning);
+        }
     }
 }
 

@@ -5,9 +5,10 @@ ghost use Rattle.file_keys.specs.Words.{source_run, Comes, IsOutcomeOf, LacksByt
 
 use super::key_of;
 use super::outcome::Outcome;
-use super::refusal::{FileRefusal, OpenedFile, foreign_on};
+use super::refusal::{FileRefusal, OpenedFile};
 use command_line::{KeyForm, Origin, origin_of};
 use fault_sentences::Foreign;
+use file_hints::foreign_on;
 use life_base::{Fault, Kind, Source, read_within};
 use life_canon::laws::refusals_have_kinds;
 use pattern_sources::Seeds;

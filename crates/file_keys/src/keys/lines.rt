@@ -4,8 +4,9 @@ ghost use Rattle.std.specs.Prelude.{◌≡◌, ◌<◌, ◌≤◌, ◌⊎◌, []
 ghost use Rattle.file_keys.specs.Words.{list_any, LeavesSink, WritesText, error_line, escaped_name, escaped_byte, fault_text, is_special, key_line, name_mark, reason_of, refused_line, unopened_line, IsMemory};
 
 use super::outcome::Outcome;
-use super::refusal::{FileRefusal, lead, words};
+use super::refusal::{FileRefusal, lead};
 use fault_sentences::sentence;
+use file_hints::advice_words;
 use itoa::Buffer;
 use life_base::{Kind, Sink, append, write_text, write_texts};
 use memchr::memchr3;
@@ -154,7 +155,7 @@ fn write_fault<E: Sink>(err: &mut E, refusal: &FileRefusal) -> Result<(), Kind>
     let FileRefusal { fault, foreign } = *refusal;
     let kind = fault.kind.name().as_bytes();
     let meaning = sentence(fault.kind).as_bytes();
-    let (lead, words) = (lead(foreign), words(foreign));
+    let (lead, words) = (lead(foreign), advice_words(foreign));
     if fault.place.line == 0 {
         return write_texts(err, &[kind, b": ", meaning, lead, words, b"\n"]);
     }

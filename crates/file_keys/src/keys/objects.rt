@@ -5,10 +5,11 @@ ghost use Rattle.file_keys.specs.Words.{LeavesSink, WritesText, fault_members, k
 
 use super::lines::reason;
 use super::outcome::Outcome;
-use super::refusal::{FileRefusal, lead, words};
+use super::refusal::{FileRefusal, lead};
 use crate::json::{Piece, write_pieces};
 use crate::text_sink::TextSink;
 use fault_sentences::{Foreign, sentence};
+use file_hints::advice_words;
 use itoa::Buffer;
 use life_base::{Kind, Sink, write_text, write_texts};
 use std::alloc::Global;
@@ -86,7 +87,7 @@ fn write_reason<W: Sink>(out: &mut W, reason: &[u8], foreign: Option<Foreign>) -
             Piece::Plain(b",\"reason\":\""),
             Piece::Text(reason),
             Piece::Text(lead(foreign)),
-            Piece::Text(words(foreign)),
+            Piece::Text(advice_words(foreign)),
             Piece::Plain(b"\"}\n"),
         ],
     )

@@ -1,10 +1,10 @@
 //! Why a file has no key, and what the file is instead of a pattern.
 
 ghost use Rattle.std.specs.Prelude.{◌≡◌};
-ghost use Rattle.file_keys.specs.Words.{advice_lead, foreign_on, advice_words, without_advice};
+ghost use Rattle.file_keys.specs.Words.{advice_lead, without_advice};
 
 use fault_sentences::Foreign;
-use life_base::{Fault, Kind};
+use life_base::Fault;
 
 /// A file that was opened.
 #[derive(Drop)]
@@ -34,32 +34,12 @@ impl FileRefusal {
     }
 }
 
-/// What is said of a file where a fault of this kind is reported: nothing of one that was perhaps not looked at to its end.
-pub(super) fn foreign_on(kind: Kind, foreign: Option<Foreign>) -> Option<Foreign>
-    ensures { result ≡ foreign_on kind foreign }
-{
-    match kind {
-        Kind::ReadFault | Kind::Full | Kind::Memory => None,
-        _ => foreign,
-    }
-}
-
 /// What comes between the sentence on a fault and the advice, if there is one.
 pub(super) fn lead(foreign: Option<Foreign>) -> &'static [u8]
     ensures { result.now ≡ advice_lead foreign }
 {
     match foreign {
         Some(_) => b" ",
-        None => b"",
-    }
-}
-
-/// The advice, if there is one.
-pub(super) fn words(foreign: Option<Foreign>) -> &'static [u8]
-    ensures { result.now ≡ advice_words foreign }
-{
-    match foreign {
-        Some(foreign) => foreign.advice().as_bytes(),
         None => b"",
     }
 }

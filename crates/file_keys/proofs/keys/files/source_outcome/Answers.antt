@@ -1,7 +1,7 @@
 use Rattle.std.proofs.Common.{ap, sym}
 use Rattle.life_base.specs.declared.fault.Fault.{Fault}
 use Rattle.pattern_sources.specs.Sources.{by_input, by_source}
-use Rattle.file_keys.specs.Keys.{foreign_on}
+use Rattle.file_hints.specs.Refused.{foreign_on}
 use Rattle.file_keys.proofs.KeyRunLemmas.{outcome_of_fault, outcome_of_key, unfailed}
 use Rattle.file_keys.proofs.keys.files.source_outcome.Goals as goal
 
