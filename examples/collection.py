@@ -53,39 +53,21 @@ SPOKEN = 10.0  # the seconds between two lines that say how far the run is
 UNSETTLED = ("Memory", "ReadFault")  # kinds that lie with the machine, so that the next run tries again
 WITHOUT_DASK = (f"Dask isn't installed for {sys.executable}: install it (`apt-get install python3-distributed` for /usr/bin/python3, `pip install distributed` "
                 "for another one), or do all in one process, with --workers 0")
+UNFINISHED = ("Full", "Memory")  # kinds of a file that isn't read to its end
 UNREAD = (OSError, EOFError, zlib.error, lzma.LZMAError, zipfile.BadZipFile, tarfile.TarError, RuntimeError, ValueError)
 
-# How a file begins that is something else than a pattern, and what to do with it: what `golly_canon canon --explain` says of it, and more that a collection
-# may have. It is looked at no further than that command does.
+# How a file begins that the library says nothing of, and what it is. It is looked at no further than the library does.
 HEAD = 512
-GOLLY = "open it in Golly, and save it as RLE or as a macrocell file."
-BINARY = (
-    (b"\x1f\x8b", "This is a gzip file: unpack it first, with gunzip."),
-    (b"BZh", "This is a bzip2 file: unpack it first, with bunzip2."),
-    (b"\xfd7zXZ\0", "This is an xz file: unpack it first, with unxz."),
-    (b"PK", "This is a zip file: unpack it first, with unzip. With --archive its files are read."),
-    (b"(?s:.{257}ustar)", "This is a tar file: unpack it first, with tar -xf. With --archive its files are read."),
+IMAGE = "This is an image, not a pattern file."
+OTHERS = (
     (b"\\(\xb5/\xfd", "This is a zstd file: unpack it first, with unzstd."),
     (b"7z\xbc\xaf\x27\x1c", "This is a 7z file: unpack it first, with 7z."),
     (b"Rar!\x1a\x07", "This is a rar file: unpack it first, with unrar."),
-    (b"\x89PNG|GIF8|\xff\xd8\xff|BM(?s:.{4})\0|RIFF(?s:.{4})WEBP|II\\*\0|MM\0\\*", "This is an image, not a pattern file."),
+    (b"BM(?s:.{4})\0|RIFF(?s:.{4})WEBP|II\\*\0|MM\0\\*", IMAGE),
     (b"%PDF-", "This is a PDF file, so it is no pattern file."),
-    (b"(?s:.*)\0", "This isn't a text file, so it is no pattern file."),
 )
-TEXTS = (
-    (b"\\Z", "The file is empty: save it or download it again."),
-    (b"\\s*<", "This is a web page (HTML): download the file that it links to."),
-    (b"\xef\xbb\xbf", "The file begins with a UTF-8 byte order mark: remove it, or save the file as UTF-8 without one."),
-    (b"#Life 1\\.05", f"This is a Life 1.05 file: {GOLLY}"),
-    (b"#Life 1\\.06", f"This is a Life 1.06 file: {GOLLY}"),
-    (b"#MCell", f"This is an MCell file: {GOLLY}"),
-    (b"@RULE", "This is a rule table, not a pattern: name it after the option --table of step."),
-    (b"!|[.O*\r]+(?:\n|\\Z)", f"This is a plaintext file (.cells): {GOLLY}"),
-    (b"(?:(?:#[^\n]*)?\n)*(?=[^o\n]*o)[0-9bo$!. \t\r\f]+(?:\n|\\Z)",
-     "The header is missing: put one before the items, such as x = 0, y = 0, rule = B3/S23."),
-    (b"[^\r\n]*\r[^\n]*\\Z", "The lines end in a carriage return alone: turn each into a line feed, with tr '\\r' '\\n'."),
-)
-FORMATS = [(re.compile(beginning), what) for beginning, what in BINARY + TEXTS]
+FORMATS = [(re.compile(beginning), what) for beginning, what in OTHERS]
+ARCHIVE = re.compile(b"PK|(?s:.{257}ustar)")
 
 # What is escaped in a name: control characters, those that end a line or turn the direction of text, and bytes that are no UTF-8 text.
 HIDDEN = "\\x00-\\x1f\\x7f-\\x9f\\u061c\\u200e\\u200f\\u2028-\\u202e\\u2066-\\u2069\\udc80-\\udcff"
@@ -183,17 +165,20 @@ def keys_of(data: bytes) -> Tuple[Tuple[Key, Key, Key], Optional[Tuple[str, Opti
             keys.append(golly_canon.key(data, form))
         except golly_canon.Refused as why:
             if not any(keys):
-                return (None, None, None), (why.kind, why.line, f"{why}: {why.sentence}{advice_of(why.kind, data)}")
+                return (None, None, None), (why.kind, why.line, f"{why}: {why.sentence}{advice_of(why.kind, why.advice, data)}")
             keys.append(None)
             fault = fault or (why.kind, why.line, f"{form}: {why}: {why.sentence}")
     placed, moved, turned = keys
     return (placed, moved, turned), fault
 
 
-def advice_of(kind: str, data: bytes) -> str:
-    """What a refused file is, with a space before it, if it is something else than a pattern."""
+def advice_of(kind: str, said: Optional[str], data: bytes) -> str:
+    """What a refused file is, with a space before it, if it is something else than a pattern: what the library says of it, or one of FORMATS."""
     head = data[:HEAD]
-    return "" if kind in ("Full", "Memory") else next((f" {what}" for beginning, what in FORMATS if beginning.match(head)), "")
+    what = said if kind in UNFINISHED else next((what for beginning, what in FORMATS if beginning.match(head)), said)
+    if what is None:
+        return ""
+    return f" {what} With --archive its files are read." if ARCHIVE.match(head) else f" {what}"
 
 
 def row_without_key(path: str, member: Optional[str], kind: str, why: str) -> Row:

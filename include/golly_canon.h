@@ -284,8 +284,32 @@ uint32_t golly_canon_status_name(uint32_t status, unsigned char *out, size_t roo
  * The caller guarantees what golly_canon_status_name names: `out` was written before, and `needed` isn't NULL. */
 uint32_t golly_canon_sentence(uint32_t status, unsigned char *out, size_t room, size_t *needed);
 
+/* What a refused file is, if it is something else than a pattern: `This is a gzip file: unpack it first, with gunzip.` It is a sentence of English that says
+ * what to do too, and the one that the program's `keys` writes after that of golly_canon_sentence. `status` is what the call on the file returned. The first
+ * 512 bytes of the file decide, so of a file that came in pieces these are enough. `is_table` is 0 for a pattern file, and 1 for a rule table. If the file is
+ * none of the kinds that the library knows, the text is empty. It is also empty for Full and Memory, because such a file wasn't read to its end, and for a
+ * status that is no kind of fault. None has more than 200 bytes. Show it to people: the wording may change from version to version.
+ * The caller guarantees: `length` bytes to read at `bytes`; `room` bytes to write at `out`, which were written before, and `*needed` to write, apart from each
+ * other and from `bytes`. `needed` isn't NULL. */
+uint32_t golly_canon_advice(uint32_t status, const unsigned char *bytes, size_t length, uint32_t is_table,
+                            unsigned char *out, size_t room, size_t *needed);
+
+/* What seems damaged in a file that is accepted, in a sentence of English without a full stop: `the file has no `!`, and fewer rows than its header says; a
+ * file that was cut off before its end looks like this`. It is the warning that the program's `keys` has for the file. A warning changes no text and no key.
+ * If nothing seems damaged, the text is empty. docs/QUESTIONS.md of the project has the cases. For a file that is refused the text means nothing. None has
+ * more than 200 bytes. Show it to people: the wording may change from version to version.
+ * The caller guarantees what golly_canon_advice names: `out` was written before, and `needed` isn't NULL. */
+uint32_t golly_canon_warning(const unsigned char *bytes, size_t length, unsigned char *out, size_t room, size_t *needed);
+
+/* The same for the file that a stream has read to its end, after golly_canon_finish or golly_canon_finish_key has given its text or its key: what
+ * golly_canon_warning gives for all the bytes that were fed. For a stream that has not ended, has refused its file or is closed, the text is empty. The stream
+ * stays as it is.
+ * The caller guarantees what is said of `stream`; `room` bytes to write at `out`, which were written before, and `*needed` to write, apart from each other and
+ * from the stream. NULL is allowed for neither `stream` nor `needed`. */
+uint32_t golly_canon_stream_warning(golly_canon_stream *stream, unsigned char *out, size_t room, size_t *needed);
+
 /* The version of the library, which is that of the program, as `0.2.0`. In 0.2 the calls with a `limit` take a `seed` after it,
- * and there are calls with a `form`, golly_canon_finish_key and golly_canon_sentence.
+ * and there are calls with a `form`, golly_canon_finish_key, golly_canon_sentence, golly_canon_advice and calls for warnings.
  * The caller guarantees: `room` bytes to write at `out`, which were written before, and `*needed` to write, apart from each other. `needed` isn't
  * NULL. */
 uint32_t golly_canon_version(unsigned char *out, size_t room, size_t *needed);

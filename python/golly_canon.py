@@ -22,9 +22,9 @@ is the SHA-256 of such a text, for a table of many files:
     for it in golly_canon.keys(["glider.mc", "glider.rle"], "turned"):
         print(it.path, it.why if it.key is None else it.key.hex())
 
-A file that is refused raises `Refused`. A macrocell file that probably isn't what its author meant, because it seems to have lost its line ends or has
-`#RB36/S23` for `#R B36/S23`, is read as the formats say, and a `PatternWarning` is issued. Threads may call at the same time; a `Stream` is used and
-closed only by the thread that made it.
+A file that is refused raises `Refused`, which says what the file is, if it is no pattern but for example packed by gzip. A file that seems damaged, because it
+has lost its line ends or its last rows, is read as the formats say, and a `PatternWarning` is issued. Threads may call at the same time; a `Stream` is used
+and closed only by the thread that made it.
 
 The library is found where the environment variable GOLLY_CANON_LIBRARY says, else beside this module, as in a wheel, else where the system looks for
 it, else in PREFIX/lib of PREFIX/share/golly_canon, or in out/library of the repository. Where it isn't found, the import fails.
@@ -32,7 +32,6 @@ it, else in PREFIX/lib of PREFIX/share/golly_canon, or in out/library of the rep
 
 import ctypes
 import os
-import re
 import secrets
 import threading
 import warnings
@@ -57,6 +56,7 @@ _CHUNK = 1 << 16
 _FORMS = ("placed", "moved", "turned")  # by their numbers
 _GIVEN = ("canon", "to_rle", "show", "step")
 _AMBIGUOUS, _NO_ROOM = 43, 64
+_HEAD = 512  # the bytes of a file by which the library says what it is
 _SEED = secrets.randbits(64)  # so that no file can be made that takes long to read
 
 
@@ -81,6 +81,9 @@ _CALLS = {
     "key": [*_BYTES, _FORM, _NUMBER, _NUMBER, *_OUT, _LINE],
     "same_form": [*_BYTES, *_BYTES, _FORM, _NUMBER, _NUMBER, _FLAG, _LINE],
     "step_by_table": [*_BYTES, *_BYTES, _NUMBER, _NUMBER, *_OUT, _LINE, _FLAG],
+    "advice": [ctypes.c_uint32, *_BYTES, ctypes.c_uint32, *_OUT],
+    "warning": [*_BYTES, *_OUT],
+    "stream_warning": [_STREAM, *_OUT],
     "status_name": [ctypes.c_uint32, *_OUT],
     "sentence": [ctypes.c_uint32, *_OUT],
     "version": _OUT,
@@ -121,26 +124,33 @@ class Refused(Exception):
 
     `kind` is the name of the kind of fault, as docs/FORMATS.md has it. `line` is the line of the file, counted from 1, or None where the fault is of
     no line. With `in_table` it is a line of the rule table. As a text it is the line that the program writes, as `line 4: BadChild`. `sentence` says in
-    a sentence what the kind means.
+    a sentence what the kind means. `advice` says what the file is, if it is something else than a pattern, and what to do: `This is a gzip file: unpack it
+    first, with gunzip.` It is None for any other file. `reason` is both of them, as `golly_canon keys` writes them.
     """
 
-    def __init__(self, kind: str, line: Optional[int] = None, in_table: bool = False) -> None:
-        super().__init__(kind, line, in_table)
+    def __init__(self, kind: str, line: Optional[int] = None, in_table: bool = False, advice: Optional[str] = None) -> None:
+        super().__init__(kind, line, in_table, advice)
         self.kind = kind
         self.line = line
         self.in_table = in_table
+        self.advice = advice
 
     @property
     def sentence(self) -> str:
         """What the kind means, in a sentence: what `sentence_of` returns."""
         return sentence_of(self.kind)
 
+    @property
+    def reason(self) -> str:
+        """The sentence, and the advice, if there is one."""
+        return self.sentence if self.advice is None else f"{self.sentence} {self.advice}"
+
     def __str__(self) -> str:
         return self.kind if self.line is None else f"{'table ' if self.in_table else ''}line {self.line}: {self.kind}"
 
 
 class PatternWarning(UserWarning):
-    """A macrocell file is read as the formats say, and that probably isn't what its author meant: `warning_of` has the cases."""
+    """A file is read as the formats say, and that probably isn't what its author meant: `warning_of` has the cases."""
 
 
 class Keyed(NamedTuple):
@@ -183,56 +193,13 @@ def _bytes_of(data: Bytes) -> bytes:
     return data if isinstance(data, bytes) else bytes(memoryview(data))
 
 
-class _Watch:
-    """Watches the chunks of a macrocell file, up to its first line of squares, for what its author probably didn't mean: that it lost its line ends, and a rule
-    or a generation that is a comment. It keeps the first line, and the line that has not ended."""
-
-    _RETURN = "line 1 has a carriage return inside it: the file seems to have lost its line ends, so that most of it is read as a comment"
-    _SQUARES = "the file has no line of squares, so it is the blank pattern; a macrocell file that lost its line ends looks like this"
-    _COMMENT = "a line such as `#RB36/S23` or `#G7`, without a space, is a comment here, and a rule or a generation in Golly"
-    _LINE_OF_SQUARES = re.compile(rb"(?m)^[ \t\r]*[^#\s]")
-    _MEANT_OTHERWISE = re.compile(rb"(?m)^#(?:R(?:[BbSs][0-8]|[0-8]*/[0-8]*)|G[0-9])")
-
-    def __init__(self) -> None:
-        self._rest, self._is_first, self._is_done = b"", True, False
-        self._warning: Optional[str] = None
-
-    def take(self, chunk: bytes) -> None:
-        if self._is_done:
-            return
-        data = self._rest + chunk
-        if self._is_first:
-            if data[:4] != b"[M2]"[: len(data)]:
-                self._is_done = True
-                return
-            line, end, after = data.partition(b"\n")
-            if b"\r" in line.rstrip(b"\r"):
-                self._is_done, self._warning = True, self._RETURN
-                return
-            if not end:
-                self._rest = data
-                return
-            self._is_first, data = False, after
-        squares, whole = self._LINE_OF_SQUARES.search(data), data.rfind(b"\n") + 1
-        if self._MEANT_OTHERWISE.search(data, 0, squares.start() if squares else whole):
-            self._is_done, self._warning = True, self._COMMENT
-        elif squares:
-            self._is_done = True
-        self._rest = data[whole:]
-
-    def found(self) -> Optional[str]:
-        """The warning, if there is one, when the file has ended."""
-        is_macrocell = not self._is_first or self._rest[:4] == b"[M2]"
-        return self._warning if self._is_done else self._SQUARES if is_macrocell else None
-
-
 def warning_of(data: Bytes) -> Optional[str]:
-    """What is odd about a file that is accepted. A macrocell file whose first line has a carriage return inside it, or that has no line of squares, seems to
-    have lost its line ends; and in one with a line such as `#RB36/S23` or `#G7` before its squares this is a comment, but a rule or a generation in Golly.
-    None of any other file."""
-    found = _Watch()
-    found.take(_bytes_of(data))
-    return found.found()
+    """What seems damaged in a file that is accepted, as `golly_canon keys` says it; None where nothing does. Of macrocell: the first line has a carriage return
+    inside it, or there is no line of squares, as where the line ends were lost; or a line such as `#RB36/S23` or `#G7` before the squares is a comment, but a
+    rule or a generation in Golly. Of RLE: the header gives a size, but no cell is alive; or there is no `!`, and fewer rows than the header says; or another
+    header follows the `!`."""
+    file = _bytes_of(data)
+    return _text_of("warning", file, len(file)) or None
 
 
 def _warn(warning: Optional[str], level: int) -> None:
@@ -241,24 +208,26 @@ def _warn(warning: Optional[str], level: int) -> None:
         warnings.warn(warning, PatternWarning, stacklevel=level + 1)
 
 
-def _said(what: str, status: int) -> str:
-    """What the library says of a status: with `status_name` its name, with `sentence` what it means."""
+def _text_of(call: str, *arguments: Any) -> str:
+    """The name or the sentence that a call of the library gives."""
     text, needed = ctypes.create_string_buffer(256), ctypes.c_size_t()
-    getattr(_library, f"golly_canon_{what}")(status, text, len(text), ctypes.byref(needed))
+    getattr(_library, f"golly_canon_{call}")(*arguments, text, len(text), ctypes.byref(needed))
     return text.raw[: needed.value].decode("ascii")
 
 
-def _refused(status: int, line: int, in_table: bool) -> Refused:
-    """What a status says."""
-    return Refused(_said("status_name", status), line or None, bool(line) and in_table)
+def _refused(status: int, line: int, file: bytes, table: Optional[bytes] = None) -> Refused:
+    """What a status says of a file, or of the rule table, if the fault is of that one. The first bytes are enough."""
+    it = file if table is None else table
+    advice = _text_of("advice", status, it[:_HEAD], min(len(it), _HEAD), table is not None)
+    return Refused(_text_of("status_name", status), line or None, bool(line) and table is not None, advice or None)
 
 
 def sentence_of(kind: str) -> str:
     """What a kind of fault means, in a sentence of English, as `golly_canon keys` writes it after the kind: of `ZeroCount` it is `A count is 0.` That of `Full`
     speaks of the limit that the program has. A name that is no kind raises `ValueError`."""
     for status in range(1, _NO_ROOM):
-        if kind and _said("status_name", status) == kind:
-            return _said("sentence", status)
+        if kind and _text_of("status_name", status) == kind:
+            return _text_of("sentence", status)
     raise ValueError(f"no kind of fault has the name {kind!r}")
 
 
@@ -278,7 +247,7 @@ class Stream:
     _level = 2  # the caller of `finish`, to whom a warning goes
 
     def __init__(self, gives: str = "canon", *, form: Form = "placed", generations: Optional[int] = None, limit: int = SQUARES) -> None:
-        self._watch = _Watch()
+        self._head = b""
         self._struct, self._line, self._thread = _Struct(), ctypes.c_uint64(), threading.get_ident()
         if gives not in _GIVEN:
             raise ValueError(f"a stream gives canon, to_rle, show or step, and not {gives!r}")
@@ -302,12 +271,17 @@ class Stream:
 
     def _check(self, status: int) -> None:
         if status:
-            raise _refused(status, self._line.value, False)
+            raise _refused(status, self._line.value, self._head)
+
+    def _warn(self) -> None:
+        """Issues the warning of the file that has ended, for the caller of the function that ends it."""
+        _warn(_text_of("stream_warning", self._own()) or None, self._level + 1)
 
     def feed(self, chunk: Bytes) -> None:
         """Takes the next chunk. A line is refused with the chunk in which it ends, and then each further chunk and the end are refused alike."""
         data = _bytes_of(chunk)
-        self._watch.take(data)
+        if len(self._head) < _HEAD:
+            self._head += data[: _HEAD - len(self._head)]
         self._check(_library.golly_canon_feed(self._own(), data, len(data), ctypes.byref(self._line)))
 
     def finish(self) -> bytes:
@@ -320,14 +294,14 @@ class Stream:
             status = _library.golly_canon_finish(self._own(), *out)
             room = needed.value
         self._check(status)
-        _warn(self._watch.found(), self._level)
+        self._warn()
         return text.raw
 
     def finish_key(self) -> bytes:
         """Ends the file, and returns the key of the text that `finish` returns: its SHA-256, 32 bytes. Both can be called, in any order and again."""
         digits, needed = ctypes.create_string_buffer(64), ctypes.c_size_t()
         self._check(_library.golly_canon_finish_key(self._own(), digits, len(digits), ctypes.byref(needed), ctypes.byref(self._line)))
-        _warn(self._watch.found(), self._level)
+        self._warn()
         return bytes.fromhex(digits.raw.decode("ascii"))
 
     def close(self) -> None:
@@ -417,7 +391,7 @@ def _key(file: bytes, form: Form, limit: int) -> bytes:
     out = found, len(found), ctypes.byref(needed), ctypes.byref(line)
     status = _library.golly_canon_key(file, len(file), _number_of(form), _limit_of(limit), _SEED, *out)
     if status:
-        raise _refused(status, line.value, False)
+        raise _refused(status, line.value, file)
     return found.raw
 
 
@@ -462,9 +436,16 @@ def same(first: Bytes, second: Bytes, form: Form = "placed", *, limit: int = SQU
     answered = ctypes.byref(is_same), ctypes.byref(line)
     status = _library.golly_canon_same_form(one, len(one), other, len(other), number, _limit_of(limit), _SEED, *answered)
     if status:
-        raise _refused(status, line.value, False)
+        raise _refused(status, line.value, one if _is_refused(one, status, line.value, limit) else other)
     _warn(warning_of(one) or warning_of(other), 2)
     return bool(is_same.value)
+
+
+def _is_refused(file: bytes, status: int, line: int, limit: int) -> bool:
+    """Whether a file is refused with this status and line when it is read alone."""
+    out = ctypes.create_string_buffer(32), 32, ctypes.byref(ctypes.c_size_t())
+    at = ctypes.c_uint64()
+    return _library.golly_canon_key(file, len(file), 0, _limit_of(limit), _SEED, *out, ctypes.byref(at)) == status and at.value == line
 
 
 def step(data: Bytes, table: Optional[Bytes] = None, *, generations: Optional[int] = None, limit: int = SQUARES) -> bytes:
@@ -485,6 +466,6 @@ def step(data: Bytes, table: Optional[Bytes] = None, *, generations: Optional[in
         status = _library.golly_canon_step_by_table(file, len(file), rule, len(rule), _limit_of(limit), _SEED, *out)
         room = needed.value
     if status:
-        raise _refused(status, line.value, bool(in_table.value) or status == _AMBIGUOUS)
+        raise _refused(status, line.value, file, rule if in_table.value or status == _AMBIGUOUS else None)
     _warn(warning_of(file), 2)
     return text.raw[: needed.value]

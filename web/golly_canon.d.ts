@@ -49,7 +49,9 @@ export class Refused extends Error {
   readonly line: number | null;
   /** Whether it is a line of the rule table. */
   readonly inTable: boolean;
-  constructor(kind: string, line?: number | null, inTable?: boolean);
+  /** What the file is, if it is something else than a pattern, and what to do: `This is a gzip file: unpack it first, with gunzip.` It is null otherwise. */
+  readonly advice: string | null;
+  constructor(kind: string, line?: number | null, inTable?: boolean, advice?: string | null);
 }
 
 /** The module stopped in a call, as where its stack is full: nothing is said of the file. The next call is made on a new module. */
@@ -106,9 +108,8 @@ export interface Library {
    */
   sentenceOf(kind: string): string;
   /**
-   * What is odd about a file that is accepted, in a sentence, or null: a macrocell file whose first line has a carriage return inside it, or that has no line
-   * of squares, seems to have lost its line ends; and in one with a line such as `#RB36/S23` or `#G7` before its squares this is a comment, but a rule or a
-   * generation in Golly.
+   * What seems damaged in a file that is accepted, in a sentence without a full stop, or null: the sentence that the program's `keys` writes. A macrocell file
+   * may have lost its line ends, or have a comment such as `#RB36/S23` that is a rule in Golly; an RLE may have lost its rows, or hold several patterns.
    */
   warningOf(data: Data): string | null;
 }
@@ -123,7 +124,7 @@ export type Source = ReadableStream<Uint8Array> | Blob | Response | Data | Itera
 
 /**
  * A file that comes in chunks, cut anywhere, which need not be held. Its memory in the module is given back as soon as the file is refused or has ended.
- * Then the stream keeps only the reason, or the text and its key.
+ * Then the stream keeps only the reason, or the text with its key and its warning.
  */
 export interface Stream<Text> {
   /** Takes the next chunk. A line is refused with the chunk in which it ends; then each further chunk and the end are refused alike. */
@@ -132,6 +133,8 @@ export interface Stream<Text> {
   finish(): Text;
   /** Ends the file, and returns the key of its text: its SHA-256, 32 bytes. It can be called before `finish`, after it, and again. */
   finishKey(): Uint8Array;
+  /** Ends the file, and returns what `warningOf` returns for the whole file. */
+  warning(): string | null;
   /** Gives the memory of the stream back. Where a stream is lost that is neither closed nor ended, the engine closes it when it collects the object. */
   close(): void;
 }

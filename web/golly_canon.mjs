@@ -8,8 +8,6 @@
  * A file is bytes in extended RLE or in macrocell. golly_canon.d.ts says what each call takes and answers.
  */
 
-import { Watch } from "./source.mjs";
-
 /** The limit of a call, if none is given: so many different squares, as the program has it. */
 export const SQUARES = 2 ** 31;
 
@@ -19,6 +17,8 @@ export const FORMS = Object.freeze(["placed", "moved", "turned"]);
 const STREAMS = { canon: "canon", toRle: "to_rle", show: "show", step: "step" };
 const AMBIGUOUS = 43;
 const NO_ROOM = 64;
+/** The bytes of a file by which the library says what it is. */
+const HEAD = 512;
 /** Bytes that are handed over at once, and bytes for an answer at first. */
 const CHUNK = 1 << 20;
 const FIRST_ROOM = 1 << 12;
@@ -41,12 +41,13 @@ const NEEDED = Uint8Array.of(
 
 /** Why a file, a rule table or a pattern is refused. As a text it is the line that the program writes, as `line 4: BadChild`. */
 export class Refused extends Error {
-  constructor(kind, line = null, inTable = false) {
+  constructor(kind, line = null, inTable = false, advice = null) {
     super(line === null ? kind : `${inTable ? "table " : ""}line ${line}: ${kind}`);
     this.name = "Refused";
     this.kind = kind;
     this.line = line;
     this.inTable = inTable;
+    this.advice = advice;
   }
 }
 
@@ -334,8 +335,11 @@ class Instance {
     }
   }
 
-  /** The text that a call gives. Its words are these, the text's memory, the text's length, and these places. It is called again where room lacks. */
-  text(name, words, places, room = FIRST_ROOM) {
+  /**
+   * The text that a call gives. Its words are these, the text's memory, the text's length, and these places. It is called again where the
+   * text doesn't fit. `files` are what the call reads: the file, and the rule table, if there is one.
+   */
+  text(name, words, places, files = [], room = FIRST_ROOM) {
     for (;;) {
       const out = this.take(room);
       try {
@@ -345,7 +349,7 @@ class Instance {
           return this.bytes(out, this.number(0)).slice();
         }
         if (status !== NO_ROOM) {
-          throw this.refused(status, places.includes(2) && this.isFlagged());
+          throw this.refused(status, files, places.includes(2) && this.isFlagged());
         }
       } finally {
         this.give(out);
@@ -354,16 +358,23 @@ class Instance {
     }
   }
 
-  /** What the library says of a status: with `status_name` its name, with `sentence` what it means. */
-  said(name, status) {
-    return new TextDecoder().decode(this.text(name, [status], []));
+  /** The sentence or the name that a call gives, which takes these words. */
+  said(name, ...words) {
+    return new TextDecoder().decode(this.text(name, words, []));
   }
 
-  /** What a status says. */
-  refused(status, inTable = false) {
+  /** What a file is that was refused with a status, and what to do, or null if it is nothing that the library knows. */
+  advice(status, file, isTable) {
+    const head = file.subarray(0, HEAD);
+    return this.lent([head], (...words) => this.said("advice", status, ...words, isTable ? 1 : 0)) || null;
+  }
+
+  /** What a status says of a file, or of the rule table, if the fault is of that one. */
+  refused(status, [file, table], inTable = false, line = this.number(1)) {
+    const isTable = inTable || status === AMBIGUOUS;
     const kind = this.said("status_name", status);
-    const line = this.number(1);
-    return new Refused(kind, line || null, line > 0 && (inTable || status === AMBIGUOUS));
+    const it = isTable ? table : file;
+    return new Refused(kind, line || null, line > 0 && isTable, it === undefined ? null : this.advice(status, it, isTable));
   }
 }
 
@@ -385,7 +396,7 @@ function weight(before, length) {
 
 /**
  * A file that comes in chunks, cut anywhere, which need not be held. What it has in the module is given back as soon as the file is refused or has ended:
- * then only the reason is kept, or the text and its key.
+ * then only the reason is kept, or the text with its key and its warning.
  */
 class Stream {
   #instance;
@@ -395,10 +406,13 @@ class Stream {
   /** How many bytes were fed, and memory that the engine counts as the stream's (see `weight`). */
   #length = 0;
   #weight = new ArrayBuffer(LIGHTEST);
+  /** The first bytes of the file. */
+  #head = new Uint8Array();
   /** Why the file is refused. */
   #refused = null;
   #text = null;
   #key = null;
+  #warning = null;
 
   /** `words` are the name of the call that opens it, and what it takes first. Where only the text or only the key is `wanted`, the other one isn't made. */
   constructor(instance, gives, words, limit, seed, wanted = "both") {
@@ -419,8 +433,8 @@ class Stream {
   /** Makes a call of the stream. Where the file is refused, nothing of it is kept but why. */
   #called(act) {
     if (this.#refused !== null) {
-      const { kind, line, inTable } = this.#refused;
-      throw new Refused(kind, line, inTable);
+      const { kind, line, inTable, advice } = this.#refused;
+      throw new Refused(kind, line, inTable, advice);
     }
     if (this.#struct === undefined) {
       throw new Refused("Spent");
@@ -440,13 +454,14 @@ class Stream {
     const bytes = bytesOf(chunk, "chunk");
     this.#called((instance, struct) => {
       this.#length += bytes.length;
+      this.#head = this.#head.length < HEAD ? Uint8Array.of(...this.#head, ...bytes.subarray(0, HEAD - this.#head.length)) : this.#head;
       this.#weight = weight(this.#weight, this.#length);
       for (let at = 0; at < bytes.length; at += CHUNK) {
         const piece = bytes.subarray(at, at + CHUNK);
         instance.bytes(instance.room(), piece.length).set(piece);
         const status = instance.call("golly_canon_feed", struct, instance.room(), BigInt(piece.length), instance.place(1));
         if (status !== 0) {
-          throw instance.refused(status);
+          throw instance.refused(status, [this.#head]);
         }
       }
     });
@@ -456,8 +471,9 @@ class Stream {
   #end() {
     if (this.#text === null && this.#key === null) {
       this.#called((instance, struct) => {
-        this.#key = this.#wanted === "text" ? null : instance.text("finish_key", [struct], [1]);
-        this.#text = this.#wanted === "key" ? null : instance.text("finish", [struct], [1]);
+        this.#key = this.#wanted === "text" ? null : instance.text("finish_key", [struct], [1], [this.#head]);
+        this.#text = this.#wanted === "key" ? null : instance.text("finish", [struct], [1], [this.#head]);
+        this.#warning = instance.said("stream_warning", struct) || null;
       });
       this.#release();
     }
@@ -473,9 +489,14 @@ class Stream {
     return Uint8Array.from(new TextDecoder().decode(this.#key).match(/../g), it => Number.parseInt(it, 16));
   }
 
+  warning() {
+    this.#end();
+    return this.#warning;
+  }
+
   close() {
     this.#release();
-    this.#refused = this.#text = this.#key = null;
+    this.#refused = this.#text = this.#key = this.#warning = null;
   }
 }
 
@@ -531,18 +552,23 @@ class Library {
   key(data, options) {
     const { form = "placed", limit = SQUARES } = optionsOf(options, IN_FORM);
     const here = this.#here();
-    return here.lent([bytesOf(data)], (...file) => here.text("key", [...file, numberOf(form), limitOf(limit), this.#seed], [1]));
+    const file = bytesOf(data);
+    return here.lent([file], (...words) => here.text("key", [...words, numberOf(form), limitOf(limit), this.#seed], [1], [file]));
   }
 
   same(first, second, options) {
     const { form = "placed", limit = SQUARES } = optionsOf(options, IN_FORM);
     const here = this.#here();
-    return here.lent([bytesOf(first, "first"), bytesOf(second, "second")], (...files) => {
-      const status = here.call("golly_canon_same_form", ...files, numberOf(form), limitOf(limit), this.#seed, here.place(2), here.place(1));
-      if (status !== 0) {
-        throw here.refused(status);
+    const files = [bytesOf(first, "first"), bytesOf(second, "second")];
+    return here.lent(files, (...words) => {
+      const status = here.call("golly_canon_same_form", ...words, numberOf(form), limitOf(limit), this.#seed, here.place(2), here.place(1));
+      if (status === 0) {
+        return here.isFlagged();
       }
-      return here.isFlagged();
+      // The fault is that of the first file exactly if this one is refused alone.
+      const line = here.number(1);
+      const alone = here.call("golly_canon_key", words[0], words[1], 0, limitOf(limit), this.#seed, 0n, 0n, here.place(0), here.place(1));
+      throw here.refused(status, alone === status && here.number(1) === line ? files : files.slice(1), false, line);
     });
   }
 
@@ -563,7 +589,8 @@ class Library {
       throw new RangeError("a table makes one generation at a time");
     }
     const here = this.#here();
-    return here.lent([bytesOf(data), bytesOf(table, "table")], (...files) => here.text("step_by_table", [...files, limitOf(limit), this.#seed], [1, 2]));
+    const files = [bytesOf(data), bytesOf(table, "table")];
+    return here.lent(files, (...words) => here.text("step_by_table", [...words, limitOf(limit), this.#seed], [1, 2], files));
   }
 
   stream(options) {
@@ -597,9 +624,8 @@ class Library {
   }
 
   warningOf(data) {
-    const watch = new Watch();
-    watch.take(bytesOf(data));
-    return watch.warning || null;
+    const here = this.#here();
+    return here.lent([bytesOf(data)], (...file) => here.said("warning", ...file)) || null;
   }
 
   sentenceOf(kind) {

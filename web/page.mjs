@@ -60,9 +60,10 @@ function powerOf(k) {
   return k < 20 ? grouped(2 ** k) : `2${String(k).replace(/\d/g, it => "\u2070\u00b9\u00b2\u00b3\u2074\u2075\u2076\u2077\u2078\u2079"[it])}`;
 }
 
-/** What a kind of fault means. The program has another limit of squares than the page. */
-function sentenceOf(kind) {
-  return kind === "Full" ? `The pattern has more than ${powerOf(26)} different squares.` : (SENTENCES[kind] ?? "");
+/** What a kind of fault means, and what the file is, if it is something else than a pattern. The program has another limit of squares than the page. */
+function sentenceOf(kind, advice = null) {
+  const sentence = kind === "Full" ? `The pattern has more than ${powerOf(26)} different squares.` : (SENTENCES[kind] ?? "");
+  return advice === null ? sentence : `${sentence} ${advice}`;
 }
 
 function showPlace({ x, y, zoom }) {
@@ -95,11 +96,11 @@ const shownName = name => shownText(name.replaceAll("\\", ESCAPES["\\"]));
 function spoken(file) {
   if (file.failed !== undefined) {
     const { refused, unreadable, message } = file.failed;
-    return `${shownName(file.name)} ${unreadable === undefined ? "is refused" : "isn't read"}: ${message}.${refused ? ` ${sentenceOf(refused.kind)}` : ""}`;
+    return `${shownName(file.name)} ${unreadable === undefined ? "is refused" : "isn't read"}: ${message}.${refused ? ` ${sentenceOf(refused.kind, refused.advice)}` : ""}`;
   }
   const { rule, generation, population } = file.summary;
   const what = `${counted(population, "cell", "cells")}, ${rule}, generation ${grouped(generation)}`;
-  return `${shownName(file.name)}: ${what}.${file.warning ? ` Warning: ${file.warning}` : ""}`;
+  return `${shownName(file.name)}: ${what}.${file.warning ? ` Warning: ${file.warning}.` : ""}`;
 }
 
 /** An element with a text and these properties. */
@@ -472,7 +473,7 @@ function rowOf(file, group) {
     const { rule, generation, population } = file.summary;
     cells.push(...[rule, grouped(generation), grouped(population), boxOf(file.summary)].map((it, index) => cellOf("td", index + 2, it)));
     if (file.warning) {
-      cells[1].append(made("span", ` Warning: ${file.warning}`, { className: "bad" }));
+      cells[1].append(made("span", ` Warning: ${file.warning}.`, { className: "bad" }));
     }
   }
   for (const cell of cells) {
@@ -503,7 +504,7 @@ function tableOf() {
     const { rule, generation, population, box } = file.summary ?? {};
     const place = box ? [box.left, box.top, box.width, box.height] : ["", "", "", ""];
     const key = file.keys?.[form] ?? "";
-    const notes = [file.warning ?? "", file.failed === undefined && key === "" ? whyNoKey(file, form) : ""].filter(it => it !== "").join(" ");
+    const notes = [file.warning ? `${file.warning}.` : "", file.failed === undefined && key === "" ? whyNoKey(file, form) : ""].filter(it => it !== "").join(" ");
     return [numbers.get(file) ?? "", quoted(file.name), quoted(rule ?? ""), generation ?? "", population ?? "", ...place, form, key,
       quoted(file.failed?.message ?? ""), quoted(notes)].join(",");
   });
@@ -548,7 +549,7 @@ function showRefused(file) {
     $("refused-why").textContent = unreadable ?? `The library stopped (${file.failed.fault}); it was loaded anew. The page can't say what the file is.`;
   } else {
     $("refused-reason").textContent = refused.reason;
-    $("refused-why").textContent = sentenceOf(refused.kind);
+    $("refused-why").textContent = sentenceOf(refused.kind, refused.advice);
   }
   const line = refused?.found ?? "";
   $("refused-line").hidden = line === "";
@@ -562,7 +563,7 @@ function show(file, { text, summary, tree }) {
   $("shown").hidden = false;
   $("name").textContent = shownName(file.name);
   $("warning").hidden = !file.warning;
-  $("warning").textContent = file.warning ? `Warning: ${file.warning}` : "";
+  $("warning").textContent = file.warning ? `Warning: ${file.warning}.` : "";
   showPattern(true);
 }
 
@@ -694,7 +695,7 @@ async function step() {
   } catch (why) {
     if (why instanceof Failed) {
       const { refused, fault } = why;
-      const reason = refused ? `There is no next generation: ${refused.reason}. ${sentenceOf(refused.kind)}` : "";
+      const reason = refused ? `There is no next generation: ${refused.reason}. ${sentenceOf(refused.kind, refused.advice)}` : "";
       say(reason || `The library stopped (${fault}); it was loaded anew.`);
     }
     return false;

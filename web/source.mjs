@@ -1,4 +1,4 @@
-/** A file as the worker reads it: a blob, which may be packed, and what is known of its content. */
+/** A file as the worker reads it: a blob, which may be packed. */
 
 const TABLE = Uint32Array.from({ length: 256 }, (_, byte) => {
   let sum = byte;
@@ -112,78 +112,4 @@ export async function lineOf(source, number, most = 200) {
   }
   const text = new TextDecoder("latin1").decode(Uint8Array.from(found.slice(0, most))).replace(/[\0-\x08\x0b-\x1f\x7f]/g, "\u00b7");
   return found.length > most ? `${text} \u2026` : text;
-}
-
-/** What is said of a macrocell file that is probably meant otherwise than it is read. */
-const MEANT_OTHERWISE = {
-  carriage: "Line 1 has a carriage return inside it: the file seems to have lost its line ends, so that most of it is read as a comment.",
-  squares: "The file has no line of squares, so it is the blank pattern. A macrocell file that lost its line ends looks like this.",
-  comment: "A line such as #RB36/S23 or #G7, without a space, is a comment here, and a rule or a generation in Golly.",
-};
-const COMMENT = /^#(?:R(?:[BbSs][0-8]|[0-8]*\/[0-8]*)|G[0-9])/;
-const MOST_OF_COMMENT = 64;
-
-/**
- * Watches the chunks of a macrocell file, up to its first line of squares, for what is probably meant otherwise: a carriage return inside its first line
- * or no line of squares, as where it lost its line ends, and a rule or a generation that is a comment. Such a file is accepted.
- */
-export class Watch {
-  #begun = [];
-  #isMacrocell = null;
-  #isFirst = true;
-  #wasReturn = false;
-  #hasReturn = false;
-  #isAtBegin = true;
-  #hasSquares = false;
-  #hasComment = false;
-  #hasBlank = false;
-  /** The first bytes of a comment. */
-  #comment = "";
-
-  /** Takes the next chunk, and hands it on. */
-  take(chunk) {
-    for (let at = 0; at < chunk.length && this.#isMacrocell !== false && !this.#isDone(); at++) {
-      this.#byte(chunk[at]);
-    }
-    return chunk;
-  }
-
-  #isDone() {
-    return this.#hasReturn || this.#hasSquares || this.#hasComment;
-  }
-
-  #byte(byte) {
-    if (this.#isMacrocell === null) {
-      this.#begun.push(byte);
-      this.#isMacrocell = byte !== [91, 77, 50, 93][this.#begun.length - 1] ? false : this.#begun.length === 4 ? true : null;
-    }
-    if (byte === 10) {
-      this.#hasComment = COMMENT.test(this.#comment);
-      this.#comment = "";
-      this.#isFirst = false;
-      this.#isAtBegin = true;
-      this.#hasBlank = false;
-      this.#wasReturn = false;
-      return;
-    }
-    if (this.#isFirst) {
-      this.#hasReturn ||= this.#wasReturn && byte !== 13;
-      this.#wasReturn = byte === 13;
-    } else if (this.#isAtBegin && byte !== 32 && byte !== 9 && byte !== 13) {
-      this.#isAtBegin = false;
-      this.#hasSquares = byte !== 35;
-      this.#comment = byte === 35 && !this.#hasBlank ? "#" : "";
-    } else if (this.#isAtBegin) {
-      this.#hasBlank = true;
-    } else if (this.#comment !== "" && this.#comment.length < MOST_OF_COMMENT) {
-      this.#comment += String.fromCharCode(byte);
-    }
-  }
-
-  /** The warning, or an empty text. */
-  get warning() {
-    const { carriage, squares, comment } = MEANT_OTHERWISE;
-    const found = this.#hasReturn ? carriage : this.#hasComment ? comment : this.#hasSquares ? "" : squares;
-    return this.#isMacrocell === true ? found : "";
-  }
 }

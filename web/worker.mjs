@@ -2,7 +2,7 @@
 
 import { FORMS, Refused, load } from "./golly_canon.mjs";
 import { sha256 } from "./sha256.mjs";
-import { Watch, Unreadable, checkSource, chunksOfSource, lineOf } from "./source.mjs";
+import { Unreadable, checkSource, chunksOfSource, lineOf } from "./source.mjs";
 import { treeOf } from "./tree.mjs";
 
 /** The most different squares: a store of so many takes some 2.5 GB. */
@@ -28,10 +28,16 @@ function otherKeys(text) {
   return { keys, lacking };
 }
 
-/** The chunks of a file, which `watch` sees too. */
-async function* watched(chunks, watch) {
-  for await (const chunk of chunks) {
-    yield watch.take(chunk);
+/** The canonical text of a source, and the warning of its file, or an empty text. */
+async function textOf(source, tell) {
+  const file = golly.stream({ limit: LIMIT });
+  try {
+    for await (const chunk of chunksOfSource(source, tell)) {
+      file.feed(chunk);
+    }
+    return { text: file.finish(), warning: file.warning() ?? "" };
+  } finally {
+    file.close();
   }
 }
 
@@ -49,10 +55,9 @@ const acts = {
 
   /** Reads a file: its summary and its keys, or where it is to be shown its key as it is placed, its text and its tree. */
   async read({ source, isShown }, tell) {
-    const watch = new Watch();
-    let text;
+    let read;
     try {
-      text = await golly.read(watched(chunksOfSource(source, tell), watch), { limit: LIMIT });
+      read = await textOf(source, tell);
     } catch (why) {
       if (why instanceof Refused) {
         await checkSource(source); // a file that is damaged is no file that is refused
@@ -60,11 +65,12 @@ const acts = {
       }
       throw why;
     }
+    const { text, warning } = read;
     const found = isShown ? opened(text) : { summary: golly.show(text, { limit: LIMIT }) };
     last = isShown ? text.slice() : null;
     const others = isShown ? { keys: {}, lacking: {} } : otherKeys(text);
     const keys = { placed: sha256(text), ...others.keys };
-    return { ...found, keys, lacking: others.lacking, warning: watch.warning, lacksKeys: last !== null };
+    return { ...found, keys, lacking: others.lacking, warning, lacksKeys: last !== null };
   },
 
   /** The other keys of the file that was read last, so that it is shown before they are there. */
@@ -84,7 +90,7 @@ const acts = {
 /** What the page is told of an error. */
 function toldOf(why) {
   if (why instanceof Refused) {
-    return { refused: { reason: why.message, kind: why.kind, line: why.line, inTable: why.inTable, found: why.found ?? "" } };
+    return { refused: { reason: why.message, kind: why.kind, line: why.line, inTable: why.inTable, advice: why.advice, found: why.found ?? "" } };
   }
   if (why instanceof Unreadable) {
     return { unreadable: why.message };

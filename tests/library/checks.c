@@ -647,6 +647,38 @@ static void sentences(void)
     check(holds, "each status with a name has a sentence, of 200 bytes at most");
 }
 
+/* What a refused file is, and the warning of an accepted one: some of both. tests/library/library.py compares all of them with those of the program. */
+static void hints(void)
+{
+    static const char gzip[] = "This is a gzip file: unpack it first, with gunzip.", table[] = "@RULE A\n";
+    static const char cut[] = "the file has no `!`, and fewer rows than its header says; a file that was cut off before its end looks like this";
+    golly_canon_stream stream = {0};
+    check(is_text(golly_canon_advice(GOLLY_CANON_NO_HEADER, BYTES("\x1f\x8b\n"), 0, fresh(), WIDE, &needed), gzip), "what a refused file is");
+    check(is_text(golly_canon_advice(GOLLY_CANON_FULL, BYTES("\x1f\x8b\n"), 0, fresh(), WIDE, &needed), "")
+              && is_text(golly_canon_advice(GOLLY_CANON_OK, BYTES("\x1f\x8b\n"), 0, fresh(), WIDE, &needed), "")
+              && is_text(golly_canon_advice(UINT32_MAX, BYTES("\x1f\x8b\n"), 0, fresh(), WIDE, &needed), ""), "no advice for a status that isn't of the bytes");
+    check(is_text(golly_canon_advice(GOLLY_CANON_NO_HEADER, BYTES(GLIDER), 0, fresh(), WIDE, &needed), ""), "no advice on a pattern file");
+    check(golly_canon_advice(GOLLY_CANON_NO_HEADER, BYTES(table), 0, fresh(), WIDE, &needed) == GOLLY_CANON_OK && needed > 0
+              && is_text(golly_canon_advice(GOLLY_CANON_NO_TABLE, BYTES(table), 1, fresh(), WIDE, &needed), ""), "a rule table where one was wanted");
+    check(golly_canon_advice(GOLLY_CANON_NO_HEADER, BYTES("\x1f\x8b\n"), 0, fresh(), sizeof gzip - 2, &needed) == GOLLY_CANON_NO_ROOM
+              && needed == sizeof gzip - 1 && untouched_from(0), "advice may lack room");
+    check(is_text(golly_canon_warning(BYTES("x = 3, y = 3\nbo$2bo$\n"), fresh(), WIDE, &needed), cut), "the warning of a file");
+    check(is_text(golly_canon_warning(BYTES(GLIDER), fresh(), WIDE, &needed), ""), "a file without a warning");
+    check(golly_canon_warning(BYTES("x = 3, y = 3\nbo$2bo$\n"), fresh(), sizeof cut - 2, &needed) == GOLLY_CANON_NO_ROOM && needed == sizeof cut - 1
+              && untouched_from(0), "a warning may lack room");
+    golly_canon_open_show(&stream, LIMIT, SEED);
+    golly_canon_feed(&stream, BYTES("x = 3, y = "), &line);
+    golly_canon_feed(&stream, BYTES("3\nbo$2bo$\n"), &line);
+    check(is_text(golly_canon_stream_warning(&stream, fresh(), WIDE, &needed), ""), "no warning before the end");
+    golly_canon_finish(&stream, fresh(), WIDE, &needed, &line);
+    check(is_text(golly_canon_stream_warning(&stream, fresh(), WIDE, &needed), cut)
+              && golly_canon_stream_warning(&stream, fresh(), 9, &needed) == GOLLY_CANON_NO_ROOM && untouched_from(0)
+              && is_text(golly_canon_stream_warning(&stream, fresh(), WIDE, &needed), cut), "the warning of a stream, and again");
+    check(golly_canon_finish(&stream, fresh(), WIDE, &needed, &line) == GOLLY_CANON_OK && needed > 0, "the stream stays as it is");
+    golly_canon_close(&stream);
+    check(is_text(golly_canon_stream_warning(&stream, fresh(), WIDE, &needed), ""), "a closed stream has no warning");
+}
+
 /* Two threads, each on data and streams of its own. */
 static void *thread(void *given_count)
 {
@@ -780,9 +812,14 @@ static void no_bytes(void)
     TWICE("the length of a name", golly_canon_status_name(GOLLY_CANON_FULL, none, 0, &needed[turn]));
     TWICE("the length of a sentence", golly_canon_sentence(GOLLY_CANON_FULL, none, 0, &needed[turn]));
     TWICE("the length of the version", golly_canon_version(none, 0, &needed[turn]));
+    TWICE("the length of advice", golly_canon_advice(GOLLY_CANON_NO_HEADER, none, 0, 0, none, 0, &needed[turn]));
+    TWICE("the length of a warning", golly_canon_warning(BYTES("[M2]\n"), none, 0, &needed[turn]));
     none_wanted = GOLLY_CANON_OK;
     TWICE("no sentence", golly_canon_sentence(GOLLY_CANON_OK, none, 0, &needed[turn]));
     TWICE("no name", golly_canon_status_name(66, none, 0, &needed[turn]));
+    TWICE("no advice", golly_canon_advice(GOLLY_CANON_OK, none, 0, 0, none, 0, &needed[turn]));
+    TWICE("no warning", golly_canon_warning(none, 0, none, 0, &needed[turn]));
+    TWICE("no warning of a stream", golly_canon_stream_warning(&stream, none, 0, &needed[turn]));
     TWICE("a piece", (golly_canon_open_canon(&stream, LIMIT, SEED), golly_canon_feed(&stream, none, 0, &at[turn])));
     none_wanted = GOLLY_CANON_NO_HEADER;
     TWICE("a stream of no bytes", (golly_canon_open_canon(&stream, LIMIT, SEED), golly_canon_feed(&stream, none, 0, &at[turn]),
@@ -825,6 +862,7 @@ int main(void)
     streams();
     names();
     sentences();
+    hints();
     threads();
     no_bytes();
     small_stack();

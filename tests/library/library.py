@@ -22,7 +22,7 @@ sys.path.insert(0, os.path.join(TOP, "tests"))
 
 from independent import commands, forms, rle, rules  # noqa: E402
 from independent.fuzz import random_files, small_files  # noqa: E402
-from shared import c_interface, processes  # noqa: E402
+from shared import c_interface, hints, processes  # noqa: E402
 from shared.c_interface import FULL, LINE_TOO_LONG, NO_ROOM, SPENT, SQUARES, Stream  # noqa: E402
 from shared.counting import check, ended  # noqa: E402
 
@@ -418,6 +418,49 @@ def check_sentences():
         check(found == page.get(it.name, found) and found != "", f"the sentence of {it.name}: {found}")
 
 
+def fed(file, cutting):
+    """A stream that a file was fed to in random pieces, and has not ended."""
+    stream, line = Stream(), ctypes.c_uint64()
+    assert library.golly_canon_open_canon(ctypes.byref(stream), ctypes.c_uint64(SQUARES), c_interface.seed()) == 0
+    for piece in pieces_of(file, cutting):
+        library.golly_canon_feed(ctypes.byref(stream), piece, ctypes.c_size_t(len(piece)), ctypes.byref(line))
+    return stream
+
+
+def check_hints(program):
+    """The warning of each file, whole and in pieces, and what a refused file is: what the program says of it. A stream has its warning after the end, and keeps
+    it."""
+    warned = {**hints.WARNED, **{name: (data, "") for name, data in hints.NOT_WARNED.items()}}
+    for name, (data, words) in warned.items():
+        said = hints.said_by(program, data)
+        check(words in said and bool(words) == bool(said), f"the program on {name}: {said!r}")
+        check(c_interface.warning_of(library, data) == said, f"the warning of {name}")
+        for cutting in range(4):
+            stream = fed(data, cutting)
+            before = c_interface.warning_of_stream(library, stream)
+            keys = [keyed(ctypes.byref(stream)) for _ in range(2)]
+            after = [c_interface.warning_of_stream(library, stream) for _ in range(2)]
+            library.golly_canon_close(ctypes.byref(stream))
+            closed = c_interface.warning_of_stream(library, stream)
+            check((before, after, closed) == ("", [said] * 2, "") and keys[0] == keys[1] and keys[0][1] == 0, f"the warning of {name}{IN_PIECES}: {after}")
+    for name, (data, words) in hints.FOREIGN.items():
+        said = hints.said_by(program, data)
+        stream = fed(data, 1)
+        _, status, _ = keyed(ctypes.byref(stream))
+        advice = c_interface.advice_of(library, status, data)
+        check(status and advice.startswith(words) and bool(words) == bool(advice), f"what {name} is: {advice!r}")
+        check(" ".join(filter(None, (c_interface.sentence_of(library, status), advice))) == said, f"the program on {name}: {said!r}")
+        check(c_interface.advice_of(library, status, data + b"\0" * 600) == c_interface.advice_of(library, status, (data + b"\0" * 600)[:512]),
+              f"no more than 512 bytes of {name} count")
+        check(c_interface.warning_of_stream(library, stream) == "", f"no warning of {name}, which is refused")
+        library.golly_canon_close(ctypes.byref(stream))
+        quiet = [0, FULL, c_interface.MEMORY, SPENT, NO_ROOM, 65, 999]
+        check([c_interface.advice_of(library, it, data) for it in quiet] == [""] * len(quiet), f"statuses without advice, {name}")
+    table = hints.FOREIGN["spread.rule"][0]
+    check(c_interface.advice_of(library, 32, table, True) == "" and c_interface.advice_of(library, 31, b"\x1f\x8b", True).startswith("This is a gzip"),
+          "what is wanted as a rule table")
+
+
 def of_program(program, words, file):
     run = processes.run([program, *words], file)
     return run.output, run.error.decode()
@@ -439,6 +482,7 @@ def main(program, folder):
     check(text_of(library.golly_canon_canon, files["glider.mc"], 2**64 - 1)[0] != b"", "the greatest limit")
 
     check_sentences()
+    check_hints(program)
     check_streams(files)
     check_limits()
     check_room()

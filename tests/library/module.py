@@ -9,6 +9,7 @@ import hashlib
 import io
 import os
 import pathlib
+import pickle
 import random
 import re
 import subprocess
@@ -23,7 +24,7 @@ sys.path.insert(0, os.path.dirname(os.path.dirname(os.path.abspath(__file__))))
 import golly_canon  # noqa: E402
 from golly_canon import Box, PatternWarning, Refused, Shown, Stream  # noqa: E402
 from independent.fuzz import random_files  # noqa: E402
-from shared import processes  # noqa: E402
+from shared import hints, processes  # noqa: E402
 from shared.counting import check, ended  # noqa: E402
 from shared.fixtures import FILES, LIFE, LINE_STEPPED, MANY_TEXT, PAIR_RLE, PAIR_SHOWN, PAIR_TEXT, SPREAD_STEPPED  # noqa: E402
 
@@ -306,6 +307,39 @@ def of_line_ends():
     check(golly_canon.warning_of(GLIDER) is None and "line ends" in golly_canon.warning_of(bytearray(LOST)), "the warning of a file")
 
 
+def of_hints(program):
+    """The warning of a file, and what a refused file is: what the program says, by each call, whole and in pieces."""
+    for name, (data, words) in {**hints.WARNED, **{name: (data, "") for name, data in hints.NOT_WARNED.items()}}.items():
+        said = hints.said_by(program, data)
+        check(words in said and bool(words) == bool(said), f"the program on {name}: {said!r}")
+        check(golly_canon.warning_of(data) == (said or None), f"the warning of {name}")
+        for pieces in ([data], [data[at:at + 1] for at in range(len(data))]):
+            with warnings.catch_warnings(record=True) as found:
+                warnings.simplefilter("always")
+                golly_canon.stream(pieces)
+            check([str(it.message) for it in found] == ([said] if said else []), f"the warning of a stream of {name}: {found}")
+    for name, (data, words) in hints.FOREIGN.items():
+        said = hints.said_by(program, data)
+        for call in (golly_canon.canon, golly_canon.key, golly_canon.show, lambda it: golly_canon.same(it, GLIDER), lambda it: golly_canon.same(GLIDER, it)):
+            try:
+                check(call(data) is None, f"{name} is refused")
+            except Refused as why:
+                check(why.reason == said and (why.advice or "").startswith(words) and bool(words) == bool(why.advice), f"why {name} is refused: {why.reason}")
+    packed = hints.FOREIGN["packed.gz"][0]
+    try:
+        check(golly_canon.same(CHILD, packed), "two files are refused")
+    except Refused as why:
+        check((why.kind, why.advice) == ("BadChild", None), f"the first of two files is the one that is refused: {why.reason}")
+    try:
+        check(golly_canon.step(GLIDER, packed), "a table is refused")
+    except Refused as why:
+        check((why.in_table, why.advice) == (True, "This is a gzip file: unpack it first, with gunzip."), f"what a rule table is: {why.advice}")
+    try:
+        Stream().feed(packed)
+    except Refused as why:
+        check(pickle.loads(pickle.dumps(why)).reason == why.reason, "a refusal can be sent")
+
+
 def of_keys(program):
     """The keys of files by their paths, beside those that the program writes, and why a file has none."""
     files = {"a glider.rle": GLIDER, "-x": MIRRORED, "two\nlines": ELSEWHERE, "refused.mc": CHILD, "lost.mc": LOST, "pair.mc": FILES["pair.mc"], "empty": b""}
@@ -350,6 +384,7 @@ def main(program):
     for name, found, wanted in ROWS:
         check(found == wanted, f"{name}: {found!r} and not {wanted!r}")
     of_line_ends()
+    of_hints(program)
     of_keys(program)
     wrong = [number for number in range(RANDOM_FILES) if not as_the_program(program, *random_triple(number))]
     check(not wrong, f"{RANDOM_FILES} random files as the program has them: {wrong[:5]}")

@@ -11,7 +11,7 @@ import tempfile
 import compare
 from independent import commands
 from judged import Program
-from shared import counting, fixtures
+from shared import counting, fixtures, hints
 
 # What a page and a worker run alike: it answers each case, as the texts in base64, or the lines of refusals.
 ANSWERING = """
@@ -128,6 +128,39 @@ def compares(browser, address, path, seed, count, least=20, places=("page", "wor
             counting.row(f"{len(some)} files in {where if where == 'Node' else 'a ' + where} are answered as by the program", problems)
     print(f"{answers} answers, {len(kinds)} kinds of refusal: {' '.join(sorted(kinds))}", flush=True)
     counting.check(len(kinds) >= least, f"only {len(kinds)} kinds of refusal came up")
+
+
+# What the module says of files: the warning of each, whole and byte by byte; or why it is refused, in sentences.
+HINTING = """
+const said = given.map(text => {
+  const data = Uint8Array.from(atob(text), it => it.charCodeAt(0));
+  const stream = window.golly.stream();
+  try {
+    for (let at = 0; at < data.length; at++) stream.feed(data.subarray(at, at + 1));
+    stream.finish();
+    return [window.golly.warningOf(data) ?? "", stream.warning() ?? ""];
+  } catch {
+    try {
+      window.golly.key(data);
+    } catch (why) {
+      return [[window.golly.sentenceOf(why.kind), why.advice].filter(it => it !== null).join(" "), why.advice ?? ""];
+    }
+  } finally {
+    stream.close();
+  }
+});
+return said;"""
+
+
+def hinted(browser, address, path, where="page"):
+    """The warning of a file, and what a refused file is: what the program says."""
+    opened(browser, address, where)
+    known = {**hints.WARNED, **{name: (data, "") for name, data in hints.NOT_WARNED.items()}, **hints.FOREIGN}
+    found = browser.run(HINTING, *(base64.b64encode(data).decode() for data, _ in known.values()))
+    for (name, (data, words)), (said, more) in zip(known.items(), found):
+        wanted = hints.said_by(path, data)
+        is_right = said == wanted and (more.startswith(words) and bool(more) == bool(words) if name in hints.FOREIGN else more == said)
+        counting.row(f"what is said of {name}, {where}", [] if is_right and words in said else [f"{said!r}, {more!r} and not {wanted!r}"])
 
 
 # What a call says of an argument that it can't take: its name, what it has to be, and what it is.

@@ -83,6 +83,7 @@ def in_chromium(folder, program, options):
     with browsers.Server(folder) as server:
         browsers.tested("answers of the module", browsers.Browser,
                         lambda it: of_module.compares(it, server.address, program, options.seed, options.cases))
+        browsers.tested("what the module says of files", browsers.Browser, lambda it: of_module.hinted(it, server.address, program))
         browsers.tested("calls of the module", browsers.Browser, calls)
     of_page.rows(folder, program, options.pictures)
 
@@ -135,6 +136,7 @@ def in_node(folder, program, options):
 
     def some(node):
         of_module.compares(node, f"file://{folder}", program, f"{options.seed} in Node", options.cases // 5, 10, ["Node"])
+        of_module.hinted(node, f"file://{folder}", program, "Node")
         of_module.strictness(node)
         of_module.streams(node, f"file://{folder}", where="Node")
         of_module.forms(node)

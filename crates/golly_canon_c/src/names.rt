@@ -3,6 +3,7 @@
 ghost use Rattle.std.specs.Prelude.{◌≡◌, ◌≢◌, ◌==◌, [], codes, find};
 ghost use Rattle.golly_canon_c.specs.Words.{KindValue, kind_number, kind_name, ReturnsText, reply, status_name, sentence_of, status_sentence};
 
+use crate::told::tell_sentence;
 use fault_sentences::sentence;
 use library_calls::{NO_FORM, NO_ROOM, give};
 use life_base::Kind;
@@ -56,7 +57,7 @@ const KINDS: [Kind; 41] = [
 ];
 
 /// The kind of this number, if one has it.
-fn kind_of(number: u32) -> Option<Kind>
+pub(crate) fn kind_of(number: u32) -> Option<Kind>
     ensures { result ≡ find (λ kind. kind_number kind == number) KINDS }
 {
     KINDS
@@ -95,12 +96,10 @@ fn meaning_of(number: u32) -> &'static [u8]
 }
 
 /// Gives a name or a sentence, and puts its length into `needed`. The answer is the status.
-fn tell_name(name: &[u8], out: &mut [u8], needed: &mut usize) -> u32
+pub(crate) fn tell_name(name: &[u8], out: &mut [u8], needed: &mut usize) -> u32
     ensures { ReturnsText name.now out.old out.new (reply result needed.new 0) }
 {
-    let answer = give(name, out);
-    *needed = answer.needed;
-    answer.status
+    tell_sentence(give(name, out), needed)
 }
 
 /// The name of a status: `OK`, `NoRoom`, `NoForm`, the name of the kind of fault, and no byte for a number that no call answers.

@@ -14,6 +14,15 @@ pub(crate) fn tell(answer: Told, needed: &mut usize, line: &mut u64) -> u32
     answer.status
 }
 
+/// Puts the length of a sentence into `needed`, and returns the status.
+pub(crate) fn tell_sentence(answer: Told, needed: &mut usize) -> u32
+    requires { answer.line ≡ 0 }
+    ensures { answer ≡ reply result needed.new 0 }
+{
+    *needed = answer.needed;
+    answer.status
+}
+
 /// The same of a comparison.
 pub(crate) fn tell_compared(answer: Compared, is_same: &mut u32, line: &mut u64) -> u32
     ensures { answer ≡ comparison_of result is_same.new line.new }

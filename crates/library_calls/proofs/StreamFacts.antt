@@ -8,9 +8,11 @@ use Rattle.life_base.specs.declared.kind.Kind.TheVariants.{Full}
 use Rattle.life_quad.specs.Store.{Nodes, stored_squares}
 use Rattle.life_canon.specs.Feeding.{RefusesFront}
 use Rattle.life_canon.specs.Store.{IsShortageOf}
+use Rattle.file_hints.specs.Damage.{warning_of}
+use Rattle.file_hints.specs.declared.warnings.Warning.{Warning}
 use Rattle.library_calls.specs.Texts.{Fits, SomeToRead, room_of}
 use Rattle.library_calls.specs.Outputs.{Piecewise, IsOutputText, IsTooLowForFront, RefusesTextOf, RefusesPiece}
-use Rattle.library_calls.specs.Streams.{IsFed, SessionHasText, HasFault, by_piece, by_text, StaysEnded, Feeds, Finishes}
+use Rattle.library_calls.specs.Streams.{IsFed, SessionHasText, SessionHasWarning, HasFault, by_piece, by_text, StaysEnded, Feeds, Finishes}
 use Rattle.library_calls.specs.Streams as streams
 use Rattle.library_calls.specs.declared.texts.Output.{Output}
 use Rattle.library_calls.specs.declared.session.Session.{Session}
@@ -29,7 +31,11 @@ piece-fault limit bytes store fault is (inr front) low = inl front
 -- a session that is read has no text and no fault
 none-yet : (session : Session) (feeding : Piecewise) (new : Option Session) → session ≡ Reading feeding → StaysEnded (Some session) new
 none-yet session feeding new is =
-    record { text = λ text has. absurd (subst (SessionHasText text) is has); fault = λ fault has. absurd (subst (HasFault fault) is has) }
+    record {
+      text = λ text has. absurd (subst (SessionHasText text) is has);
+      warning = λ warning has. absurd (subst (SessionHasWarning warning) is has);
+      fault = λ fault has. absurd (subst (HasFault fault) is has);
+    }
 
 -- a piece that is taken
 pub feeds-piece : (piece : List ℕ) (session : Session) (feeding next : Piecewise) → session ≡ Reading feeding
@@ -55,14 +61,17 @@ feeds-fault piece session feeding fault is why = record {
 }
 
 -- the text of the end
-pub ends-text : (session : Session) (feeding : Piecewise) (text : Vec ℕ) → session ≡ Reading feeding
+pub ends-text : (session : Session) (feeding : Piecewise) (text : Vec ℕ) (warning : Option Warning) → session ≡ Reading feeding
+    → warning ≡ warning_of feeding.bytes
     → ((limit : ℕ) → feeding.room ≡ room_of limit → IsOutputText feeding.output limit feeding.bytes text.items)
-    → ((limit : ℕ) → feeding.room ≡ room_of limit → Fits (SomeToRead feeding.bytes) limit) → Finishes (Some session) (Some (Written text))
-ends-text session feeding text is good fits = record {
+    → ((limit : ℕ) → feeding.room ≡ room_of limit → Fits (SomeToRead feeding.bytes) limit)
+    → Finishes (Some session) (Some (Written (record { text = text; warning = warning })))
+ends-text session feeding text warning is warns good fits = record {
   ends = λ output limit bytes fed. let f = subst (IsFed output limit bytes) is fed in
       by_text text.items refl (subst (λ b. IsOutputText output limit b text.items) f.2
       (subst (λ k. IsOutputText k limit feeding.bytes text.items) f.0 (good limit f.1)))
       (subst (λ b. Fits (SomeToRead b) limit) f.2 (fits limit f.1));
+  warns = λ output limit bytes fed. warns ∙ ap warning_of (subst (IsFed output limit bytes) is fed).2;
   stays = none-yet session feeding _ is;
 }
 
@@ -73,6 +82,7 @@ pub ends-fault : (session : Session) (feeding : Piecewise) (fault : Fault) → s
 ends-fault session feeding fault is why = record {
   ends = λ output limit bytes fed. let f = subst (IsFed output limit bytes) is fed in streams.by_fault fault refl
       (subst (λ b. RefusesTextOf output limit b fault) f.2 (subst (λ k. RefusesTextOf k limit feeding.bytes fault) f.0 (why limit f.1)));
+  warns = λ output limit bytes fed. tt;
   stays = none-yet session feeding _ is;
 }
 
@@ -80,20 +90,21 @@ ends-fault session feeding fault is why = record {
 not-fed : (output : Output) (limit : ℕ) (bytes : List ℕ) (session : Session) → ((feeding : Piecewise) → session ≡ Reading feeding → ⊥)
     → ¬ IsFed output limit bytes session
 not-fed output limit bytes (Reading feeding) ended fed = ended feeding refl
-not-fed output limit bytes (Written text) ended fed = fed
+not-fed output limit bytes (Written finished) ended fed = fed
 not-fed output limit bytes (Refused fault) ended fed = fed
 
 -- it stays as it is
 pub fed-ended : (piece : List ℕ) (session : Session) → ((feeding : Piecewise) → session ≡ Reading feeding → ⊥) → Feeds piece (Some session) (Some session)
 fed-ended piece session ended = record {
   takes = λ output limit bytes fed. absurd (not-fed output limit bytes session ended fed);
-  stays = record { text = λ text has. has; fault = λ fault has. has };
+  stays = record { text = λ text has. has; warning = λ warning has. has; fault = λ fault has. has };
 }
 
 pub ended-ended : (session : Session) → ((feeding : Piecewise) → session ≡ Reading feeding → ⊥) → Finishes (Some session) (Some session)
 ended-ended session ended = record {
   ends = λ output limit bytes fed. absurd (not-fed output limit bytes session ended fed);
-  stays = record { text = λ text has. has; fault = λ fault has. has };
+  warns = λ output limit bytes fed. absurd (not-fed output limit bytes session ended fed);
+  stays = record { text = λ text has. has; warning = λ warning has. has; fault = λ fault has. has };
 }
 
 -- what a call makes of the session of an open stream, which it takes out and puts another one into the place of

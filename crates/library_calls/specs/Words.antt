@@ -5,8 +5,9 @@ pub use Rattle.library_calls.specs.ComparingInForm.{AreOneInForm, ComparesInForm
 pub use Rattle.library_calls.specs.Outputs.{IsOutputText, IsTextOfRead, RefusesPiece, RefusesTextOf, RefusesTextOfRead, text_in}
 pub use Rattle.library_calls.specs.InForm.{form_numbered, form_room, IsKeyInForm, IsTextInForm, AnswersInForm}
 pub use Rattle.library_calls.specs.Stepping.{RefusesLater, RefusesStepByWithin, RefusesStepWithin, StepsByTable}
-pub use Rattle.library_calls.specs.Streams.{Feeds, Finishes, IsSpent, key_digits, OpensStream, session_of, TellsEnd, TellsKey, TellsNothing, TellsPiece}
+pub use Rattle.library_calls.specs.Streams.{Feeds, Finishes, IsSpent, key_digits, OpensStream, sentence_of_session, sentence_of_stream, sentence_of_warning, session_of, TellsEnd, TellsKey, TellsNothing, TellsPiece}
 pub use Rattle.library_calls.specs.Told.{Returns, ReturnsText, ReturnsFault, reply}
+pub use Rattle.file_hints.specs.Damage.{warning_of}
 pub use Rattle.life_base.specs.Kinds.{kind_number}
 pub use Rattle.life_base.specs.Refusal.{fault_of}
 pub use Rattle.life_base.specs.declared.cell.TheConstants.{MAX_LEVEL}

@@ -1,10 +1,11 @@
 //! A file that is read in pieces, and the text that its end gives.
 
 ghost use Rattle.std.specs.Prelude.{◌≡◌, ◌++◌, ℕ, [], IfOk, IfErr, OnOk};
-ghost use Rattle.library_calls.specs.Words.{FaultValue, Fits, RefusesFront, SomeToRead, room_of, IsOutputText, RefusesTextOf, RefusesPiece};
+ghost use Rattle.library_calls.specs.Words.{FaultValue, Fits, RefusesFront, SomeToRead, room_of, IsOutputText, RefusesTextOf, RefusesPiece, warning_of};
 
 use crate::options::Options;
 use crate::texts::{Output, text_of_read};
+use file_hints::{Warning, Watch};
 use life_base::{Fault, MAX_LEVEL};
 use life_canon::Reader;
 use life_canon::laws::fronts_hold;
@@ -12,16 +13,19 @@ use life_quad::Shared;
 use std::alloc::Global;
 use std::marker::Model;
 
-/// A reader, the store of its squares, and which text its end gives.
+/// A reader, the store of its squares, which text its end gives, and what is known of the file to warn of.
 #[derive(Drop)]
 pub struct Feeding {
     reader: Reader,
     store: Shared,
     output: Output,
+    watch: Watch,
 }
 
 impl Model for Feeding {
-    ghost use Rattle.std.specs.Prelude.{◌≡◌, [], false};
+    ghost use Rattle.std.specs.Prelude.{◌≡◌, ◌++◌, ℕ, List, [], false};
+    ghost use Rattle.file_hints.specs.Damage.{warning_of};
+    ghost use Rattle.file_hints.specs.Watching.{warning_after};
     ghost use Rattle.life_canon.specs.Feeding.{Stands};
     ghost use Rattle.life_canon.specs.Room.{HoldsFront};
     ghost use Rattle.library_calls.specs.Outputs.{Piecewise};
@@ -30,9 +34,10 @@ impl Model for Feeding {
 
     ghost view = { λ f. record { output = f.output; room = f.store.limit; bytes = f.reader.bytes } };
 
-    // The store holds no squares but those of the lines that have ended.
+    // The store holds no squares but those of the lines that have ended. The bytes that came were watched.
     ghost invariant = { λ f. (f.reader.spent ≡ false) × Stands f.store f.reader
-        × HoldsFront [] f.reader.bytes f.store };
+        × HoldsFront [] f.reader.bytes f.store
+        × ((rest : List ℕ) → warning_after f.watch rest ≡ warning_of (f.reader.bytes ++ rest)) };
 }
 
 impl Feeding {
@@ -44,6 +49,7 @@ impl Feeding {
             reader: Reader::new(alloc),
             store: options.new_store(alloc),
             output,
+            watch: Watch::new(),
         }
     }
 
@@ -61,6 +67,7 @@ impl Feeding {
             mut reader,
             mut store,
             output,
+            watch,
         } = self;
         let taken = reader.feed(&mut store, piece);
         // Its contract says that a store holds each square once, and none that is blank. The proof counts them.
@@ -70,7 +77,15 @@ impl Feeding {
             reader,
             store,
             output,
+            watch: watch.after(piece),
         })
+    }
+
+    /// The warning of the file whose pieces came.
+    pub(crate) fn warning(&self) -> Option<Warning>
+        ensures { result ≡ warning_of self.now.bytes }
+    {
+        self.watch.warning()
     }
 
     /// The text of the file whose pieces came.
@@ -87,6 +102,7 @@ impl Feeding {
             reader,
             mut store,
             output,
+            watch: _,
         } = self;
         let found = reader.finish(&mut store);
         // As in `with_piece`.

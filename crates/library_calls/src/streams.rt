@@ -1,9 +1,10 @@
 //! The calls on streams: a file in pieces, and one answer at its end.
 
 ghost use Rattle.std.specs.Prelude.{◌≡◌, None, Some, IfSome, MatchOption};
-ghost use Rattle.library_calls.specs.Words.{text_in, form_numbered, session_of, OpensStream, Feeds, Finishes, IsSpent, TellsPiece, TellsNothing, TellsEnd, TellsText, ReturnsText, key_digits, TellsKey};
+ghost use Rattle.library_calls.specs.Words.{text_in, form_numbered, session_of, OpensStream, Feeds, Finishes, IsSpent, TellsPiece, TellsNothing, TellsEnd, TellsText, ReturnsText, key_digits, TellsKey, sentence_of_session, sentence_of_stream};
 
 use crate::feeding::Feeding;
+use crate::hints::sentence_of_warning;
 use crate::in_form::{NO_FORM, form_of, text_in};
 use crate::options::Options;
 use crate::session::{Session, after_end, after_piece};
@@ -73,7 +74,7 @@ fn tell_end(session: &Session, out: &mut [u8]) -> Told
 {
     match session {
         Session::Reading(_) => spent(),
-        Session::Written(text) => give(text, out),
+        Session::Written(finished) => give(&finished.text, out),
         Session::Refused(why) => refuse(why),
     }
 }
@@ -96,7 +97,7 @@ fn tell_key(session: &Session, out: &mut [u8]) -> Told
 {
     match session {
         Session::Reading(_) => spent(),
-        Session::Written(text) => give_key(text, out),
+        Session::Written(finished) => give_key(&finished.text, out),
         Session::Refused(why) => refuse(why),
     }
 }
@@ -158,6 +159,32 @@ pub fn finish_key(alloc: Global, stream: &mut Stream, out: &mut [u8]) -> Told
     };
     end(alloc, &mut session);
     let told = tell_key(&session, out);
+    put(stream, session);
+    told
+}
+
+/// The sentence of the warning of a file that was read to its end, and no byte for one without a warning, or that was refused, or has not ended.
+fn sentence_of_session(session: &Session) -> &'static [u8]
+    ensures { result.now ≡ sentence_of_session session.now }
+{
+    match session {
+        Session::Written(finished) => sentence_of_warning(finished.warning),
+        _ => b"",
+    }
+}
+
+/// The sentence of the warning of the file that a stream has read to its end, and no byte for a file without a warning, and for a stream that has not
+/// ended, or has refused its file, or is closed.
+pub fn stream_warning(alloc: Global, stream: &mut Stream, out: &mut [u8]) -> Told
+    ensures stream { session_of stream.new ≡ session_of stream.old }
+    ensures text { ReturnsText (sentence_of_stream (session_of stream.old)) out.old out.new
+        result }
+    ensures line { result.line ≡ 0 }
+{
+    let Some(session) = take(alloc, stream) else {
+        return give(b"", out);
+    };
+    let told = give(sentence_of_session(&session), out);
     put(stream, session);
     told
 }

@@ -63,7 +63,7 @@ module _ (output : Output) (limit : ℕ) (bytes : List ℕ) (before after : List
   end_told (Reading feeding) (streams.by_text text has good fits) tells = absurd has
   end_told (Reading feeding) (streams.by_fault fault has why) tells = absurd has
   end_told (Written written) (streams.by_text text has good fits) tells =
-      by_text written.items (subst (IsOutputText output limit bytes) (sym has) good) tells.0 tells.1
+      by_text written.text.items (subst (IsOutputText output limit bytes) (sym has) good) tells.0 tells.1
   end_told (Written written) (streams.by_fault fault has why) tells = absurd has
   end_told (Refused it) (streams.by_text text has good fits) tells = absurd has
   end_told (Refused it) (streams.by_fault fault has why) tells = by_fault it (inr (subst (RefusesTextOf output limit bytes) (sym has) why)) tells

@@ -1,5 +1,6 @@
-use Rattle.std.proofs.Common.{ℕ, List, ◌++◌, ◌∙◌, ◌⊎◌, [], ap, sym, subst}
+use Rattle.std.proofs.Common.{ℕ, List, ◌++◌, ◌∙◌, ◌⊎◌, [], ap, append_assoc, sym, subst}
 use Rattle.std.proofs.lemmas.Result.{err_from_is_err_and}
+use Rattle.file_hints.specs.Damage.{warning_of}
 use Rattle.life_base.specs.declared.cell.TheConstants.{MAX_LEVEL}
 use Rattle.life_base.specs.declared.fault.Fault.{Fault}
 use Rattle.life_canon.specs.Feeding.{RefusesFront}
@@ -35,6 +36,9 @@ invariant_of-result c =
           (λ (bytes : List ℕ). HoldsFront [] bytes c.feed-taken.new.store) (sym (on-ok c.feed-taken.result _ was c.feed-taken.ensures.bytes))
           ((c.fronts_hold.ensures c.self.inside.reader.bytes c.args.piece.now [] c.self.inside.store c.feed-taken.new.store c.self.invariant.2).0
           c.feed-taken.ensures.feeds.adds),
+      λ (rest : List ℕ). c.after.ensures rest ∙ c.self.invariant.3 (c.args.piece.now ++ rest)
+          ∙ ap warning_of (sym (append_assoc c.self.inside.reader.bytes c.args.piece.now rest)
+          ∙ ap (λ (bytes : List ℕ). bytes ++ rest) (sym (on-ok c.feed-taken.result _ was c.feed-taken.ensures.bytes))),
     )
 
 pub returns-clause-front : goal.returns-clause-front
