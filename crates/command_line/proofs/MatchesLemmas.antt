@@ -1,12 +1,12 @@
 -- From what the getters of `clap` read to the matches that it states.
-use Rattle.std.proofs.Common.{◌≡◌, ◌≢◌, codes, ◌↔◌, ◌+◌, cond, fold, ◌∙◌, option_map, refl, ℕ, Bool, map, count_by, Bor, List, [], ◌∷◌, Option, Some, None, IsSome, IfOk, IfErr, Result, Ok, Err, true, ap, sym, subst, inl, inr, unwrap_or}
+use Rattle.std.proofs.Common.{◌≡◌, ◌≢◌, ◌⊎◌, codes, ◌↔◌, ◌+◌, cond, fold, ◌∙◌, option_map, refl, ℕ, Bool, map, count_by, Bor, List, [], ◌∷◌, Option, Some, None, IsSome, IfOk, IfErr, Result, Ok, Err, true, ap, sym, subst, inl, inr, unwrap_or}
 use Rattle.clap.specs.Words.{App, Kinds, FailsBy, fault_of, is_simple_and_free, Row, Text, first_of, matched_of, raw_values, rows_of}
 use Rattle.clap.specs.declared.parser.matches.Found.{Found}
 use Rattle.clap.proofs.WalkLemmas.{raw_values-rows}
 use Rattle.clap.specs.declared.error.Error.{Error}
 use Rattle.clap.specs.declared.error.kind.ErrorKind.{ErrorKind}
 use Rattle.clap.specs.declared.error.kind.ErrorKind.TheVariants.{InvalidSubcommand, InvalidValue}
-use Rattle.command_line.specs.Plans.{AreOfAnyFiles, Explains, ExplainsPlan, HasSecond, HoldsForm, HoldsMatches, IfWork, IsKeysPlanOf, IsRequestOf, IsTaskPlanOf, NamesInputTwice, NamesOtherForm, RefusesAs, RefusesWord, TakesAnyFiles, TakesOtherForm, command_of, form_word, values_of}
+use Rattle.command_line.specs.Plans.{AreOfAnyFiles, Explains, ExplainsPlan, HasSecond, HoldsForm, HoldsGenerations, HoldsMatches, IfWork, IsKeysPlanOf, IsRequestOf, IsFoundAmong, IsTaskPlanOf, NamesGenerations, NamesInputTwice, NamesOtherForm, RefusesAs, RefusesWord, TakesAnyFiles, HasNoJob, command_of, form_word, values_of}
 use Rattle.command_line.specs.declared.plans.Form.{Form}
 use Rattle.command_line.specs.declared.plans.Form.TheVariants.{Placed}
 use Rattle.command_line.specs.declared.plans.KeysPlan.{KeysPlan}
@@ -84,26 +84,31 @@ form_found : (rows : List Row) (form : Form) → HoldsForm Placed rows form → 
 form_found rows form (inl (none, placed)) other = absurd (other placed)
 form_found rows form (inr is) other = (form, other, is)
 
-form_named : (task : Task) (m : Text × List Row) (p : TaskPlan) → m.0 ≡ command_of task → HoldsMatches task m.1 p → TakesOtherForm task
-    → NamesOtherForm (Some m)
-form_named (Canon form) m p is (file, held) other = (inl is, form_found m.1 form held other)
-form_named (Convert target) m p is held other = absurd other
-form_named (Same form) m p is (files, held) other = (inr is, form_found m.1 form held other)
-form_named Show m p is held other = absurd other
-form_named Step m p is held other = absurd other
-form_named StepTable m p is held other = absurd other
-form_named (Later n) m p is held other = absurd other
-form_named (LaterTable n) m p is held other = absurd other
+-- a number of generations is one that was found
+number_found : (rows : List Row) (n : ℕ) → HoldsGenerations rows (Some n) → IsFoundAmong (codes "generations") rows
+number_found rows n (word, there, number) = subst (λ (found : Option Text). IsSome found) (sym there) refl
 
-form_of_plan : (matches : Option (Text × List Row)) (p : TaskPlan) → IsTaskPlanOf matches p → TakesOtherForm p.task → NamesOtherForm matches
-form_of_plan None p is other = absurd is
-form_of_plan (Some m) p is other = form_named p.task m p is.0 is.1 other
+no_job_named : (task : Task) (m : Text × List Row) (p : TaskPlan) → m.0 ≡ command_of task → HoldsMatches task m.1 p → HasNoJob task
+    → NamesOtherForm (Some m) ⊎ NamesGenerations (Some m)
+no_job_named (Canon form) m p is (file, held) other = inl (inl is, form_found m.1 form held other)
+no_job_named (Convert target) m p is held other = absurd other
+no_job_named (Same form) m p is (files, held) other = inl (inr is, form_found m.1 form held other)
+no_job_named Show m p is held other = absurd other
+no_job_named Step m p is held other = absurd other
+no_job_named StepTable m p is held other = absurd other
+no_job_named (Later n) m p is (file, table, number) other = inr (is, number_found m.1 n number)
+no_job_named (LaterTable n) m p is (files, number) other = inr (is, number_found m.1 n number)
 
--- why words that ask for a task in another form have no plan for a job
-pub no_plan_of_form : {X : Type 0} (faults : Kinds) (matches : Option (Text × List Row)) (p : TaskPlan) (r : Result X Usage) → faults ≡ []
-    → IsTaskPlanOf matches p → ¬ NamesInputTwice matches → IfErr r (RefusesWord (TakesOtherForm p.task)) → IfErr r (ExplainsPlan faults matches)
-no_plan_of_form faults matches p (Ok x) none is once h = tt
-no_plan_of_form faults matches p (Err u) none is once h = inr (none, once, inr (refuses_weaker InvalidValue u (form_of_plan matches p is) h))
+no_job_of_plan : (matches : Option (Text × List Row)) (p : TaskPlan) → IsTaskPlanOf matches p → HasNoJob p.task
+    → NamesOtherForm matches ⊎ NamesGenerations matches
+no_job_of_plan None p is other = absurd is
+no_job_of_plan (Some m) p is other = no_job_named p.task m p is.0 is.1 other
+
+-- why words that ask for a task of no job have no plan for one
+pub no_plan_of_task : {X : Type 0} (faults : Kinds) (matches : Option (Text × List Row)) (p : TaskPlan) (r : Result X Usage) → faults ≡ []
+    → IsTaskPlanOf matches p → ¬ NamesInputTwice matches → IfErr r (RefusesWord (HasNoJob p.task)) → IfErr r (ExplainsPlan faults matches)
+no_plan_of_task faults matches p (Ok x) none is once h = tt
+no_plan_of_task faults matches p (Err u) none is once h = inr (none, once, inr (refuses_weaker InvalidValue u (no_job_of_plan matches p is) h))
 
 -- why words that ask for keys or duplicates have none
 pub no_plan_of_files : (command : Text) (default : Form) (faults : Kinds) (matches : Option (Text × List Row)) (p : KeysPlan) (u : Usage)

@@ -44,18 +44,18 @@ task_of (jobs.Convert target) = Convert target
 task_of jobs.Same = Same Placed
 task_of jobs.Step = Step
 task_of jobs.StepTable = StepTable
-task_of (jobs.Later generations) = Later generations
-task_of (jobs.LaterTable generations) = LaterTable generations
 
 -- the same plan, with the task of its job, and with this for whether an error is explained
 abbrev pub task_plan_of : Bool → Plan → TaskPlan
 task_plan_of explain p = record { task = task_of p.job; first = p.first; second = p.second; explain = explain }
 
--- the task takes patterns in another form than as they lie
-abbrev pub TakesOtherForm : Task → Type 0
-TakesOtherForm (Canon form) = form ≢ Placed
-TakesOtherForm (Same form) = form ≢ Placed
-TakesOtherForm _ = ⊥
+-- the task is that of no job: it takes patterns in another form than as they lie, or a number of generations
+abbrev pub HasNoJob : Task → Type 0
+HasNoJob (Canon form) = form ≢ Placed
+HasNoJob (Same form) = form ≢ Placed
+HasNoJob (Later generations) = Unit {0}
+HasNoJob (LaterTable generations) = Unit {0}
+HasNoJob _ = ⊥
 
 -- the command of a task
 abbrev pub command_of : Task → Text
@@ -240,6 +240,11 @@ NamesOtherForm None = ⊥
 NamesOtherForm (Some matches) = ((matches.0 ≡ codes "canon") ⊎ (matches.0 ≡ codes "same"))
     × ((form : Form) × (form ≢ Placed) × (first_of (codes "form") matches.1 ≡ Some (form_word form)))
 
+-- the matches are those of `step` with a number of generations
+abbrev pub NamesGenerations : Option (Text × List Row) → Type 0
+NamesGenerations None = ⊥
+NamesGenerations (Some matches) = (matches.0 ≡ codes "step") × IsFoundAmong (codes "generations") matches.1
+
 -- how many of the values under this name are standard input
 abbrev pub input_count_under : Text → List Row → ℕ
 input_count_under id rows = count_by (λ text. bytes_eq text (codes "-")) (values_of id rows)
@@ -267,8 +272,9 @@ Explains faults matches TwoInputs = (faults ≡ []) × NamesInputTwice matches
 Explains faults matches Memory = (faults ≡ []) × AreOfTask matches × (¬ NamesNoValue matches) × (¬ NamesInputTwice matches)
 
 -- why words have no plan for a job: the same; or words without a fault that name standard input once at most ask for keys or duplicates, as an
--- InvalidSubcommand, or for another form than that of a pattern as it lies, as an InvalidValue
+-- InvalidSubcommand, or for another form than that of a pattern as it lies, or for a number of generations, as an InvalidValue
 abbrev pub ExplainsPlan : Kinds → Option (Text × List Row) → Usage → Type 0
 ExplainsPlan faults matches usage = Explains faults matches usage
     ⊎ ((faults ≡ []) × (¬ NamesInputTwice matches)
-    × (RefusesAs InvalidSubcommand (AreOfAnyFiles matches) usage ⊎ RefusesWord (NamesOtherForm matches) usage))
+    × (RefusesAs InvalidSubcommand (AreOfAnyFiles matches) usage
+    ⊎ RefusesWord (NamesOtherForm matches ⊎ NamesGenerations matches) usage))

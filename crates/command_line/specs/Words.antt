@@ -7,5 +7,5 @@ pub use Rattle.command_line.specs.CommandLine.{program, ReadsAs, required_file, 
 pub use Rattle.command_line.specs.Origins.{IsOriginOf}
 pub use Rattle.command_line.specs.Plans.{AreOfTask, AreWhole, Explains, ExplainsPlan, form_word, HasNoForm, HasNoFormat, HasNoNumber, HasSecond, HasOneFile, HoldsFiles}
 pub use Rattle.command_line.specs.Plans.{HoldsFlag, HoldsForm, HoldsGenerations, HoldsKeys, IfWork, input_count, input_count_under, IsFoundAmong, IsPlanOf, IsRequestOf, IsTaskPlanOf, IsValueOf}
-pub use Rattle.command_line.specs.Plans.{NamesInputTwice, RefusesAs, RefusesKeys, RefusesWord, TakesOtherForm, target_word, task_of, task_plan_of, values_of}
+pub use Rattle.command_line.specs.Plans.{NamesInputTwice, RefusesAs, RefusesKeys, RefusesWord, HasNoJob, target_word, task_of, task_plan_of, values_of}
 pub use Rattle.std.specs.Str.{bytes_eq}

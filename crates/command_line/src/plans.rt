@@ -18,10 +18,6 @@ pub enum Job {
     Step,
     /// Write the next generation, by the rule table that is the second file.
     StepTable,
-    /// Write the generation so many after this one, under the pattern's own B/S rule.
-    Later(u64),
-    /// Write the generation so many after this one, by the rule table that is the second file.
-    LaterTable(u64),
 }
 
 /// What a run can do with patterns: a job, with the form that it takes them in.
@@ -60,8 +56,6 @@ impl From<Job> for Task {
             Job::Same => Task::Same(Form::Placed),
             Job::Step => Task::Step,
             Job::StepTable => Task::StepTable,
-            Job::Later(generations) => Task::Later(generations),
-            Job::LaterTable(generations) => Task::LaterTable(generations),
         }
     }
 }

@@ -16,8 +16,6 @@ pub fn job_variants(job: Job) -> u8 {
         Job::Same => 4,
         Job::Step => 5,
         Job::StepTable => 6,
-        Job::Later(_) => 7,
-        Job::LaterTable(_) => 8,
     }
 }
 

@@ -26,7 +26,7 @@ fn is_second(name: &Option<String>, wanted: Option<&str>) -> bool {
 }
 
 /// Arguments with the job that they ask for, and its files.
-const PLANS: [(&str, Job, &str, Option<&str>); 24] = [
+const PLANS: [(&str, Job, &str, Option<&str>); 19] = [
     ("canon -", Job::Canon, "-", None),
     ("canon - --form placed", Job::Canon, "-", None),
     ("show -", Job::Show, "-", None),
@@ -56,26 +56,6 @@ const PLANS: [(&str, Job, &str, Option<&str>); 24] = [
     ("same - --explain b", Job::Same, "-", Some("b")),
     ("show --explain -- -", Job::Show, "-", None),
     ("step - --table=a --explain", Job::StepTable, "-", Some("a")),
-    ("step - --generations 0", Job::Later(0), "-", None),
-    ("step --generations=0007 -", Job::Later(7), "-", None),
-    (
-        "step - --generations 18446744073709551615",
-        Job::Later(u64::MAX),
-        "-",
-        None,
-    ),
-    (
-        "step - --generations 1 --table a",
-        Job::LaterTable(1),
-        "-",
-        Some("a"),
-    ),
-    (
-        "step --table=a --generations=9 -",
-        Job::LaterTable(9),
-        "-",
-        Some("a"),
-    ),
 ];
 
 /// The arguments of a text ask for this job of these files.
@@ -103,7 +83,7 @@ fn plans(rt: HostRuntime) {
 }
 
 /// Arguments with the task that they ask for and its files, and whether they ask for a sentence about an error. The words after `--` are names.
-const REQUESTS: [(&str, Task, &str, Option<&str>, bool); 24] = [
+const REQUESTS: [(&str, Task, &str, Option<&str>, bool); 25] = [
     ("canon -", Task::Canon(Form::Placed), "-", None, false),
     (
         "canon - --form placed",
@@ -220,6 +200,13 @@ const REQUESTS: [(&str, Task, &str, Option<&str>, bool); 24] = [
         "-",
         None,
         true,
+    ),
+    (
+        "step --generations=18446744073709551615 -",
+        Task::Later(u64::MAX),
+        "-",
+        None,
+        false,
     ),
     (
         "step - --table a --generations=0",
@@ -463,7 +450,7 @@ fn assert_usage(rt: &impl Abort, alloc: Global, text: &str, kind: ErrorKind) {
 }
 
 /// Arguments with the kind with which they are refused. Those that ask for another form than that of a pattern as it lies have a request and no plan.
-const USAGES: [(&str, ErrorKind); 51] = [
+const USAGES: [(&str, ErrorKind); 53] = [
     ("", ErrorKind::MissingSubcommand),
     ("canon", ErrorKind::MissingRequiredArgument),
     ("canon a b", ErrorKind::UnknownArgument),
@@ -521,6 +508,8 @@ const USAGES: [(&str, ErrorKind); 51] = [
     ("canon --form turned -- -", ErrorKind::InvalidValue),
     ("same --form moved - b", ErrorKind::InvalidValue),
     ("same - b --form=turned", ErrorKind::InvalidValue),
+    ("step - --generations 3", ErrorKind::InvalidValue),
+    ("step - --table=a --generations 3", ErrorKind::InvalidValue),
 ];
 
 #[test]

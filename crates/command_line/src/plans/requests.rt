@@ -1,7 +1,7 @@
 //! The plan that the words ask for.
 
 ghost use Rattle.std.specs.Prelude.{◌≡◌, ◌≢◌, ◌⊎◌, ◌↔◌, ◌<◌, [], ℕ, Ok, IfOk, IfErr, OnOk, MatchOption, Some, IsSome, IsTrue, map, option_map, string_bytes, codes, count_by};
-ghost use Rattle.command_line.specs.Words.{bytes_eq, found_of, first_of, rows_of, subcommand_of, subcommand_rows_of, program, AreOfTask, AreWhole, IfWork, IsFoundAmong, IsPlanOf, IsRequestOf, IsTaskPlanOf, TakesOtherForm, task_of, task_plan_of, IsValueOf, HasNoForm, HasNoFormat, HasNoNumber, HasSecond, HasOneFile, HoldsFiles, HoldsFlag, HoldsForm, HoldsGenerations, HoldsKeys, NamesInputTwice, Explains, ExplainsPlan, RefusesAs, RefusesKeys, RefusesWord, form_word, input_count, input_count_under, target_word, u64_of, values_of};
+ghost use Rattle.command_line.specs.Words.{bytes_eq, found_of, first_of, rows_of, subcommand_of, subcommand_rows_of, program, AreOfTask, AreWhole, IfWork, IsFoundAmong, IsPlanOf, IsRequestOf, IsTaskPlanOf, HasNoJob, task_of, task_plan_of, IsValueOf, HasNoForm, HasNoFormat, HasNoNumber, HasSecond, HasOneFile, HoldsFiles, HoldsFlag, HoldsForm, HoldsGenerations, HoldsKeys, NamesInputTwice, Explains, ExplainsPlan, RefusesAs, RefusesKeys, RefusesWord, form_word, input_count, input_count_under, target_word, u64_of, values_of};
 ghost use Rattle.clap.specs.Words.{fault_of, kind_of};
 
 use super::commands::parse;
@@ -422,7 +422,8 @@ fn from_matches<'a>(alloc: Global, matches: &ArgMatches<'a>) -> Result<Request<'
 ///
 /// `Words` with the text to show, where `clap` finds a fault in the words, as which `--help` and `--version` count too, by its kind; where the
 /// word after `--to` is that of no format, the one after `--form` that of no form, or the one after `--generations` no number below 2^64, as
-/// `InvalidValue`; where `keys` or `duplicates` is given neither a file nor a list, as `MissingRequiredArgument`; and where `clap`, or the list of their files, gets no memory, as `OutOfMemory`.
+/// `InvalidValue`; where `keys` or `duplicates` is given neither a file nor a list, as `MissingRequiredArgument`; and where `clap`, or the list
+/// of their files, gets no memory, as `OutOfMemory`.
 /// `TwoInputs` where words without a fault name `-` for two files, whatever follows these options. `Memory` where all is right but there is
 /// no memory for the copy of a file's name.
 pub fn request<'a, S: AsStr>(alloc: Global, words: &'a [S]) -> Result<Request<'a>, Usage>
@@ -438,9 +439,9 @@ pub fn request<'a, S: AsStr>(alloc: Global, words: &'a [S]) -> Result<Request<'a
     from_matches(alloc, &matches)
 }
 
-/// The job of a task that takes patterns as they lie.
+/// The job of a task that takes patterns as they lie, and no number of generations.
 fn job_of(task: Task) -> Option<Job>
-    ensures { MatchOption result (TakesOtherForm task) (λ job. task ≡ task_of job) }
+    ensures { MatchOption result (HasNoJob task) (λ job. task ≡ task_of job) }
 {
     match task {
         Task::Show => Some(Job::Show),
@@ -449,16 +450,14 @@ fn job_of(task: Task) -> Option<Job>
         Task::Same(Form::Placed) => Some(Job::Same),
         Task::Step => Some(Job::Step),
         Task::StepTable => Some(Job::StepTable),
-        Task::Later(generations) => Some(Job::Later(generations)),
-        Task::LaterTable(generations) => Some(Job::LaterTable(generations)),
-        Task::Canon(_) | Task::Same(_) => None,
+        Task::Canon(_) | Task::Same(_) | Task::Later(_) | Task::LaterTable(_) => None,
     }
 }
 
-/// The plan of the job, where the task of the plan takes patterns as they lie.
-fn as_they_lie(alloc: Global, plan: TaskPlan) -> Result<Plan, Usage>
+/// The plan of the job, where the task of the plan is one.
+fn as_job(alloc: Global, plan: TaskPlan) -> Result<Plan, Usage>
     ensures ok { IfOk result (λ p. plan ≡ task_plan_of plan.explain p) }
-    ensures err { IfErr result (RefusesWord (TakesOtherForm plan.task)) }
+    ensures err { IfErr result (RefusesWord (HasNoJob plan.task)) }
 {
     match job_of(plan.task) {
         Some(job) => Ok(Plan {
@@ -466,7 +465,11 @@ fn as_they_lie(alloc: Global, plan: TaskPlan) -> Result<Plan, Usage>
             first: plan.first,
             second: plan.second,
         }),
-        None => Err(refusal(alloc, CALL, "the value of --form is placed")),
+        None => Err(refusal(
+            alloc,
+            CALL,
+            "a job takes no form but placed, and no number of generations",
+        )),
     }
 }
 
@@ -474,8 +477,8 @@ fn as_they_lie(alloc: Global, plan: TaskPlan) -> Result<Plan, Usage>
 ///
 /// # Errors
 ///
-/// Those of `request`, and `Words` of words that ask for keys or duplicates, as `InvalidSubcommand`, or for another form than `placed`, as
-/// `InvalidValue`: `request` has a plan for these too. That `--explain` is given isn't stored.
+/// Those of `request`, and `Words` of words that ask for keys or duplicates, as `InvalidSubcommand`, or for another form than `placed` or a
+/// number of generations, as `InvalidValue`: `request` has a plan for these too. That `--explain` is given isn't stored.
 pub fn plan<S: AsStr>(alloc: Global, words: &[S]) -> Result<Plan, Usage>
     ensures faultless { OnOk result (fault_of program (map S.text words.entry.now) ≡ []) }
     ensures ok { IfOk result (IsPlanOf (subcommand_of program (map S.text words.entry.now))) }
@@ -486,7 +489,7 @@ pub fn plan<S: AsStr>(alloc: Global, words: &[S]) -> Result<Plan, Usage>
         (subcommand_of program (map S.text words.entry.now))) }
 {
     match request(alloc, words) {
-        Ok(Request::Work(plan)) => as_they_lie(alloc, plan),
+        Ok(Request::Work(plan)) => as_job(alloc, plan),
         Ok(Request::Keys(_)) => Err(no_job(alloc)),
         Ok(Request::Duplicates(_)) => Err(no_job(alloc)),
         Err(usage) => Err(usage),

@@ -4,7 +4,7 @@ use Rattle.clap.specs.Words.{subcommand_of}
 use Rattle.command_line.specs.CommandLine.{program}
 use Rattle.command_line.specs.Plans.{HasSecond, IsPlanOf, IsTaskPlanOf, task_of}
 use Rattle.command_line.specs.declared.plans.TaskPlan.{TaskPlan}
-use Rattle.command_line.proofs.MatchesLemmas.{no_plan_of_form, no_plan_of_files}
+use Rattle.command_line.proofs.MatchesLemmas.{no_plan_of_task, no_plan_of_files}
 use Rattle.command_line.proofs.TaskLemmas.{anyway}
 use Rattle.command_line.specs.declared.plans.Form.TheVariants.{Placed, Moved}
 use Rattle.command_line.proofs.plans.requests.plan.Goals as goal
@@ -12,7 +12,7 @@ use Rattle.command_line.proofs.plans.requests.plan.Goals as goal
 pub returns-in-Ok-Work-clause-refused : goal.returns-in-Ok-Work-clause-refused
 returns-in-Ok-Work-clause-refused g c =
     let is = rw c.in-Ok-Work.field-0-is at c.in-Ok-Work.ensures.ok in
-    no_plan_of_form _ _ c.in-Ok-Work.plan c.as_they_lie.result c.in-Ok-Work.ensures.faultless is c.in-Ok-Work.ensures.once c.as_they_lie.ensures.err
+    no_plan_of_task _ _ c.in-Ok-Work.plan c.as_job.result c.in-Ok-Work.ensures.faultless is c.in-Ok-Work.ensures.once c.as_job.ensures.err
 
 pub returns-in-Ok-Keys-clause-refused : goal.returns-in-Ok-Keys-clause-refused
 returns-in-Ok-Keys-clause-refused g c =
@@ -30,19 +30,19 @@ pub returns-clause-refused : goal.returns-clause-refused
 returns-clause-refused g c = inl c.in-Err.ensures.refused
 
 pub returns-in-Ok-Work-clause-faultless : goal.returns-in-Ok-Work-clause-faultless
-returns-in-Ok-Work-clause-faultless g c = anyway c.as_they_lie.result _ c.in-Ok-Work.ensures.faultless
+returns-in-Ok-Work-clause-faultless g c = anyway c.as_job.result _ c.in-Ok-Work.ensures.faultless
 
 pub returns-in-Ok-Work-clause-once : goal.returns-in-Ok-Work-clause-once
-returns-in-Ok-Work-clause-once g c = anyway c.as_they_lie.result _ c.in-Ok-Work.ensures.once
+returns-in-Ok-Work-clause-once g c = anyway c.as_job.result _ c.in-Ok-Work.ensures.once
 
 pub returns-in-Ok-Work-clause-ok : goal.returns-in-Ok-Work-clause-ok
 returns-in-Ok-Work-clause-ok g c =
     let matches = subcommand_of program (map g.S.AsStr.text c.args.words.now) in
     let is : IsTaskPlanOf matches c.in-Ok-Work.plan = rw c.in-Ok-Work.field-0-is at c.in-Ok-Work.ensures.ok in
-    IfOk-weaker c.as_they_lie.result _ (IsPlanOf matches) (λ p same. (c.in-Ok-Work.plan.explain, subst (IsTaskPlanOf matches) same is)) c.as_they_lie.ensures.ok
+    IfOk-weaker c.as_job.result _ (IsPlanOf matches) (λ p same. (c.in-Ok-Work.plan.explain, subst (IsTaskPlanOf matches) same is)) c.as_job.ensures.ok
 
 pub returns-in-Ok-Work-clause-files : goal.returns-in-Ok-Work-clause-files
 returns-in-Ok-Work-clause-files g c =
     let files : IsSome c.in-Ok-Work.plan.second ↔ HasSecond c.in-Ok-Work.plan.task = rw c.in-Ok-Work.field-0-is at c.in-Ok-Work.ensures.files in
-    IfOk-weaker c.as_they_lie.result _ (λ p. IsSome p.second ↔ HasSecond (task_of p.job))
-    (λ p same. subst (λ (q : TaskPlan). IsSome q.second ↔ HasSecond q.task) same files) c.as_they_lie.ensures.ok
+    IfOk-weaker c.as_job.result _ (λ p. IsSome p.second ↔ HasSecond (task_of p.job))
+    (λ p same. subst (λ (q : TaskPlan). IsSome q.second ↔ HasSecond q.task) same files) c.as_job.ensures.ok
