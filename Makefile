@@ -101,6 +101,7 @@ times:
 
 bench: golly_canon
 	@RT="$(RT)" SMALL="$(SMALL)" OTHER="$(OTHER)" python3 bench/run.py ./golly_canon out/bench
+	@SMALL="$(SMALL)" python3 -B bench/generations.py ./golly_canon out/bench
 
 instructions: golly_canon
 	@python3 -B bench/instructions.py ./golly_canon out/bench_small

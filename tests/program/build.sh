@@ -74,7 +74,7 @@ FAILS= make -s golly_canon RT="$RT" > said 2>&1
 verdict "what is proved is not proved again" "$(cat notes)"
 mkdir -p crates/life_step/src && echo "a change" > crates/life_step/src/changed.rt
 FAILS= JOBS=1 make -s golly_canon RT="$RT" > said 2>&1
-verdict "a crate that changed is proved again, and those above it" "$([ "$(begun | tr '\n' ' ')" = "golly_canon life_cli life_step " ] || begun)"
+verdict "a crate that changed is proved again, and those above it" "$([ "$(begun | tr '\n' ' ')" = "golly_canon life_cli life_generations life_step " ] || begun)"
 
 verdict "with one processor each crate is proved in one job" "$(grep -v ' in 1$' jobs)"
 

@@ -34,9 +34,10 @@ KNOWN = [
     ("the gun of gliders, long after", GUN, 30 * 10_000, None),
 ]
 EDGE = 1 << 61  # the plane's coordinates go from -EDGE to EDGE - 1
-WIREWORLD = (b"@RULE WireWorld\n@TABLE\nn_states:4\nneighborhood:Moore\nsymmetries:permute\nvar a={0,2,3}\nvar b=a\nvar c=a\nvar d=a\nvar e=a\nvar f=a\nvar g=a\n"
-             b"var h=a\n1,a,b,c,d,e,f,g,h,2\nvar i={0,1,2,3}\nvar j=i\nvar k=i\nvar l=i\nvar m=i\nvar n=i\nvar o=i\nvar p=i\n1,i,j,k,l,m,n,o,p,2\n2,i,j,k,l,m,n,o,p,3\n"
-             b"3,1,a,b,c,d,e,f,g,1\n3,1,1,a,b,c,d,e,f,1\n")
+# The rule WireWorld: a head becomes a tail, a tail becomes wire, and wire becomes a head beside one head or two.
+WIREWORLD = "".join([
+    "@RULE WireWorld\n@TABLE\nn_states:4\nneighborhood:Moore\nsymmetries:permute\n", *(f"var {it}={{0,1,2,3}}\n" for it in "abcdefgh"),
+    *(f"var {it}={{0,2,3}}\n" for it in "ijklmno"), "1,a,b,c,d,e,f,g,h,2\n2,a,b,c,d,e,f,g,h,3\n3,1,i,j,k,l,m,n,o,1\n3,1,1,i,j,k,l,m,n,1\n"]).encode()
 # An electron that goes round a ring of wire.
 RING = b"x = 5, y = 3, rule = WireWorld\n.AB.$C3.C$.3C!\n"
 # Seconds of processor time, and megabytes, for a soup that grows for ever.
