@@ -27,6 +27,7 @@ sys.path[:0] = [EXAMPLES, os.path.join(TOP, "tests"), os.path.join(TOP, "tests",
 
 import collection  # noqa: E402
 import duplicates  # noqa: E402
+import golly_canon  # noqa: E402
 import messages  # noqa: E402
 from independent.fuzz import random_files, small_files  # noqa: E402
 from shared import processes  # noqa: E402
@@ -133,13 +134,22 @@ def of_default(program):
         check(f"Without `--form` it takes `{collection.FORM}`" in re.sub(r"\s+", " ", it.read()), "docs/COLLECTIONS.md says the default")
 
 
+def advice_on(data):
+    """What collection.py says of a file that is refused, and nothing of another one."""
+    try:
+        golly_canon.key(data)
+    except golly_canon.Refused as why:
+        return collection.advice_of(why.kind, why.advice, data).strip()
+    return ""
+
+
 def of_formats():
     """What collection.py says of files of other formats is what the program says by `--explain`."""
     advice = {name: text for name, _, _, _, text in messages.ALONE}
     named = {name: text for name, text in advice.items() if re.match("This is|The file|The header|The lines end", text)}
     wrong = []
     for name, data in messages.EXPLAINED.items():
-        found = collection.advice_of("NoHeader", data).strip()
+        found = advice_on(data)
         wanted = named.get(name, "")
         if name in advice and (found != wanted if name not in (b"packed.zip", b"packed.tar") else not found.startswith(wanted)):
             wrong.append((name, found, wanted))

@@ -207,8 +207,9 @@ GENERATIONS = [
     *refusing(later(1), [(NONE, b"line 1: NoHeader"), (WIRES, b"NeedsTable"), (LAST_WIRES, b"NeedsTable"), (LAST, b"GenerationTooLarge"),
                          (LAST_EDGE, b"GenerationTooLarge"), (FILES["edge.rle"], b"OutOfPlane")]),
     *refusing(later(2**64 - 1), [(FILES["edge.rle"], b"OutOfPlane"), (b"#CXRLE Gen=1\n" + LINE, b"GenerationTooLarge"), (WIRES, b"NeedsTable")]),
-    # A glider beside the edge of the plane touches it before it leaves.
-    *refusing(later(2**62), [(EAST_GLIDER, b"OutOfPlane")]),
+    # A glider goes on by one column and one row in four generations, and the plane ends after 2^61 of them.
+    *refusing(later(2**63), [(EAST_GLIDER, b"OutOfPlane")]),
+    *refusing(later(4), [(SOUTH_EAST, b"OutOfPlane")]),
     (later(0, "--table"), [SPREAD, FILES["spread.rle"]], Answer(0, SEED_TEXT)),
     (later(0, "--table"), [SPREAD, WIRES], Answer(0, WIRES_TEXT)),
     (later(1, "--table"), [SPREAD, FILES["spread.rle"]], Answer(0, SPREAD_STEPPED)),
