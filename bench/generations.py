@@ -82,6 +82,11 @@ def row(program, folder, name, what, generations, algorithm):
     with open(mine, "wb") as it:
         subprocess.run(ours, stdout=it, check=True)
     subprocess.run(golly, stdout=subprocess.DEVNULL, stderr=subprocess.DEVNULL, check=True)
+    if algorithm == "QuickLife":  # whose RLE lacks the generation
+        with open(theirs, "r+b") as it:
+            rle = it.read()
+            it.seek(0)
+            it.write(b"#CXRLE Gen=%d\n" % generations + rle)
     if subprocess.run([program, "same", "--form", "moved", mine, theirs], stdout=subprocess.DEVNULL, check=False).returncode:
         sys.exit(f"{name}, {generations} generations: {mine} and {theirs} aren't the same pattern")
     turns = [(spent(ours), spent(golly)) for _ in range(TURNS)]
