@@ -214,4 +214,5 @@ class Trial:
         """Tries an edit by the toolchain's own rule."""
         self.checks += 1
         with copy_of(self.kept) as copy:
-            edit.refused, edit.said = rt.must_fail(self.crate, edit.path, self.flags, copy)
+            outcome, edit.said = rt.must_fail(self.crate, edit.path, self.flags, copy)
+        edit.refused = toolchain.is_refusal(outcome)

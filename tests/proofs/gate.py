@@ -1,6 +1,6 @@
 #!/usr/bin/env python3
 """The gate itself, in a small repository of two crates: it passes what is right, and fails where its script loses an edit or a crate, refuses everything, or
-is interrupted. And what it checks again where something changed. The last line is 'N passed, M failed'.
+is interrupted. Also what it checks again after a change, and that a toolchain which it doesn't know runs `rt ci`. The last line is 'N passed, M failed'.
 
 usage: tests/proofs/gate.py"""
 
@@ -81,13 +81,15 @@ exec(sys.argv[1])
 sys.exit(gate.main(sys.argv[2:]))
 """
 LOSES_AN_EDIT = "edits_of = gate.Gate.edits_of; gate.Gate.edits_of = lambda self, crate: edits_of(self, crate)[1:]"
-LOSES_A_CRATE = "crates_of = gate.rt.crates_of; gate.rt.crates_of = lambda root, aside: crates_of(root, aside)[:1]"
+LOSES_A_CRATE = "crates_of = gate.rt.crates_of; gate.rt.crates_of = lambda *given: crates_of(*given)[:1]"
+# An `rt` that has none of the parts that the gate calls.
+OTHER_RT = "#!/usr/bin/env python3\nimport sys\n\nif __name__ == '__main__':\n    print('this is rt', *sys.argv[1:])\n"
 REFUSES_ALL = "gate.trials.Round.judge = lambda self, edit: edit.decide(True, 'refused, as it must be')"
 
 
-def run(folder, *words):
-    """Runs a command on the small repository. Returns its status and what it said."""
-    how = {"cwd": folder, "env": {**os.environ, "TOP": folder}, "stdin": subprocess.DEVNULL, "stdout": subprocess.PIPE, "stderr": subprocess.STDOUT}
+def run(folder, *words, **variables):
+    """Runs a command on the small repository, with these variables. Returns its status and what it said."""
+    how = {"cwd": folder, "env": {**os.environ, "TOP": folder, **variables}, "stdin": subprocess.DEVNULL, "stdout": subprocess.PIPE, "stderr": subprocess.STDOUT}
     ran = subprocess.run([sys.executable, "-B", *words], text=True, errors="replace", check=False, **how)
     return ran.returncode, ran.stdout
 
@@ -97,6 +99,18 @@ def row(name, found, status, *wanted):
     problems = [f"status {found[0]}, not {status}"] * (found[0] != status)
     problems += [f"no {it!r} in {found[1][-1500:]!r}" for it in wanted if not re.search(it, found[1], re.M)]
     counting.row(name, problems)
+
+
+def unknown_toolchains(folder):
+    """Whether the gate is `rt ci` with an `rt` of another name, and with one of a known name that lacks the parts that the gate calls."""
+    for name, kit in (("another name", "some-other-kit"), ("a known name without the parts of rt", "rattle-kit-13f")):
+        command = os.path.join(folder, kit, "bin", "rt")
+        os.makedirs(os.path.dirname(command))
+        for path, text in ((command, OTHER_RT), (os.path.join(folder, kit, "KIT-ID"), f"{kit} logic 0\n")):
+            with open(path, "w", encoding="utf-8") as it:
+                it.write(text)
+        os.chmod(command, 0o755)
+        row(f"a toolchain of {name}", run(folder, GATE, RT=command), 0, r"^scripts/gate doesn't know this rt of the toolchain .*: rt ci instead$", r"^this is rt ci$")
 
 
 def interrupted(folder):
@@ -142,6 +156,8 @@ def main():
             r"^FAILED  must-fail small/ten_in_hexadecimal.edit: this harmless edit has to be proved", r"^\d+ passed, [1-9]\d* failed$")
         row("a script that loses a crate", run(folder, "-c", BROKEN, LOSES_A_CRATE), 1, r"^FAILED  the crate hello isn't proved$",
             r"^FAILED  the program hello didn't run", r"^\d+ passed, [1-9]\d* failed$")
+        with tempfile.TemporaryDirectory(prefix="small-kits-") as kits:
+            unknown_toolchains(kits)
         row("an interrupted run says what it saw", interrupted(folder), 1, r"^interrupted: until then 1 crates were proved and \d edits refused$",
             r"^\d+ passed, [1-9]\d* failed$")
     return counting.ended()
