@@ -4,7 +4,6 @@ pub mod GenerationLemmas
 pub mod LawPieceLemmas
 pub mod LawPlaneLemmas
 pub mod LeafWordLemmas
-pub mod LeastLemmas
 pub mod MadeLemmas
 pub mod NeedLemmas
 pub mod PieceLemmas
@@ -13,5 +12,6 @@ pub mod PlaneLemmas
 pub mod RememberedLemmas
 pub mod RootLemmas
 pub mod Rows
+pub mod SmallRoots
 pub mod SquareLemmas
 pub mod WordLemmas

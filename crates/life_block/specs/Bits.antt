@@ -9,7 +9,7 @@ use Rattle.life_block.specs.declared.grid.Four.{Four}
 use Rattle.life_block.specs.declared.grid.Three.{Three}
 use Rattle.life_base.specs.Tree.{Tree, quad}
 use Rattle.life_quad.specs.Store.{four}
-use Rattle.life_block.specs.Pieces.{AreThreeAt, AreFourAt, step_back}
+use Rattle.life_block.specs.Pieces.{AreThreeAt, AreFourAt}
 
 -- a word of cells amid those of their eight neighbours: bit i of each is the neighbour of bit i of the one in the middle
 abbrev pub NineWords : Type 0
@@ -41,10 +41,6 @@ HasSquareBits cells x y square = (r i : ℕ) → r < 4 → i < 4 → bit_at squa
 -- the word has the states of four rows of sixteen cells from the column x and the row y on, the north-western one in the highest bit
 abbrev pub HasBand : (ℤ → ℤ → ℕ) → ℤ → ℤ → ℕ → Type 0
 HasBand cells x y word = (r i : ℕ) → r < 4 → i < 16 → bit_at word (63 - (16 * r + i)) ≡ cells (x +ℤ pos i) (y +ℤ pos r)
-
--- four words have the states of sixteen rows of sixteen cells, of which the 64 in the middle are those from the column x and the row y on
-abbrev pub AreBands : (ℤ → ℤ → ℕ) → ℤ → ℤ → Four ℕ → Type 0
-AreBands cells x = AreFourAt (HasBand cells (step_back x 4)) 4
 
 -- the word has the states of eight rows of eight cells from the column x and the row y on, the north-western one in the highest bit
 abbrev pub HasRows : (ℤ → ℤ → ℕ) → ℤ → ℤ → ℕ → Type 0

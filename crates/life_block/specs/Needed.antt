@@ -7,8 +7,6 @@ use Rattle.life_quad.specs.declared.id.Id.{Id}
 use Rattle.life_quad.specs.Refused.{SomePart}
 use Rattle.life_sweep.specs.Generation.{one_after, next_life, LifeAnswers}
 use Rattle.life_sweep.specs.Refused.{SomeNext}
-use Rattle.life_block.specs.declared.grid.Four.{Four}
-use Rattle.life_block.specs.Bits.{AreBands}
 use Rattle.life_block.specs.Pieces.{AreNine, AreSixteen, IsBinary, Nine, Sixteen, step_ahead}
 
 -- the square of level k with the states of the plane from the column x and the row y on
@@ -21,8 +19,8 @@ square_from cells (suc k) x y =
     (square_from cells k x (step_ahead y (2 ^ k)))
     (square_from cells k (step_ahead x (2 ^ k)) (step_ahead y (2 ^ k)))
 
--- The next three say that a square has a property which is part of some next states under a B/S rule, wherever on a plane the squares are: of a square of
--- level k amid its eight neighbours, of four squares of that level amid twelve others, or of the 64 cells in the middle of four words.
+-- The next two say that a square has a property which is part of some next states under a B/S rule, wherever on a plane the squares are: of a square of
+-- level k amid its eight neighbours, or of four squares of that level amid twelve others.
 abbrev pub SomeOfNine : (Tree → Type 0) → OuterTotalistic → (Id → Tree) → ℕ → Nine → Type 0
 SomeOfNine P rule content k nine =
     (cells : ℤ → ℤ → ℕ) (x y : ℤ) → IsBinary cells → AreNine content cells (2 ^ k) x y nine → SomePart P (square_from (next_life rule cells) k x y)
@@ -31,10 +29,6 @@ abbrev pub SomeOfSixteen : (Tree → Type 0) → OuterTotalistic → (Id → Tre
 SomeOfSixteen P rule content k sixteen =
     (cells : ℤ → ℤ → ℕ) (x y : ℤ) → IsBinary cells → AreSixteen content cells (2 ^ k) x y sixteen
     → SomePart P (square_from (next_life rule cells) (suc k) x y)
-
-abbrev pub SomeOfBands : (Tree → Type 0) → OuterTotalistic → Four ℕ → Type 0
-SomeOfBands P rule bands =
-    (cells : ℤ → ℤ → ℕ) (x y : ℤ) → AreBands cells x y bands → SomePart P (square_from (next_life rule cells) 3 x y)
 
 -- the square of the next generation under a B/S rule, one level higher, about the same centre
 abbrev pub next_square : OuterTotalistic → Tree → Tree

@@ -3,7 +3,7 @@ ghost use Rattle.std.specs.Prelude.{◌≡◌, ℕ, ℤ, ◌+◌, ◌^◌, ◌<�
 ghost use Rattle.life_block.specs.Words.{has_digit, depth, tree_cell, SomePart, SomeOfNine, SomeOfSixteen, next_life, IsNextLife, HasClearEdge, next_plane, next_square, RemembersBlocks, IsPiece, IsBinary, IsOfLevel, InNine, InSixteen, AreNine, AreSixteen, AddsOnly, KeepsStore, IsShortageIn};
 
 use crate::grid::{Corner, Nine, Sixteen, in_middle};
-use crate::leaf::{next_of_leaf, next_of_least, next_of_leaves};
+use crate::leaf::{next_of_leaves, next_of_small};
 use crate::remembered::{recalled, remember};
 use life_base::{Kind, LifeRule, MAX_LEVEL};
 use life_quad::{Id, NeighbourhoodMemory, SharedSquares, Squares, divide};
@@ -22,7 +22,7 @@ fn next_of<S: Squares>(
         memory.old }
     requires known { InNine (IsOfLevel (S.knows squares.old) (S.content squares.old) level)
         nine.now }
-    requires low { 3 ≤ level }
+    requires low { 4 ≤ level }
     requires high { level ≤ MAX_LEVEL }
     requires quiet { has_digit rule.now.sets.births 0 ≡ false }
     ensures at { IfOk result (IsOfLevel (S.knows squares.new) (S.content squares.new) level) }
@@ -65,7 +65,7 @@ fn next_of_middle<S: Squares>(
         memory.old }
     requires known { InSixteen (IsOfLevel (S.knows squares.old) (S.content squares.old) level)
         sixteen.now }
-    requires low { 2 ≤ level }
+    requires low { 3 ≤ level }
     requires high { level < MAX_LEVEL }
     requires quiet { has_digit rule.now.sets.births 0 ≡ false }
     ensures at { IfOk result (IsOfLevel (S.knows squares.new) (S.content squares.new) (level + 1)) }
@@ -82,9 +82,6 @@ fn next_of_middle<S: Squares>(
         (λ P. SomeOfSixteen P rule.now (S.content squares.old) level sixteen.now) squares.old
         squares.new }
 {
-    if level == 2 {
-        return next_of_leaf(squares, rule, sixteen);
-    }
     if level == 3 {
         return next_of_leaves(squares, rule, sixteen);
     }
@@ -127,8 +124,8 @@ pub fn next_life_square<S: SharedSquares>(
     // To read a field opens the invariant to the proof: no cell is born without live neighbours.
     let _ = &rule.births;
     let level = squares.level(id);
-    if level == 2 {
-        return next_of_least(squares, rule, id);
+    if level <= 3 {
+        return next_of_small(squares, rule, id);
     }
     let mut memory = NeighbourhoodMemory::new(alloc, squares.seed());
     let memory = &mut memory;

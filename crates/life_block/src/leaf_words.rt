@@ -1,12 +1,12 @@
 //! Words of eight rows of eight cells, and their next states. The highest bit is the north-western cell, then come the cells east of it, and then
 //! the rows south of it.
 ghost use Rattle.std.specs.Prelude.{◌≡◌, ℕ, ℤ, ◌<◌, ◌==◌, if◌then◌else◌};
-ghost use Rattle.life_block.specs.Words.{bit_at, one_before, one_after, next_life, HasRows, AreThreeRows, AreNineRows, AreSixteenRows, leaf_of_cells, square_of_leaves, square_from, step_back, step_ahead};
+ghost use Rattle.life_block.specs.Words.{bit_at, one_before, one_after, next_life, HasRows, AreThreeRows, AreNineRows, AreSixteenRows, leaf_of_cells, square_of_leaves, square_from, step_back, step_ahead, four, eight, next_square};
 
 use crate::counts::{NineWords, next_word};
 use crate::grid::{Four, Three};
 use life_base::LifeRule;
-use life_lanes::by_quarters;
+use life_lanes::{by_quarters, by_rows};
 
 // The bits of one word where a mask has 1, and those of another where it has 0.
 #[inline(always)]
@@ -114,4 +114,29 @@ pub(crate) fn next_leaves(sixteen: &Four<Four<u64>>, rule: &LifeRule) -> Four<Fo
         next_cells(&sixteen.rear().western(), rule),
         next_cells(&sixteen.rear().eastern(), rule),
     )
+}
+
+/// The cells of the next states of a square of level 2 about the middle of the plane and of the cells around it, from its cells as
+/// `Squares::small_cells` takes them.
+pub(crate) fn next_of_four(cells: u64, rule: &LifeRule) -> Four<u16>
+    requires { cells < 65536 }
+    ensures { leaf_of_cells result ≡ next_square rule.now (four cells) }
+{
+    // They begin in row 2 and column 2 of eight rows of eight.
+    let rows = by_rows(cells << 48) >> 18;
+    let none = Three::of(0, 0, 0);
+    next_cells(&Three::of(none, Three::of(0, rows, 0), none), rule)
+}
+
+/// The same of a square of level 3, from its cells as `Squares::leaf_cells` takes them.
+pub(crate) fn next_of_eight(cells: u64, rule: &LifeRule) -> Four<Four<u16>>
+    ensures { square_of_leaves result ≡ next_square rule.now (eight cells) }
+{
+    // Each quarter is in a corner of one of the four squares in the middle of sixteen.
+    let none = Four::of(0, 0, 0, 0);
+    let north_east = by_rows((cells >> 32) % 0x1_0000 << 16);
+    let south_west = by_rows((cells >> 16) % 0x1_0000 << 32);
+    let north = Four::of(0, by_rows(cells >> 48), north_east, 0);
+    let south = Four::of(0, south_west, by_rows(cells << 48), 0);
+    next_leaves(&Four::of(none, north, south, none), rule)
 }

@@ -3,8 +3,8 @@
 //!
 //! A `Nine` is a square amid its neighbours, a `Sixteen` four rows of four squares, whose middle four have all their neighbours. Where nine
 //! squares are blank, the next states of the one in their middle are blank too. Where the sixteen have level 3, `leaf` reads the eight rows of
-//! each as a word, `leaf_words` makes words of their neighbours, and `counts` computes the next states of 64 cells at once. Where they have
-//! level 2, they are four words of 256 cells in all, which `words` puts in rows.
+//! each as a word, `leaf_words` makes words of their neighbours, and `counts` computes the next states of 64 cells at once. The words of a
+//! square of level 2 or 3 that is alone in the middle of the plane are made of its own cells.
 #![tactic(auto)]
 
 mod blocks;
@@ -16,7 +16,6 @@ mod law_squares;
 mod leaf;
 mod leaf_words;
 mod remembered;
-mod words;
 
 pub use blocks::next_life_square;
 pub use counts::{NineWords, next_word};

@@ -30,11 +30,6 @@ next_of-returns-clause-remembers g t c =
     let answer = new-answer n.keeps (c.args.level - 1) c.args.level level c.requires.known n.at c.quarters-sixteen.ensures.pieces n.next in
     Remembers-more answer c.remember.ensures n.remembers
 
-pub next_of_middle-returns-then-level-eq2-clause-remembers : goal.next_of_middle-returns-then-level-eq2-clause-remembers
-next_of_middle-returns-then-level-eq2-clause-remembers g m c =
-    let leaf = c.next_of_leaf.ensures in
-    IfOk-weaker c.next_of_leaf.result _ _ (λ r at. Remembers-kept leaf.keeps c.requires.remembers) leaf.at
-
 pub next_of_middle-returns-clause-remembers : goal.next_of_middle-returns-clause-remembers
 next_of_middle-returns-clause-remembers g m c =
     IfOk-weaker c.join.result _ _ (λ r known. Remembers-kept c.join.ensures.keeps c.in_ok-se.ensures.remembers) c.join.ensures.known
@@ -170,12 +165,6 @@ next_of_middle-returns-clause-adds g m c =
     sw.adds (λ P. of_south_west P c.args.rule.now north c.requires.known c.rear.ensures c.western-2.ensures))
     c.in_ok-se.ensures.adds (λ P. of_south_east P c.args.rule.now (keeps-then north sw.keeps) c.requires.known c.rear-2.ensures c.eastern-2.ensures))
     c.join.ensures.adds (λ P p cells x y binary h. own-part P _ _ x y _ (joined-is (parts g m c cells x y binary h)) p)
-
-pub next_of_middle-returns-then-level-eq2-clause-adds : goal.next_of_middle-returns-then-level-eq2-clause-adds
-next_of_middle-returns-then-level-eq2-clause-adds g m c =
-    let content = g.S.Squares.content c.args.squares.now in
-    adds-as _ c.next_of_leaf.ensures.adds
-    (λ P. subst (λ (k : ℕ). SomeOfSixteen P c.args.rule.now content k c.args.sixteen.now) (sym c.if-level-eq2.true))
 
 pub next_of_middle-returns-then-level-eq3-clause-remembers : goal.next_of_middle-returns-then-level-eq3-clause-remembers
 next_of_middle-returns-then-level-eq3-clause-remembers g m c =

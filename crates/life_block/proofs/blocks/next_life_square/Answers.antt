@@ -1,8 +1,6 @@
-use Rattle.std.proofs.Common.{◌≡◌, inl, inr, ℕ, suc, ◌+◌, ◌-◌, ◌^◌, pos, neg_ℤ, sym, ◌∙◌, ap, subst, arith, add-one}
-use Rattle.std.proofs.lemmas.Result.{IfOk-weaker, on_err_weaker}
-use Rattle.life_quad.specs.Refused.{SomePart}
+use Rattle.std.proofs.Common.{◌≡◌, inl, inr, suc, ◌+◌, ◌-◌, sym, ◌∙◌, ap, arith, add-one}
+use Rattle.std.proofs.lemmas.Result.{IfOk-weaker}
 use Rattle.life_sweep.proofs.NeedLemmas.{adds-more}
-use Rattle.life_block.specs.Pieces.{IsPiece}
 use Rattle.life_base.proofs.Results.{on_err_any, on_err_both, if_ok_two}
 use Rattle.life_base.specs.Rules.{has_digit}
 use Rattle.life_base.specs.Sets.{OuterTotalistic}
@@ -17,39 +15,25 @@ use Rattle.life_block.proofs.blocks.next_life_square.Given.{Over}
 use Rattle.life_block.proofs.blocks.next_life_square.Goals as goal
 use Rattle.life_block.proofs.blocks.next_life_square.Goals.{After-empty-blank, After-join}
 
-pub next_of_least-requires-clause-at : goal.next_of_least-requires-clause-at
-next_of_least-requires-clause-at g c = record { known = c.requires.known; level = sym c.level-level.ensures.level ∙ c.if-level-eq2.true }
-
-pub returns-then-level-eq2-clause-known : goal.returns-then-level-eq2-clause-known
-returns-then-level-eq2-clause-known g c = IfOk-weaker c.next_of_least.result _ _ (λ r at. at.known) c.next_of_least.ensures.at
-
-pub returns-then-level-eq2-clause-level : goal.returns-then-level-eq2-clause-level
-returns-then-level-eq2-clause-level g c =
-    IfOk-weaker c.next_of_least.result _ _ (λ r at. at.level ∙ (let is = sym c.level-level.ensures.level ∙ c.if-level-eq2.true in omega (arith, is)))
-    c.next_of_least.ensures.at
-
-pub returns-then-level-eq2-clause-next : goal.returns-then-level-eq2-clause-next
-returns-then-level-eq2-clause-next g c =
+pub returns-then-level-le3-clause-level : goal.returns-then-level-le3-clause-level
+returns-then-level-le3-clause-level g c =
     let t = g.S.Squares.content c.args.squares.now c.args.id in
-    let is : depth t ≡ 2 = sym c.level-level.ensures.level ∙ c.if-level-eq2.true in
+    let f = next_life c.args.rule.now (tree_cell t) in
+    IfOk-weaker c.next_of_small.result _ _ (λ r e. ap depth e ∙ depth-square f (suc (depth t)) (outer t) (outer t) ∙ sym (add-one (depth t)))
+    c.next_of_small.ensures.square
+
+pub returns-then-level-le3-clause-next : goal.returns-then-level-le3-clause-next
+returns-then-level-le3-clause-next g c =
+    let t = g.S.Squares.content c.args.squares.now c.args.id in
     let f = next_life c.args.rule.now (tree_cell t) in
     let quiet = ap (λ (d : OuterTotalistic). has_digit d.sets.births 0) (sym c.rule.view_is) ∙ c.rule.invariant.no_birth_on_zero in
-    if_ok_two c.next_of_least.result
-    (λ r at piece.
-    let u = g.S.Squares.content c.next_of_least.new.squares r in
-    root-next c.args.rule.now t u quiet (omega (arith, is)) (g.met.S.Squares.full _ _ at.known) (at.level ∙ omega (arith, is))
-    (subst (λ (k : ℕ). IsPiece f (neg_ℤ (pos (2 ^ k))) (neg_ℤ (pos (2 ^ k))) u) (sym is) piece))
-    c.next_of_least.ensures.at c.next_of_least.ensures.next
-
-pub returns-then-level-eq2-clause-needed : goal.returns-then-level-eq2-clause-needed
-returns-then-level-eq2-clause-needed g c =
-    let t = g.S.Squares.content c.args.squares.now c.args.id in
-    let is : depth t ≡ 2 = sym c.level-level.ensures.level ∙ c.if-level-eq2.true in
-    let P = g.S.Squares.needs_node c.next_of_least.new.squares in
-    let f = next_life c.args.rule.now (tree_cell t) in
-    on_err_weaker c.next_of_least.result
-    (λ needed. subst (λ (k : ℕ). SomePart P (square_from f (suc k) (neg_ℤ (pos (2 ^ k))) (neg_ℤ (pos (2 ^ k))))) (sym is) needed)
-    c.next_of_least.ensures.needed
+    if_ok_two c.next_of_small.result
+    (λ r known e.
+    let u = g.S.Squares.content c.next_of_small.new.squares r in
+    root-next c.args.rule.now t u quiet (omega (arith, c.requires.high)) (g.met.S.Squares.full _ _ known)
+    (ap depth e ∙ depth-square f (suc (depth t)) (outer t) (outer t) ∙ sym (add-one (depth t)))
+    (is-piece f (suc (depth t)) (outer t) (outer t) u e))
+    c.next_of_small.ensures.known c.next_of_small.ensures.square
 
 -- the square's quarters, and a blank one of their level
 divided : (g : Over) (c : After-empty-blank g)
@@ -182,14 +166,6 @@ returns-clause-needed g c =
     let joined = joined-is (parts g (goal.at.returns-clause-needed g c).After-join (divided g (goal.at.returns-clause-needed g c).After-empty-blank)) in
     on_err_both c.join.result (λ needs same. own-part (N c.join.new.self) _ _ _ _ _ joined (still-needs N _ _ _ same needs))
     c.join.ensures.needed c.join.ensures.unchanged
-
-pub returns-then-level-eq2-clause-adds : goal.returns-then-level-eq2-clause-adds
-returns-then-level-eq2-clause-adds g c =
-    let t = g.S.Squares.content c.args.squares.now c.args.id in
-    let is : depth t ≡ 2 = sym c.level-level.ensures.level ∙ c.if-level-eq2.true in
-    let f = next_life c.args.rule.now (tree_cell t) in
-    adds-as _ c.next_of_least.ensures.adds
-    (λ P some. subst (λ (k : ℕ). SomePart P (square_from f (suc k) (neg_ℤ (pos (2 ^ k))) (neg_ℤ (pos (2 ^ k))))) (sym is) some)
 
 pub returns-in_err-north_west-clause-adds : goal.returns-in_err-north_west-clause-adds
 returns-in_err-north_west-clause-adds g c =
