@@ -1,7 +1,7 @@
 -- Rows and numbers in the room of a node line.
 use Rattle.std.proofs.Common.{◌≡◌, ℕ, ◌+◌, ◌-◌, ◌≤◌, ◌<◌, ◌^◌, List, [], ◌∷◌, ◌++◌, take, drop, set, length, length-drop, decimal, codes, refl, ap, sym, ◌∙◌, arith, take-take, append_assoc, length-append, length-take-le, take_at}
-use Rattle.std.proofs.lemmas.List.{take_more_set}
-use Rattle.std.proofs.lemmas.Slice.{take-put_mid}
+use Rattle.std.proofs.lemmas.List.{take_more_set, drop-drop, drop_at}
+use Rattle.std.proofs.lemmas.Slice.{take-put_mid, drop-put_mid}
 use Rattle.std.proofs.lemmas.Fmt.{length-decimal-le}
 use Rattle.std.proofs.Math.Seq.{take-append-add}
 use borrow.Rule.Slice.PartMut.{put_mid, same_len_mid}
@@ -68,6 +68,43 @@ pub front-kept : {m n : ℕ} (old mid new : List ℕ) → m ≤ n → take m new
 front-kept {m} {n} old mid new below second first =
     second ∙ sym (take-take m n mid below) ∙ ap (take m) first ∙ take-take m n old below
 
+-- what is unchanged from a place on is unchanged from a later one on
+pub rest-kept : (m n : ℕ) (old new : List ℕ) → m ≤ n → drop m new ≡ drop m old → drop n new ≡ drop n old
+rest-kept m n old new below same =
+    let split : n ≡ m + (n - m) = omega (arith, below) in
+    ap (λ k. drop k new) split ∙ sym (drop-drop (n - m) m new) ∙ ap (drop (n - m)) same ∙ drop-drop (n - m) m old ∙ ap (λ k. drop k old) (sym split)
+
+-- what is after a block that was copied
+pub after-block : (text block : List ℕ) (to size found from more : ℕ) → to ≤ length text → size ≡ more → found ≡ more
+    → block ≡ take found (drop from text) → from + more ≤ length text → drop (to + more) (put_mid to size text block) ≡ drop (to + more) text
+after-block text block to size found from more inside e f is there =
+    let same = is ∙ ap (λ n. take n (drop from text)) f in
+    let all : length block ≡ more =
+    ap (λ (l : List ℕ). length l) same ∙ length-take-le more (drop from text) (omega (arith, length-drop from text, there)) in
+    drop-put_mid to size text block (to + more) (omega (arith, e)) inside (all ∙ sym e)
+
+-- how long a line is that was written between two places
+between : (old mid line : List ℕ) (start end : ℕ) → start ≤ end → end ≤ length old → length mid ≡ length old → drop start mid ≡ line ++ drop end old
+    → length line ≡ end - start
+between old mid line start end ordered inside same is =
+    omega (
+      arith,
+      length-drop start mid,
+      ap (λ (l : List ℕ). length l) is,
+      length-append line (drop end old),
+      length-drop end old,
+      same,
+      inside,
+      ordered,
+    )
+
+-- what is after a line that was written between two places
+pub after-line : (old mid line : List ℕ) (start end : ℕ) → start ≤ end → end ≤ length old → length mid ≡ length old
+    → drop start mid ≡ line ++ drop end old → drop end mid ≡ drop end old
+after-line old mid line start end ordered inside same is =
+    ap (λ k. drop k mid) (omega (arith, ordered)) ∙ sym (drop-drop (end - start) start mid) ∙ ap (drop (end - start)) is
+    ∙ drop_at line (drop end old) (end - start) (between old mid line start end ordered inside same is)
+
 -- the front of a block that was copied
 pub part-put : (text block : List ℕ) (to count size found from more : ℕ) → to ≤ length text → size ≡ more → found ≡ more → count ≤ more
     → block ≡ take found (drop from text) → from + more ≤ length text
@@ -84,16 +121,7 @@ pub line-copied : (old mid new line : List ℕ) (at start end last : ℕ) → at
     → drop start mid ≡ line ++ drop end old → take start mid ≡ take start old → take last new ≡ take at mid ++ take (end - start) (drop start mid)
     → take last new ≡ take at old ++ line
 line-copied old mid new line at start end last below ordered inside same behind before copied =
-    let long : length line ≡ end - start = omega (
-      arith,
-      length-drop start mid,
-      ap (λ (l : List ℕ). length l) behind,
-      length-append line (drop end old),
-      length-drop end old,
-      same,
-      inside,
-      ordered,
-    ) in
+    let long = between old mid line start end ordered inside same behind in
     copied
     ∙ ap (λ l. l ++ take (end - start) (drop start mid)) (sym (take-take at start mid below) ∙ ap (take at) before ∙ take-take at start old below)
     ∙ ap (λ l. take at old ++ take (end - start) l) behind

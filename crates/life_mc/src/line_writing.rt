@@ -294,11 +294,12 @@ fn row_length(row: u8) -> usize
     usize::from(ROW_LENGTHS[usize::from(row)])
 }
 
-/// Writes a row of a leaf from a place on, and returns where it ends. Bytes after it are overwritten, up to nine bytes from that place on.
+/// Writes a row of a leaf from a place on, and returns where it ends. Up to nine bytes from that place on are overwritten.
 #[inline(always)]
 fn write_row(room: &mut [u8], at: usize, row: u8) -> usize
     requires { at + 9 ≤ length room.old }
     ensures written { take result room.new ≡ take at room.old ++ row_text row }
+    ensures behind { drop (at + 9) room.new ≡ drop (at + 9) room.old }
     ensures end { result ≤ at + 9 }
 {
     room[at..at + 8].copy_from_slice(&ROW_WORDS[usize::from(row)].to_le_bytes());
@@ -313,6 +314,7 @@ fn write_leaf(text: &mut [u8], at: usize, rows: &[u8; 8]) -> usize
     requires { at + 105 ≤ length text.old }
     ensures written { take result text.new
         ≡ take at text.old ++ (flat_map row_text rows.now ++ codes "\n") }
+    ensures behind { drop (at + 105) text.new ≡ drop (at + 105) text.old }
     ensures end { result ≤ at + 105 }
 {
     let mut end = at;
@@ -393,6 +395,7 @@ fn copy_block<const N: usize>(text: &mut [u8], from: usize, to: usize, count: us
     requires from { from + N ≤ length text.old }
     requires to { to + N ≤ length text.old }
     ensures written { take result text.new ≡ take to text.old ++ take count (drop from text.old) }
+    ensures behind { drop (to + N) text.new ≡ drop (to + N) text.old }
     ensures end { result ≡ to + count }
 {
     let mut block = [0; N];
@@ -410,6 +413,7 @@ fn copy_line(text: &mut [u8], from: usize, end: usize, to: usize) -> usize
     requires space { end + 16 ≤ length text.old }
     ensures written { take result text.new
         ≡ take to text.old ++ take (end - from) (drop from text.old) }
+    ensures behind { drop (end + 16) text.new ≡ drop (end + 16) text.old }
     ensures end { result ≡ to + (end - from) }
 {
     let count = end - from;
@@ -432,6 +436,7 @@ fn write_quad(text: &mut [u8], at: usize, level: u8, nw: u64, ne: u64, sw: u64, 
     requires { at + 105 ≤ length text.old }
     ensures written { take result text.new ≡ take at text.old
         ++ node_text (Quad level nw ne sw se) }
+    ensures behind { drop (at + 105) text.new ≡ drop (at + 105) text.old }
     ensures end { result ≤ at + 105 }
 {
     let end = at + LONGEST_QUAD;
@@ -445,6 +450,7 @@ fn write_quad(text: &mut [u8], at: usize, level: u8, nw: u64, ne: u64, sw: u64, 
 pub fn write_line(text: &mut [u8], at: usize, line: &Line) -> usize
     requires { at + 105 ≤ length text.old }
     ensures written { take result text.new ≡ take at text.old ++ node_text line.now }
+    ensures behind { drop (at + 105) text.new ≡ drop (at + 105) text.old }
     ensures end { result ≤ at + 105 }
 {
     match line {

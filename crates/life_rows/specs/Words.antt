@@ -2,6 +2,7 @@
 pub use Rattle.life_base.specs.Refusal.{IsMemory}
 pub use Rattle.life_base.specs.Rules.{has_digit}
 pub use Rattle.life_base.specs.Tree.{depth, tree_cell}
+pub use Rattle.life_quad.specs.Grows.{KeepsStore}
 pub use Rattle.life_rows.specs.RowCells.{AddsWord, AreAt, AreWestOf, AreColumns, AreInner, AreWordsBefore, HasNoCells, IsRowAt, IsBlankFrom, IsNextWord, IsVisited, next_in_row}
 pub use Rattle.life_rows.specs.RowCells.{place_ahead, PutsCells}
 pub use Rattle.life_rows.specs.Stepping.{IsBetweenRows, IsStepping, IsThreeRows, run_cells}

@@ -1,6 +1,6 @@
 //! The last three rows of a pattern that comes row by row, and the rows of its next generation before them.
 ghost use Rattle.std.specs.Prelude.{◌≡◌, ℤ, ℕ, pos, [], ◌∷◌, ◌++◌, ◌==◌, ◌+◌, ◌-◌, ◌^◌, ◌<◌, ◌≤◌, ◌+ℤ◌, if◌then◌else◌, IsTrue, IfSome};
-ghost use Rattle.life_rows.specs.Words.{depth, tree_cell, AreInner, AreRowWords, cell_in_words, half_plane, IsBetweenRows, IsFilledAbove, IsNextRunStart, IsRunOnPlane, IsThreeRows, next_life, run_cells, state_by, state_so_far};
+ghost use Rattle.life_rows.specs.Words.{depth, tree_cell, AreInner, AreRowWords, cell_in_words, half_plane, IsBetweenRows, IsFilledAbove, IsNextRunStart, IsRunOnPlane, IsThreeRows, KeepsStore, next_life, run_cells, state_by, state_so_far};
 
 use crate::next_row::next_row;
 use crate::row_cells::push_cells;
@@ -54,6 +54,7 @@ fn give_row<S: Squares>(
     requires filled { IsFilledAbove (S.knows squares.old) (S.content squares.old) row builder.old }
     requires inside { row < 2 ^ MAX_LEVEL }
     requires words { AreRowWords words.now }
+    ensures keeps { KeepsStore S.Squares squares.old squares.new }
     ensures filled { IsTrue result
         → IsFilledAbove (S.knows squares.new) (S.content squares.new) (row + 1) builder.new }
     ensures cells { IsTrue result → (i j : ℕ)
@@ -122,6 +123,7 @@ impl ThreeRows {
     fn end_row<S: Squares>(&mut self, squares: &mut S) -> bool
         requires rows { IsThreeRows (S.knows squares.old) (S.content squares.old) self.old }
         requires inside { self.old.north_row + 1 < 2 ^ MAX_LEVEL }
+        ensures keeps { KeepsStore S.Squares squares.old squares.new }
         ensures rows { IsTrue result
             → IsThreeRows (S.knows squares.new) (S.content squares.new) self.new }
         ensures row { IsTrue result → self.new.north_row ≡ self.old.north_row + 1 }
@@ -152,6 +154,7 @@ impl ThreeRows {
     fn go_to_row<S: Squares>(&mut self, squares: &mut S, row: u64) -> bool
         requires rows { IsThreeRows (S.knows squares.old) (S.content squares.old) self.old }
         requires between { IsBetweenRows self.old }
+        ensures keeps { KeepsStore S.Squares squares.old squares.new }
         ensures rows { IsTrue result
             → IsThreeRows (S.knows squares.new) (S.content squares.new) self.new }
         ensures between { IsTrue result → IsBetweenRows self.new }
@@ -176,6 +179,7 @@ impl ThreeRows {
     fn reach_row<S: Squares>(&mut self, squares: &mut S, row: u64) -> bool
         requires rows { IsThreeRows (S.knows squares.old) (S.content squares.old) self.old }
         requires between { IsBetweenRows self.old }
+        ensures keeps { KeepsStore S.Squares squares.old squares.new }
         ensures rows { IsTrue result
             → IsThreeRows (S.knows squares.new) (S.content squares.new) self.new }
         ensures between { IsTrue result → IsBetweenRows self.new }
@@ -222,6 +226,7 @@ impl ThreeRows {
         requires positive { 1 ≤ run.len }
         requires inside { IsRunOnPlane run.x run.y run.len }
         requires next { IsNextRunStart self.old.log.runs run.x run.y }
+        ensures keeps { KeepsStore S.Squares squares.old squares.new }
         ensures rows { IsTrue result
             → IsThreeRows (S.knows squares.new) (S.content squares.new) self.new }
         ensures between { IsTrue result → IsBetweenRows self.new }
@@ -239,6 +244,7 @@ impl ThreeRows {
     pub(crate) fn finish<S: Squares>(self, squares: &mut S) -> Option<Id>
         requires rows { IsThreeRows (S.knows squares.old) (S.content squares.old) self }
         requires between { IsBetweenRows self }
+        ensures keeps { KeepsStore S.Squares squares.old squares.new }
         ensures known { IfSome result (S.knows squares.new) }
         ensures level { IfSome result (λ r. depth (S.content squares.new r) ≡ MAX_LEVEL) }
         ensures cells { IfSome result (λ r. (x y : ℤ) → tree_cell (S.content squares.new r) x y

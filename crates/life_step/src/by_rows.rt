@@ -1,7 +1,7 @@
 //! The step of a pattern in RLE, row by row.
 
 ghost use Rattle.std.specs.Prelude.{◌≡◌, ◌++◌, ◌∷◌, [], false, IfSome, IsTrue};
-ghost use Rattle.life_step.specs.Words.{IsNextOfFile, IsStepped, KeepsRows};
+ghost use Rattle.life_step.specs.Words.{IsNextOfFile, IsStepped, Keeps, KeepsRows};
 
 use crate::steps::text_of_square;
 use life_base::{LifeRule, Rule, Run, begins_with, is_blank, lines};
@@ -40,6 +40,7 @@ fn take_line(
     ensures lines { IsTrue result → reader.new
         ≡ record { lines = reader.old.lines ++ line.now ∷ []; refused = false } }
     ensures rule { IsTrue result → step.new.rule ≡ step.old.rule }
+    ensures keeps { Keeps store.old store.new }
     ensures rows { IsTrue result → KeepsRows store.new reader.new.lines step.new }
 {
     runs.clear();
@@ -56,8 +57,9 @@ fn next_square(
     rule: &LifeRule,
     bytes: &[u8],
 ) -> Option<(u64, Id)>
-    ensures { IfSome result
+    ensures next { IfSome result
         (λ found. IsNextOfFile bytes.now rule.now store.new found.0 found.1) }
+    ensures keeps { Keeps store.old store.new }
 {
     let mut reader = RleLines::new(alloc);
     let mut step = RowStep::new(alloc, &*store, *rule);
@@ -78,9 +80,11 @@ fn next_square(
 /// The canonical text of the next generation of the pattern of a file, under its B/S rule, where the file is in RLE, its pattern can be stepped row by row,
 /// and the store and memory suffice. `None` says nothing of the file: `step_life` steps it, or returns why it can't.
 ///
-/// The rows of the next generation are made straight from the runs of the file, so no square of the pattern itself is stored.
+/// The rows of the next generation are made straight from the runs of the file, so no square of the pattern itself is stored. The store keeps every square that
+/// it had, also where the result is `None`.
 pub fn next_by_rows(alloc: Global, store: &mut Shared, bytes: &[u8]) -> Option<Vec<u8>>
-    ensures { IfSome result (λ text. IsStepped bytes.now text.items) }
+    ensures text { IfSome result (λ text. IsStepped bytes.now text.items) }
+    ensures keeps { Keeps store.old store.new }
 {
     let rule = header_rule(alloc, bytes)?;
     let Rule::Life(life) = &rule else {

@@ -10,6 +10,7 @@ use Rattle.life_base.specs.Sets.{OuterTotalistic}
 use Rattle.life_base.specs.Tree.{Tree, tree_cell}
 use Rattle.life_base.specs.declared.rule.Rule.{Rule}
 use Rattle.life_base.specs.declared.rule.Rule.TheVariants.{Life}
+use Rattle.life_quad.proofs.KeepingLemmas.{keeps-same, keeps-then}
 use Rattle.life_rle.specs.Grammar.{IsRle}
 use Rattle.life_rle.specs.Pattern.{Rle}
 use Rattle.life_rle.proofs.ReadInputs.{no_runs}
@@ -28,6 +29,7 @@ loop-line-init c =
       taken = none;
       fresh = ap (λ (v : LinesRead). v.refused) e;
       rule = c.new-step.ensures.rule;
+      keeps = keeps-same _;
       rows = record {
         are = no_runs MAX_LEVEL c.new-reader.result.lines c.new-step.result.runs none c.new-step.ensures.runs;
         stepping = c.new-step.ensures.stepping;
@@ -53,11 +55,12 @@ loop-line-preserved c =
       taken = new ∙ ap (λ ls. ls ++ line ∷ []) c.loop-line.invariant.taken ∙ sym (ap texts more ∙ map-append (λ (p : ℕ × List ℕ). p.1) pairs here);
       fresh = ap (λ (v : LinesRead). v.refused) e;
       rule = c.take_line.ensures.rule went ∙ c.loop-line.invariant.rule;
+      keeps = keeps-then c.loop-line.invariant.keeps c.take_line.ensures.keeps;
       rows = c.take_line.ensures.rows went;
     }
 
-pub returns : goal.returns
-returns c =
+pub returns-clause-next : goal.returns-clause-next
+returns-clause-next c =
     let loop = c.loop-line.invariant in
     let lines : List (List ℕ) = c.loop-line.reader.lines in
     let runs : List Run = c.loop-line.step.runs in
@@ -70,3 +73,12 @@ returns c =
     let next = subst (λ (rule : OuterTotalistic). (x y : ℤ) → tree_cell t x y ≡ next_life rule (state_by runs) x y) loop.rule square.cells in
     next-of-file c.args.bytes.now lines told.0 runs c.args.rule.now c.finish.new.squares c.in_ok-found.generation c.in_ok-square.square
     whole told.1 loop.rows.are (sym told.2 ∙ same) (sym told.3) square.few square.known square.level next
+
+pub returns-then-not-take_line-clause-keeps : goal.returns-then-not-take_line-clause-keeps
+returns-then-not-take_line-clause-keeps c = keeps-then c.loop-line.invariant.keeps c.take_line.ensures.keeps
+
+pub returns-in_err-square-clause-keeps : goal.returns-in_err-square-clause-keeps
+returns-in_err-square-clause-keeps c = keeps-then c.loop-line.invariant.keeps c.in_err-square.ensures.keeps
+
+pub returns-clause-keeps : goal.returns-clause-keeps
+returns-clause-keeps c = keeps-then c.loop-line.invariant.keeps c.in_ok-square.ensures.keeps

@@ -1,6 +1,7 @@
 use Rattle.std.proofs.Common.{◌≡◌, ◌++◌, map, false}
 use Rattle.life_base.specs.Text.{lines_of, numbered_from}
 use Rattle.life_base.proofs.NumberedLines.{texts, numbered}
+use Rattle.life_canon.specs.Store.{Keeps}
 use Rattle.life_step.specs.ByRows.{KeepsRows}
 use Rattle.life_step.proofs.by_rows.next_square.Given as goal
 
@@ -10,5 +11,6 @@ invariant-loop-line l = record {
   taken : l.reader.lines ≡ texts (map numbered l.yielded);
   fresh : l.reader.refused ≡ false;
   rule : l.step.rule ≡ l.rule;
+  keeps : Keeps l.fn.store l.store;
   rows : KeepsRows l.store l.reader.lines l.step;
 }

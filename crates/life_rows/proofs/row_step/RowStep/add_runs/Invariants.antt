@@ -1,10 +1,12 @@
 use Rattle.std.proofs.Common.{◌≡◌, ◌++◌, drop}
+use Rattle.life_quad.specs.Grows.{KeepsStore}
 use Rattle.life_rows.specs.Stepping.{IsBetweenRows, IsThreeRows}
 use Rattle.life_strip.specs.Given.{AreNext}
 use Rattle.life_rows.proofs.row_step.RowStep.add_runs.Given as goal
 
 abbrev pub invariant-loop-run : goal.invariant-loop-run
 invariant-loop-run g l = record {
+  keeps : KeepsStore g.S.Squares l.fn.squares l.squares;
   rows : IsThreeRows (g.S.Squares.knows l.squares) (g.S.Squares.content l.squares) l.self-inside.rows;
   between : IsBetweenRows l.self-inside.rows;
   next : AreNext l.self-inside.rows.log.runs (drop l.run-index l.runs);

@@ -1,6 +1,7 @@
-use Rattle.std.proofs.Common.{◌≡◌, ◌+◌, ◌-◌, ◌∙◌, Option, Result, Ok, Err, IfOk, IfSome, ℕ, List, sym, subst, arith}
+use Rattle.std.proofs.Common.{◌≡◌, ◌+◌, ◌-◌, ◌∙◌, Option, Result, Ok, Err, IfOk, IfSome, ℕ, List, refl, sym, subst, arith}
 use Rattle.std.specs.Result.{result_ok}
 use Rattle.life_base.specs.declared.cell.Run.{Run}
+use Rattle.life_quad.proofs.KeepingLemmas.{keeps-then}
 use Rattle.life_rows.specs.Stepping.{AreCellsTo}
 use Rattle.life_rows.proofs.ThreeRowsLemmas.{rows-all}
 use Rattle.life_strip.specs.Given.{state_by}
@@ -24,3 +25,21 @@ returns-clause-cells g c =
     s.north_row s.left s.log.runs i.rows cells (let at = i.row in omega (arith, at)) in
     some-by c.finish.result c.ok.result c.ok.ensures.value c.finish.ensures.cells
     (λ id h x y. h x y ∙ all x y ∙ (λ k. next_life (i.rule k) (state_by (i.runs k)) x y))
+
+pub returns-then-not-end_row-clause-keeps : goal.returns-then-not-end_row-clause-keeps
+returns-then-not-end_row-clause-keeps g c = keeps-then c.loop.invariant.keeps c.end_row.ensures.keeps
+
+pub loop-preserved : goal.loop-preserved
+loop-preserved g c =
+    let i = c.loop.invariant in
+    let e = c.if-not-end_row.ensures in
+    record {
+      keeps = keeps-then i.keeps e.keeps;
+      rows = e.rows refl;
+      row = (let next = e.row refl in let at = i.row in omega (arith, next, at));
+      rule = e.rule refl ∙ i.rule;
+      runs = e.runs refl ∙ i.runs;
+    }
+
+pub returns-clause-keeps : goal.returns-clause-keeps
+returns-clause-keeps g c = keeps-then c.loop.invariant.keeps c.finish.ensures.grows.keeps

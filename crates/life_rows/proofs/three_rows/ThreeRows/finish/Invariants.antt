@@ -1,9 +1,11 @@
 use Rattle.std.proofs.Common.{◌≡◌, ◌+◌}
+use Rattle.life_quad.specs.Grows.{KeepsStore}
 use Rattle.life_rows.specs.Stepping.{IsThreeRows}
 use Rattle.life_rows.proofs.three_rows.ThreeRows.finish.Given as goal
 
 abbrev pub invariant-loop : goal.invariant-loop
 invariant-loop g l = record {
+  keeps : KeepsStore g.S.Squares l.fn.squares l.squares;
   rows : IsThreeRows (g.S.Squares.knows l.squares) (g.S.Squares.content l.squares) l.rows;
   row : l.rows.north_row ≡ l.fn.self.north_row + l.counter;
   rule : l.rows.rule ≡ l.fn.self.rule;

@@ -1,9 +1,11 @@
 use Rattle.std.proofs.Common.{◌-◌, ◌≡◌, ◌+◌, ◌≤◌}
+use Rattle.life_quad.specs.Grows.{KeepsStore}
 use Rattle.life_rows.specs.Stepping.{IsThreeRows}
 use Rattle.life_rows.proofs.three_rows.ThreeRows.go_to_row.Given as goal
 
 abbrev pub invariant-loop-self : goal.invariant-loop-self
 invariant-loop-self g l = record {
+  keeps : KeepsStore g.S.Squares l.fn.squares l.squares;
   rows : IsThreeRows (g.S.Squares.knows l.squares) (g.S.Squares.content l.squares) l.self;
   within : l.self.north_row + 2 ≤ l.row;
   rule : l.self.rule ≡ l.fn.self.rule;
