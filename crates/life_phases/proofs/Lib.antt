@@ -1,0 +1,4 @@
+pub mod MiddleLemmas
+pub mod PeriodLemmas
+pub mod ShiftLemmas
+pub mod UniqueLemmas

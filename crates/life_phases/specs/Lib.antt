@@ -1,0 +1,4 @@
+pub mod Laws
+pub mod Middle
+pub mod Periods
+pub mod Words
