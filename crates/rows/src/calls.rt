@@ -23,7 +23,7 @@ pub(crate) enum Call {
 }
 
 /// The calls by their names, with how many parts the input of each has.
-const CALLS: [(&[u8], u8, Call); 63] = [
+const CALLS: [(&[u8], u8, Call); 64] = [
     (b"rule", 1, Call::Base(base::Call::Rule)),
     (b"same_rules", 2, Call::Base(base::Call::SameRules)),
     (b"name_copy", 1, Call::Base(base::Call::NameCopy)),
@@ -99,6 +99,11 @@ const CALLS: [(&[u8], u8, Call); 63] = [
         b"turned",
         1,
         Call::Lent(Lent::Text(Text::OfPattern(OfPattern::Turned))),
+    ),
+    (
+        b"period",
+        2,
+        Call::Lent(Lent::Text(Text::OfPattern(OfPattern::Period))),
     ),
     (b"shared", 3, Call::Steps(Kept::Shared)),
     (b"new", 3, Call::Steps(Kept::New)),

@@ -7,10 +7,11 @@ use crate::answer::{Answer, Show};
 use crate::feeding::fed;
 use crate::stores::new_store;
 use crate::table::table_of;
-use life_base::{Fault, Kind};
+use life_base::{Fault, Kind, read_u64};
 use life_canon::{Pattern, canon, lesser_text, number, read, text_of};
 use life_forms::{moved_of, turned_text};
 use life_mc::write_mc;
+use life_periods::{append_period, period_of_pattern};
 use life_quad::Shared;
 use life_step::{next_by_rows, next_by_rule, next_by_table, step_life, step_table};
 use life_table::Table;
@@ -172,6 +173,8 @@ pub(crate) enum OfPattern {
     NextByRule,
     /// That of its next generation, by a table.
     NextByTable,
+    /// The line of its period.
+    Period,
 }
 
 /// The canonical text of the moved form of a pattern.
@@ -180,6 +183,22 @@ fn moved_text(alloc: Global, store: &Shared, pattern: &Pattern) -> Result<Vec<u8
 {
     let (form, moved) = moved_of(alloc, store, pattern)?;
     text_of(alloc, &form, &moved)
+}
+
+/// The line of the least period of a pattern up to the number that a text writes, or up to 0 where it writes none.
+fn period_text(
+    alloc: Global,
+    store: &Shared,
+    pattern: &Pattern,
+    most: &[u8],
+) -> Result<Vec<u8>, Fault>
+    requires { IsOfFile MAX_LEVEL store.now pattern.now }
+{
+    let most = read_u64(most).unwrap_or(0);
+    let found = period_of_pattern(alloc, store, pattern, most)?;
+    let mut text = Vec::new(alloc);
+    append_period(&mut text, found, most)?;
+    Ok(text)
 }
 
 /// The text that a call makes of a pattern in a store, and of another text.
@@ -205,6 +224,7 @@ fn text_of_pattern(
             Ok(table) => next_by_table(alloc, store, pattern, &table),
             Err(fault) => Err(fault),
         },
+        OfPattern::Period => period_text(alloc, store, &pattern, other),
     }
 }
 
