@@ -35,7 +35,7 @@ _golly_canon() {
                 convert) COMPREPLY=($(compgen -W "--to --explain --help -h" -- "$word")) ;;
                 step) COMPREPLY=($(compgen -W "--table --generations --explain --help -h" -- "$word")) ;;
                 canon | same) COMPREPLY=($(compgen -W "--form --explain --help -h" -- "$word")) ;;
-                keys) COMPREPLY=($(compgen -W "--form --ignore-generation --zero --json --from --recursive -r --help -h" -- "$word")) ;;
+                keys) COMPREPLY=($(compgen -W "--form --ignore-generation --zero --json --from --stream --recursive -r --help -h" -- "$word")) ;;
                 duplicates) COMPREPLY=($(compgen -W "--form --ignore-generation --zero --from --recursive -r --help -h" -- "$word")) ;;
                 show) COMPREPLY=($(compgen -W "--explain --help -h" -- "$word")) ;;
             esac

@@ -20,6 +20,7 @@ complete -c golly_canon -n '__fish_seen_subcommand_from keys' -l ignore-generati
 complete -c golly_canon -n '__fish_seen_subcommand_from keys' -l zero -d 'End names in NUL'
 complete -c golly_canon -n '__fish_seen_subcommand_from keys' -l json -d 'Write an object of JSON for each file'
 complete -c golly_canon -n '__fish_seen_subcommand_from keys' -r -l from -d 'The list of further files'
+complete -c golly_canon -n '__fish_seen_subcommand_from keys' -r -l stream -d 'The stream of patterns, each of which ends in NUL'
 complete -c golly_canon -n '__fish_seen_subcommand_from keys' -s r -l recursive -d 'Take the files in folders and below them'
 complete -c golly_canon -n '__fish_seen_subcommand_from duplicates' -x -l form -a 'placed moved turned' -d 'The form to take'
 complete -c golly_canon -n '__fish_seen_subcommand_from duplicates' -l ignore-generation -d 'Take each pattern as if its generation were 0'

@@ -6,15 +6,16 @@ use Rattle.clap.proofs.WalkLemmas.{raw_values-rows}
 use Rattle.clap.specs.declared.error.Error.{Error}
 use Rattle.clap.specs.declared.error.kind.ErrorKind.{ErrorKind}
 use Rattle.clap.specs.declared.error.kind.ErrorKind.TheVariants.{InvalidSubcommand, InvalidValue}
-use Rattle.command_line.specs.Plans.{AreOfAnyFiles, Explains, ExplainsPlan, HasSecond, HoldsForm, HoldsGenerations, HoldsMatches, IfWork, IsKeysPlanOf, IsRequestOf, IsFoundAmong, IsTaskPlanOf, NamesGenerations, NamesInputTwice, NamesOtherForm, RefusesAs, RefusesWord, TakesAnyFiles, HasNoJob, command_of, form_word, values_of}
+use Rattle.command_line.specs.Plans.{AreOfAnyFiles, Explains, ExplainsPlan, HasSecond, HoldsForm, HoldsGenerations, HoldsMatches, IfWork, IsKeysPlanOf, IsRequestOf, IsStreamPlanOf, IsFoundAmong, IsTaskPlanOf, NamesGenerations, NamesInputTwice, NamesOtherForm, RefusesAs, RefusesWord, TakesAnyFiles, HasNoJob, command_of, form_word, values_of}
 use Rattle.command_line.specs.declared.plans.Form.{Form}
 use Rattle.command_line.specs.declared.plans.Form.TheVariants.{Placed}
 use Rattle.command_line.specs.declared.plans.KeysPlan.{KeysPlan}
+use Rattle.command_line.specs.declared.plans.StreamPlan.{StreamPlan}
 use Rattle.command_line.specs.declared.plans.Task.{Task}
 use Rattle.command_line.specs.declared.plans.Task.TheVariants.{Canon, Convert, Same, Show, Step, StepTable, Later, LaterTable}
 use Rattle.command_line.specs.declared.plans.TaskPlan.{TaskPlan}
 use Rattle.command_line.specs.declared.plans.Request.{Request}
-use Rattle.command_line.specs.declared.plans.Request.TheVariants.{Work, Keys, Duplicates}
+use Rattle.command_line.specs.declared.plans.Request.TheVariants.{Work, Keys, Stream, Duplicates}
 use Rattle.command_line.specs.declared.plans.Usage.{Usage}
 use Rattle.command_line.specs.declared.plans.Usage.TheVariants.{Words, TwoInputs, Memory}
 
@@ -40,6 +41,7 @@ files_of (Some m) p is = files_of_task p.task m.1 p is.1
 files_of_one : (matches : Option (Text × List Row)) (q : Request) → IsRequestOf matches q → IfWork (λ p. IsSome p.second ↔ HasSecond p.task) q
 files_of_one matches (Work p) is = files_of matches p is
 files_of_one matches (Keys p) is = tt
+files_of_one matches (Stream p) is = tt
 files_of_one matches (Duplicates p) is = tt
 
 pub files_of_request : (matches : Option (Text × List Row)) (r : Result Request Usage) → IfOk r (IsRequestOf matches)
@@ -118,6 +120,13 @@ no_plan_of_files command default faults None p u takes none is once h = absurd i
 no_plan_of_files command default faults (Some m) p u takes none is once h =
     let takes_here = subst TakesAnyFiles (sym is.0) takes in
     inr (none, once, inl (such_as InvalidSubcommand (AreOfAnyFiles (Some m)) u h takes_here))
+
+-- and of words that ask for the keys of a stream
+pub no_plan_of_stream : (faults : Kinds) (matches : Option (Text × List Row)) (p : StreamPlan) (u : Usage) → faults ≡ [] → IsStreamPlanOf matches p
+    → ¬ NamesInputTwice matches → RefusesAs InvalidSubcommand (Unit {0}) u → ExplainsPlan faults matches u
+no_plan_of_stream faults None p u none is once h = absurd is
+no_plan_of_stream faults (Some m) p u none is once h =
+    inr (none, once, inl (such_as InvalidSubcommand (AreOfAnyFiles (Some m)) u h (inl is.0)))
 
 -- the same of a command that is read as this line
 pub fails_by_line : {X : Type 0} (line app : App) (words : List Text) (r : Result X Error) → app ≡ line

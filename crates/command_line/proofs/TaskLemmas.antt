@@ -8,7 +8,7 @@ use Rattle.clap.specs.Words.{Row, Text, first_of, found_of, rows_of, subcommand_
 use Rattle.clap.specs.declared.parser.matches.ArgMatches.{ArgMatches}
 use Rattle.clap.specs.declared.parser.matches.ArgMatches.TheViews.{out-ArgMatches, out-SubCommand}
 use Rattle.std.specs.Box.{box_value}
-use Rattle.command_line.specs.Plans.{AreOfTask, AreWhole, Explains, HasNoForm, HasNoFormat, HasNoNumber, HasOneFile, HasRequired, HoldsFiles, HoldsFlag, HoldsForm, HoldsGenerations, HoldsMatches, IsFoundAmong, IsTaskPlanOf, NamesInputTwice, NamesNoForm, NamesNoFormat, NamesNoNumber, NamesNoValue, RefusesKeys, RefusesWord, TakesAnyFiles, command_of, target_word}
+use Rattle.command_line.specs.Plans.{AreOfTask, AreWhole, Explains, HasNoForm, HasNoFormat, HasNoNumber, HasOneFile, HasRequired, HoldsFiles, HoldsFlag, HoldsForm, HoldsGenerations, HoldsMatches, IsFoundAmong, IsTaskPlanOf, LacksFiles, NamesInputTwice, NamesNoFiles, NamesNoForm, NamesNoFormat, NamesNoNumber, NamesNoValue, RefusesKeys, RefusesStream, RefusesWord, TakesAnyFiles, command_of, target_word}
 use Rattle.command_line.specs.declared.plans.Form.{Form}
 use Rattle.command_line.specs.declared.plans.Target.{Target}
 use Rattle.command_line.specs.declared.plans.Task.{Task}
@@ -152,13 +152,22 @@ word_explains m is_such TwoInputs names once h = absurd h
 word_explains m is_such Memory names once h = absurd h
 
 -- and so does the lack of files
-pub files_explain : (m : Text × List Row) (usage : Usage) → TakesAnyFiles m.0 → (¬ NamesInputTwice (Some m)) → RefusesKeys m.1 usage
-    → Explains [] (Some m) usage
-files_explain m (Words error) takes once (inl (inl h)) = inr (inr (inr (refl, (takes, h.0), once, h.1)))
-files_explain m (Words error) takes once (inl (inr out)) = inl out
-files_explain m TwoInputs takes once (inl h) = absurd h
-files_explain m Memory takes once (inl h) = absurd h
-files_explain m usage takes once (inr h) = word_explains m (HasNoForm m.1) usage (λ word. inr (inl (inr (inr takes), word))) once h
+pub files_explain : (m : Text × List Row) (usage : Usage) → TakesAnyFiles m.0 → (LacksFiles m.1 → NamesNoFiles (Some m)) → (¬ NamesInputTwice (Some m))
+    → RefusesKeys m.1 usage → Explains [] (Some m) usage
+files_explain m (Words error) takes names once (inl (inl h)) = inr (inr (inr (inl (refl, names h.0, once, h.1))))
+files_explain m (Words error) takes names once (inl (inr out)) = inl out
+files_explain m TwoInputs takes names once (inl h) = absurd h
+files_explain m Memory takes names once (inl h) = absurd h
+files_explain m usage takes names once (inr h) = word_explains m (HasNoForm m.1) usage (λ word. inr (inl (inr (inr takes), word))) once h
+
+-- and so do files besides a stream
+pub stream_explains : (m : Text × List Row) (usage : Usage) → m.0 ≡ codes "keys" → IsFoundAmong (codes "stream") m.1 → (¬ NamesInputTwice (Some m))
+    → RefusesStream m.1 usage → Explains [] (Some m) usage
+stream_explains m (Words error) is found once (inl (inl h)) = inr (inr (inr (inr (refl, (is, found, h.0), once, h.1))))
+stream_explains m (Words error) is found once (inl (inr out)) = inl out
+stream_explains m TwoInputs is found once (inl h) = absurd h
+stream_explains m Memory is found once (inl h) = absurd h
+stream_explains m usage is found once (inr h) = word_explains m (HasNoForm m.1) usage (λ word. inr (inl (inr (inr (inl is)), word))) once h
 
 -- why `step` has no plan: the word behind --generations, or no memory for the names of the files
 step_usage : (m : Text × List Row) (usage : Usage) → m.0 ≡ codes "step" → AreOfTask (Some m) → (¬ NamesNoFormat (Some m)) → (¬ NamesNoForm (Some m))

@@ -71,9 +71,9 @@ files_line name =
     let with_list = with_rule (with_rule hashed (flag (codes "zero"))) (option (codes "from")) in
     with_rule with_list (short_flag (codes "recursive") 114)
 
--- keys FILE.., with these and an optional --json
+-- keys FILE.., with these and an optional --json and --stream STREAM
 abbrev pub keys_line : App
-keys_line = with_rule (files_line (codes "keys")) (flag (codes "json"))
+keys_line = with_rule (with_rule (files_line (codes "keys")) (flag (codes "json"))) (option (codes "stream"))
 
 -- the program without its commands, of which it wants one; it has a version
 abbrev pub named_program : App

@@ -4,7 +4,7 @@ use Rattle.std.specs.Str.{bytes_eq}
 use Rattle.life_base.specs.Numbers.{u64_of}
 use Rattle.clap.specs.Words.{Row, Text, Kinds, IsAmong, all_of, first_of, kind_of, one_of}
 use Rattle.clap.specs.declared.error.kind.ErrorKind.{ErrorKind}
-use Rattle.clap.specs.declared.error.kind.ErrorKind.TheVariants.{InvalidSubcommand, InvalidValue, MissingRequiredArgument, OutOfMemory}
+use Rattle.clap.specs.declared.error.kind.ErrorKind.TheVariants.{ArgumentConflict, InvalidSubcommand, InvalidValue, MissingRequiredArgument, OutOfMemory}
 use Rattle.command_line.specs.declared.plans.Form.{Form}
 use Rattle.command_line.specs.declared.plans.Form.TheVariants.{Placed, Moved, Turned}
 use Rattle.command_line.specs.declared.plans.Job.{Job}
@@ -15,9 +15,11 @@ use Rattle.command_line.specs.declared.plans.Target.{Target}
 use Rattle.command_line.specs.declared.plans.Target.TheVariants.{Rle, Mc}
 use Rattle.command_line.specs.declared.plans.Plan.{Plan}
 use Rattle.command_line.specs.declared.plans.TaskPlan.{TaskPlan}
+use Rattle.command_line.specs.declared.plans.KeyForm.{KeyForm}
 use Rattle.command_line.specs.declared.plans.KeysPlan.{KeysPlan}
+use Rattle.command_line.specs.declared.plans.StreamPlan.{StreamPlan}
 use Rattle.command_line.specs.declared.plans.Request.{Request}
-use Rattle.command_line.specs.declared.plans.Request.TheVariants.{Work, Keys, Duplicates}
+use Rattle.command_line.specs.declared.plans.Request.TheVariants.{Work, Keys, Stream, Duplicates}
 use Rattle.command_line.specs.declared.plans.Usage.{Usage}
 use Rattle.command_line.specs.declared.plans.Usage.TheVariants.{Words, TwoInputs, Memory}
 
@@ -118,16 +120,33 @@ HoldsFlag id rows flag = (one_of id rows ≡ Some (codes "true") → flag ≡ tr
 abbrev pub LacksFiles : List Row → Type 0
 LacksFiles rows = (values_of (codes "FILE") rows ≡ []) × (first_of (codes "from") rows ≡ None)
 
--- The plan of a command over any number of files has those and the options that were found for it; its form is the default one where none was found.
+-- what a key depends on is what was found for it; its form is the default one where none was found
+pub record HoldsKeyForm (default : Form) (rows : List Row) (form : KeyForm) : Type 0 where
+  pub form_is : HoldsForm default rows form.form
+  pub generation : HoldsFlag (codes "ignore-generation") rows form.ignores_generation
+
+-- the plan of a command over any number of files has those and the options that were found for it
 pub record HoldsKeys (default : Form) (rows : List Row) (p : KeysPlan) : Type 0 where
-  pub form : HoldsForm default rows p.form.form
-  pub generation : HoldsFlag (codes "ignore-generation") rows p.form.ignores_generation
+  pub form : HoldsKeyForm default rows p.form
   pub files : map (λ name. name.now) p.files.items ≡ values_of (codes "FILE") rows
   pub from : option_map (λ name. name.now) p.from ≡ first_of (codes "from") rows
   pub zero : HoldsFlag (codes "zero") rows p.zero
   pub json : HoldsFlag (codes "json") rows p.json
   pub recursive : HoldsFlag (codes "recursive") rows p.recursive
   pub some : ¬ LacksFiles rows
+
+-- files were found, or a list of them, or -r, which takes the files of folders
+abbrev pub HasFiles : List Row → Type 0
+HasFiles rows = (¬ LacksFiles rows) ⊎ HoldsFlag (codes "recursive") rows true
+
+-- The plan of `keys` over a stream has the stream and the options that were found for it, and no files were found.
+pub record HoldsStream (rows : List Row) (p : StreamPlan) : Type 0 where
+  pub form : HoldsKeyForm Placed rows p.form
+  pub zero : HoldsFlag (codes "zero") rows p.zero
+  pub json : HoldsFlag (codes "json") rows p.json
+  pub stream : first_of (codes "stream") rows ≡ Some p.stream.now
+  pub none : LacksFiles rows
+  pub no_folders : HoldsFlag (codes "recursive") rows false
 
 -- the command is one over any number of files
 abbrev pub TakesAnyFiles : Text → Type 0
@@ -153,16 +172,28 @@ abbrev pub IsKeysPlanOf : Text → Form → Option (Text × List Row) → KeysPl
 IsKeysPlanOf command default None p = ⊥
 IsKeysPlanOf command default (Some matches) p = (matches.0 ≡ command) × HoldsKeys default matches.1 p
 
+-- no stream was found
+abbrev pub LacksStream : Option (Text × List Row) → Type 0
+LacksStream None = ⊥
+LacksStream (Some matches) = first_of (codes "stream") matches.1 ≡ None
+
+-- the same of `keys` over a stream
+abbrev pub IsStreamPlanOf : Option (Text × List Row) → StreamPlan → Type 0
+IsStreamPlanOf None p = ⊥
+IsStreamPlanOf (Some matches) p = (matches.0 ≡ codes "keys") × HoldsStream matches.1 p
+
 -- the same of what the words ask for: `keys` takes patterns as they lie, and `duplicates` in the moved form
 abbrev pub IsRequestOf : Option (Text × List Row) → Request → Type 0
 IsRequestOf matches (Work p) = IsTaskPlanOf matches p
-IsRequestOf matches (Keys p) = IsKeysPlanOf (codes "keys") Placed matches p
+IsRequestOf matches (Keys p) = IsKeysPlanOf (codes "keys") Placed matches p × LacksStream matches
+IsRequestOf matches (Stream p) = IsStreamPlanOf matches p
 IsRequestOf matches (Duplicates p) = IsKeysPlanOf (codes "duplicates") Moved matches p
 
 -- this holds of a plan for a task, if the words ask for one
 abbrev pub IfWork : (TaskPlan → Type 0) → Request → Type 0
 IfWork Holds (Work p) = Holds p
 IfWork Holds (Keys p) = Unit {0}
+IfWork Holds (Stream p) = Unit {0}
 IfWork Holds (Duplicates p) = Unit {0}
 
 -- something was found under this name
@@ -210,6 +241,10 @@ RefusesWord is_such usage = RefusesAs InvalidValue is_such usage
 abbrev pub RefusesKeys : List Row → Usage → Type 0
 RefusesKeys rows usage = RefusesAs MissingRequiredArgument (LacksFiles rows) usage ⊎ RefusesWord (HasNoForm rows) usage
 
+-- why what was found for `keys` over a stream has no plan: files were found too, or the word behind --form is that of no form
+abbrev pub RefusesStream : List Row → Usage → Type 0
+RefusesStream rows usage = RefusesAs ArgumentConflict (HasFiles rows) usage ⊎ RefusesWord (HasNoForm rows) usage
+
 -- the matches are those of `convert` with a word that is that of no format
 abbrev pub NamesNoFormat : Option (Text × List Row) → Type 0
 NamesNoFormat None = ⊥
@@ -229,10 +264,16 @@ NamesNoNumber (Some matches) = (matches.0 ≡ codes "step") × HasNoNumber match
 abbrev pub NamesNoValue : Option (Text × List Row) → Type 0
 NamesNoValue matches = NamesNoFormat matches ⊎ (NamesNoForm matches ⊎ NamesNoNumber matches)
 
--- the matches are those of `keys` or `duplicates`, with neither a file nor a list of files
+-- the matches are those of `keys`, with neither a file, nor a list of files, nor a stream, or of `duplicates`, with neither a file nor a list
 abbrev pub NamesNoFiles : Option (Text × List Row) → Type 0
 NamesNoFiles None = ⊥
-NamesNoFiles (Some matches) = TakesAnyFiles matches.0 × LacksFiles matches.1
+NamesNoFiles (Some matches) = LacksFiles matches.1
+    × (((matches.0 ≡ codes "keys") × (first_of (codes "stream") matches.1 ≡ None)) ⊎ (matches.0 ≡ codes "duplicates"))
+
+-- the matches are those of `keys` with a stream, and with files too
+abbrev pub NamesStreamAndFiles : Option (Text × List Row) → Type 0
+NamesStreamAndFiles None = ⊥
+NamesStreamAndFiles (Some matches) = (matches.0 ≡ codes "keys") × IsFoundAmong (codes "stream") matches.1 × HasFiles matches.1
 
 -- the matches are those of `canon` or `same` with the word of another form than that of a pattern as it lies
 abbrev pub NamesOtherForm : Option (Text × List Row) → Type 0
@@ -261,13 +302,15 @@ NamesInputTwice (Some matches) = 1 < input_count matches.1
 
 -- Why words are refused in which `clap` finds these faults and these matches: since `clap` is out of memory; by the kind of a fault; in words
 -- without a fault, since the word behind --to is that of no format, the one behind --form that of no form or the one behind --generations no number, since
--- `keys` or `duplicates` is given neither a file nor a list, or since standard input is named twice, which is reported before these. Memory comes only where
+-- `keys` or `duplicates` is given neither a file nor a list, and no stream either, since `keys` is given files besides a stream, or since standard input is
+-- named twice, which is reported before these. Memory comes only where
 -- none of that is so, and the words ask for a task: all that is left to do is to copy the names of its files.
 abbrev pub Explains : Kinds → Option (Text × List Row) → Usage → Type 0
 Explains faults matches (Words error) = (kind_of error ≡ OutOfMemory)
     ⊎ (IsAmong (kind_of error) faults
     ⊎ ((faults ≡ []) × NamesNoValue matches × ¬ NamesInputTwice matches × (kind_of error ≡ InvalidValue))
-    ⊎ ((faults ≡ []) × NamesNoFiles matches × ¬ NamesInputTwice matches × (kind_of error ≡ MissingRequiredArgument)))
+    ⊎ ((faults ≡ []) × NamesNoFiles matches × ¬ NamesInputTwice matches × (kind_of error ≡ MissingRequiredArgument))
+    ⊎ ((faults ≡ []) × NamesStreamAndFiles matches × ¬ NamesInputTwice matches × (kind_of error ≡ ArgumentConflict)))
 Explains faults matches TwoInputs = (faults ≡ []) × NamesInputTwice matches
 Explains faults matches Memory = (faults ≡ []) × AreOfTask matches × (¬ NamesNoValue matches) × (¬ NamesInputTwice matches)
 

@@ -6,4 +6,6 @@ pub mod plans;
 
 pub use origins::{Origin, origin_of};
 pub use plans::requests::{plan, request};
-pub use plans::{Form, Job, KeyForm, KeysPlan, Plan, Request, Target, Task, TaskPlan, Usage};
+pub use plans::{
+    Form, Job, KeyForm, KeysPlan, Plan, Request, StreamPlan, Target, Task, TaskPlan, Usage,
+};

@@ -121,6 +121,18 @@ pub struct KeysPlan<'a> {
     pub files: Vec<&'a str>,
 }
 
+/// The command `keys` over the patterns of one stream, each of which ends in NUL: what it takes, and how it writes.
+#[derive(Clone, Copy)]
+pub struct StreamPlan<'a> {
+    pub form: KeyForm,
+    /// Whether the line of a key ends in NUL in place of LF.
+    pub zero: bool,
+    /// Whether an object of JSON is written for each pattern.
+    pub json: bool,
+    /// The name of the stream: a file, or `-`.
+    pub stream: &'a str,
+}
+
 /// What the words ask for.
 #[derive(Drop)]
 pub enum Request<'a> {
@@ -128,6 +140,8 @@ pub enum Request<'a> {
     Work(TaskPlan),
     /// The keys of any number of files.
     Keys(KeysPlan<'a>),
+    /// The keys of the patterns of a stream.
+    Stream(StreamPlan<'a>),
     /// The groups of files, among any number of them, that are the same pattern.
     Duplicates(KeysPlan<'a>),
 }

@@ -4,6 +4,8 @@ pub mod JsonLemmas
 pub mod KeyLines
 pub mod KeyLemmas
 pub mod KeyRunLemmas
+pub mod StreamLemmas
+pub mod StreamRunLemmas
 pub mod GroupLemmas
 pub mod DuplicateLemmas
 pub mod GatherLemmas

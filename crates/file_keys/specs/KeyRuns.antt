@@ -55,9 +55,13 @@ abbrev pub outcome_line : Bool → List ℕ → Outcome → List ℕ
 outcome_line zero name (Key key) = key_line zero key name
 outcome_line zero name _ = []
 
--- the style in which a run of this plan writes
+-- the style in which a run writes, by its options --json and --zero
+abbrev pub style_by : Bool → Bool → Style
+style_by json zero = if json then Json else (if zero then Zero else Lines)
+
+-- that of a run of this plan
 abbrev pub style_of : KeysPlan → Style
-style_of plan = if plan.json then Json else (if plan.zero then Zero else Lines)
+style_of plan = style_by plan.json plan.zero
 
 -- what standard output gets of a file: the line of its key, where it has one, or an object
 abbrev pub output_line : Style → List ℕ → Outcome → List ℕ

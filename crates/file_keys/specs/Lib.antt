@@ -3,6 +3,7 @@ pub mod Keys
 pub mod Objects
 pub mod Pieces
 pub mod KeyRuns
+pub mod Stream
 pub mod Groups
 pub mod Duplicates
 pub mod Words

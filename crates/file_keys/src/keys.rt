@@ -19,7 +19,7 @@ pub(crate) mod outcome;
 pub(crate) mod outputs;
 pub(crate) mod refusal;
 mod runs;
-mod style;
+pub(crate) mod style;
 
 pub use refusal::OpenedFile;
 pub use runs::write_keys;

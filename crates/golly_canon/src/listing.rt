@@ -107,18 +107,19 @@ impl<'a> Run<'a> {
     /// Standard output, whose lines come in place of the line of progress.
     fn out(&self, rt: &HostRuntime) -> Output<'_, Visible<'_, Stdout>> {
         let stream = rt.stdout();
-        let progress = self.progress.is_shared.then_some(&self.progress);
+        let progress = self.progress.is_shared.then_some(&self.progress.line);
         Output {
             stream: Visible::new(stream, stream.is_terminal(), progress),
             is_left: &self.is_left,
             listed: Some(&self.listed),
+            line: None,
         }
     }
 
     /// Standard error, whose lines do too.
     fn stderr(&self, rt: &HostRuntime) -> Visible<'_, Stderr> {
         let stream = rt.stderr();
-        Visible::new(stream, stream.is_terminal(), Some(&self.progress))
+        Visible::new(stream, stream.is_terminal(), Some(&self.progress.line))
     }
 
     /// The same for reports, each of which says that a file is passed over.
@@ -187,7 +188,7 @@ impl<'a> Run<'a> {
             self.hints.take(origin, &opened);
             self.count(&opened);
         }
-        let opened = watch_opened(opened?, &self.watcher.watch, names);
+        let opened = watch_opened(opened?, &self.watcher.watch, names, None);
         Ok(recognize_opened(opened))
     }
 
@@ -287,7 +288,7 @@ fn write_listing(
     };
     let status = run.write(rt, &seeds, plan, listing);
     run.warn(rt);
-    run.progress.clear();
+    run.progress.line.clear();
     run.close(rt, plan, listing);
     status
 }

@@ -14,6 +14,7 @@ mod outputs;
 mod progress;
 mod recognizing;
 mod rereading;
+mod streaming;
 mod tasks;
 mod watching;
 
@@ -31,6 +32,7 @@ use outputs::{Visible, is_broken_pipe};
 use std::alloc::AllocError;
 use std::io::{ErrorKind as IoErrorKind, IsTerminal, Result as IoResult, Write};
 use std::process::ExitCode;
+use streaming::list_stream;
 use tasks::do_task;
 
 /// How the text of `clap` was printed.
@@ -166,6 +168,10 @@ fn run(
             [word, ..] => refuse_word(rt, word.as_str()),
         },
         Ok(Request::Keys(plan)) => list(rt, streams, damaged, &plan, Listing::Keys),
+        Ok(Request::Stream(plan)) => match damaged {
+            [] => Ok(list_stream(rt, streams, &plan)),
+            [word, ..] => refuse_word(rt, word.as_str()),
+        },
         Ok(Request::Duplicates(plan)) => list(rt, streams, damaged, &plan, Listing::Duplicates),
         Err(usage) => Ok(report_usage(rt, &usage, arguments.words.as_slice())),
     }

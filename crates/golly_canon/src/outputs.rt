@@ -4,7 +4,7 @@ ghost use Rattle.std.specs.Io.{WritesAtMost};
 
 use crate::counting::NameCount;
 use crate::escaping::hexadecimal;
-use crate::progress::ProgressLine;
+use crate::progress::TerminalLine;
 use std::cell::Cell;
 use std::io::{ErrorKind, Result, Write};
 
@@ -59,10 +59,15 @@ pub(crate) struct Output<'a, W> {
     pub is_left: &'a Cell<bool>,
     /// What is seen of the output of a run over files.
     pub listed: Option<&'a Listed>,
+    /// The line that is cleared before anything is written, if there may be one.
+    pub line: Option<&'a TerminalLine>,
 }
 
 impl<'a, W: Write> Write for Output<'a, W> {
     fn write(&mut self, buf: &[u8]) -> Result<usize> {
+        if let Some(line) = self.line {
+            line.clear();
+        }
         if let Some(listed) = self.listed {
             listed.look(buf);
         }
@@ -141,7 +146,7 @@ pub(crate) struct Visible<'a, W> {
     stream: W,
     is_terminal: bool,
     /// The line of progress, if it is on the terminal of the stream.
-    progress: Option<&'a ProgressLine>,
+    progress: Option<&'a TerminalLine>,
     /// The last two bytes that the terminal got as they are, in which a character may have begun.
     before: [u8; 2],
 }
@@ -151,7 +156,7 @@ impl<'a, W: Write> Visible<'a, W> {
     pub(crate) fn new(
         stream: W,
         is_terminal: bool,
-        progress: Option<&'a ProgressLine>,
+        progress: Option<&'a TerminalLine>,
     ) -> Visible<'a, W> {
         Visible {
             stream,

@@ -1,8 +1,9 @@
-//! The line on a terminal that says how far a run of the command `keys` is.
+//! The line on a terminal that says how far a run of the command `keys` is, or that `step` makes many generations.
 
 ghost use Rattle.std.specs.Prelude.{◌≡◌, ◌≤◌, ◌↔◌, IsTrue};
 
-use life_cli::plans::KeysPlan;
+use life_cli::plans::{KeysPlan, Task};
+use std::alloc::AllocError;
 use std::cell::Cell;
 use std::io::{IsTerminal, Write};
 use std::rt::Stderr;
@@ -21,10 +22,82 @@ fn is_due(now: u128, next: u128) -> bool
     now >= next
 }
 
-/// The line on standard error. Where that is no terminal, nothing is written and no clock is read.
+/// A line on the terminal of standard error, which is cleared before anything else is written.
+#[derive(Drop)]
+pub(crate) struct TerminalLine {
+    terminal: Stderr,
+    // Whether the line is shown.
+    stands: Cell<bool>,
+}
+
+impl TerminalLine {
+    /// No line is shown yet.
+    fn new(rt: &HostRuntime) -> TerminalLine {
+        TerminalLine {
+            terminal: rt.stderr(),
+            stands: Cell::new(false),
+        }
+    }
+
+    /// Shows a text in the line.
+    fn show(&self, text: &[u8]) {
+        self.stands.set(true);
+        let mut terminal = self.terminal;
+        let _ = terminal.write_all(text);
+    }
+
+    /// Clears the line, if it is shown.
+    pub(crate) fn clear(&self) {
+        if self.stands.get() {
+            self.stands.set(false);
+            let mut terminal = self.terminal;
+            let _ = terminal.write_all(b"\r\x1b[K");
+        }
+    }
+}
+
+/// The line that says that `step` makes many generations, which takes as long as it takes. There is none for other tasks, where standard error is no
+/// terminal, and without memory for it.
+#[derive(Drop)]
+pub(crate) struct GenerationsLine {
+    pub line: TerminalLine,
+    text: Option<String>,
+}
+
+/// What the line says of so many generations: also what stops them, and what limits what they cost.
+fn generations_text(rt: &HostRuntime, generations: u64) -> Result<String, AllocError> {
+    let ending = if generations == 1 { "" } else { "s" };
+    format!(in rt.alloc();
+        "\rmaking {generations} generation{ending}; Ctrl-C stops, ulimit -v limits memory"
+    )
+}
+
+impl GenerationsLine {
+    /// The line of a task that isn't shown yet.
+    pub(crate) fn new(rt: &HostRuntime, task: &Task) -> GenerationsLine {
+        let text = match task {
+            Task::Later(generations) | Task::LaterTable(generations) if rt.stderr().is_terminal() =>
+                { generations_text(rt, *generations).ok() }
+            _ => None,
+        };
+        GenerationsLine {
+            line: TerminalLine::new(rt),
+            text,
+        }
+    }
+
+    /// Shows the line, if there is one.
+    pub(crate) fn show(&self) {
+        if let Some(text) = &self.text {
+            self.line.show(text.as_bytes());
+        }
+    }
+}
+
+/// The line of `keys` on standard error. Where that is no terminal, nothing is written and no clock is read.
 #[derive(Drop)]
 pub(crate) struct ProgressLine {
-    terminal: Stderr,
+    pub line: TerminalLine,
     // When the run began, where the line is shown.
     begin: Option<Instant>,
     /// Whether standard output is a terminal too.
@@ -37,17 +110,14 @@ pub(crate) struct ProgressLine {
     opened: Cell<u64>,
     // At which millisecond the line may be shown next.
     next_time: Cell<u128>,
-    // Whether the line is shown.
-    stands: Cell<bool>,
 }
 
 impl ProgressLine {
     /// The line of a run that begins.
     pub(crate) fn new(rt: &HostRuntime, plan: &KeysPlan<'_>) -> ProgressLine {
-        let terminal = rt.stderr();
-        let is_shown = terminal.is_terminal();
+        let is_shown = rt.stderr().is_terminal();
         ProgressLine {
-            terminal,
+            line: TerminalLine::new(rt),
             begin: if is_shown {
                 Instant::now(rt).ok()
             } else {
@@ -58,7 +128,6 @@ impl ProgressLine {
             has_list: plan.from.is_some(),
             opened: Cell::new(0),
             next_time: Cell::new(FIRST),
-            stands: Cell::new(false),
         }
     }
 
@@ -76,7 +145,6 @@ impl ProgressLine {
         let now = elapsed.as_millis();
         if is_due(now, self.next_time.get()) {
             self.next_time.set(now.saturating_add(PAUSE));
-            self.stands.set(true);
             self.write(rt, done, listed);
         }
     }
@@ -86,17 +154,7 @@ impl ProgressLine {
         let done = opened.saturating_sub(u64::from(self.has_list));
         let total = self.named.saturating_add(listed);
         if let Ok(text) = format!(in rt.alloc(); "\r{done} of {total} files") {
-            let mut terminal = self.terminal;
-            let _ = terminal.write_all(text.as_bytes());
-        }
-    }
-
-    /// Clears the line, if it is shown.
-    pub(crate) fn clear(&self) {
-        if self.stands.get() {
-            self.stands.set(false);
-            let mut terminal = self.terminal;
-            let _ = terminal.write_all(b"\r\x1b[K");
+            self.line.show(text.as_bytes());
         }
     }
 }

@@ -6,6 +6,7 @@ ghost use Rattle.life_cli.specs.Plans.{HasSecond};
 use crate::explaining::{explain, explain_unread, warn};
 use crate::opening::{Input, ReservedStreams, hint_before, open};
 use crate::outputs::Output;
+use crate::progress::GenerationsLine;
 use crate::watching::{Watched, watch_opened};
 use file_hints::Watch;
 use life_base::{Device, Fault, Kind};
@@ -26,6 +27,8 @@ struct Watches {
     second: Cell<Option<Watch>>,
     /// Whether the first file was opened.
     is_begun: Cell<bool>,
+    /// The line that is shown once the first file, which is read last, has ended.
+    generations: GenerationsLine,
 }
 
 /// The watch of a file that is opened later, or nothing where it isn't watched.
@@ -50,20 +53,21 @@ impl Watches {
             first: watch_if(is_said),
             second: watch_if(is_said && matches!(plan.task, Task::Same(_))),
             is_begun: Cell::new(false),
+            generations: GenerationsLine::new(rt, &plan.task),
         }
     }
 
     /// Opens the next file.
     fn open(&self, rt: &HostRuntime, origin: Origin<'_>) -> IoResult<Opened<Watched<'_, Input>>> {
-        let watch = if self.is_begun.replace(true) {
-            &self.second
+        let (watch, at_end) = if self.is_begun.replace(true) {
+            (&self.second, None)
         } else {
-            &self.first
+            (&self.first, Some(&self.generations))
         };
         if let Some(hint) = hint_before(rt, origin) {
             let _ = rt.stderr().write_all(hint.as_slice());
         }
-        Ok(watch_opened(open(rt, origin)?, watch, None))
+        Ok(watch_opened(open(rt, origin)?, watch, None, at_end))
     }
 
     /// Writes the warnings of the files, which were read.
@@ -79,12 +83,12 @@ impl Watches {
 }
 
 /// Opens the plan's files and does its task.
-fn done(
+fn done<'a>(
     rt: &HostRuntime,
     seeds: &Seeds,
     plan: &TaskPlan,
-    watches: &Watches,
-    is_left: &Cell<bool>,
+    watches: &'a Watches,
+    is_left: &'a Cell<bool>,
 ) -> Result<u8, Refusal>
     requires { IsSome plan.now.second ↔ HasSecond plan.now.task }
 {
@@ -95,6 +99,7 @@ fn done(
                 stream: rt.stdout(),
                 is_left,
                 listed: None,
+                line: Some(&watches.generations.line),
             });
             carry_out(
                 rt.alloc(),
@@ -143,7 +148,9 @@ pub(crate) fn do_task(rt: &HostRuntime, streams: &ReservedStreams, plan: &TaskPl
     };
     let watches = Watches::new(rt, plan);
     let is_left = Cell::new(false);
-    match done(rt, &seeds, plan, &watches, &is_left) {
+    let ended = done(rt, &seeds, plan, &watches, &is_left);
+    watches.generations.line.clear();
+    match ended {
         Ok(status) => {
             watches.warn(rt, plan);
             status

@@ -3,6 +3,7 @@
 use crate::counting::NameCount;
 use crate::escaping::{push_all, push_name};
 use crate::opening::Input;
+use crate::progress::GenerationsLine;
 use file_hints::{Warning, Watch};
 use life_cli::Opened;
 use std::alloc::AllocError;
@@ -59,11 +60,18 @@ pub(crate) struct Watched<'a, R> {
     pub watch: &'a Cell<Option<Watch>>,
     /// Counts the names, if the input is a list.
     pub names: Option<&'a NameCount>,
+    /// The line that is shown when the input has ended, if there is one.
+    pub at_end: Option<&'a GenerationsLine>,
 }
 
 impl<'a, R: Read> Read for Watched<'a, R> {
     fn read(&mut self, buf: &mut [u8]) -> IoResult<usize> {
         let count = self.input.read(buf)?;
+        if let Some(line) = self.at_end {
+            if count == 0 {
+                line.show();
+            }
+        }
         if let Some(names) = self.names {
             names.take(&buf[..count]);
         }
@@ -79,12 +87,14 @@ pub(crate) fn watch_opened<'a>(
     opened: Opened<Input>,
     watch: &'a Cell<Option<Watch>>,
     names: Option<&'a NameCount>,
+    at_end: Option<&'a GenerationsLine>,
 ) -> Opened<Watched<'a, Input>> {
     Opened {
         input: Watched {
             input: opened.input,
             watch,
             names,
+            at_end,
         },
         bytes: opened.bytes,
     }

@@ -432,6 +432,54 @@ fn requests_over_any_files(rt: HostRuntime) {
     }
 }
 
+/// Arguments of `keys` over a stream with their form, which of --zero, --json and --ignore-generation they have, and the stream.
+const STREAMS: [(&str, Form, [bool; 3], &str); 4] = [
+    ("keys --stream s", Form::Placed, [false, false, false], "s"),
+    (
+        "keys --stream=- --zero",
+        Form::Placed,
+        [true, false, false],
+        "-",
+    ),
+    (
+        "keys --json --form moved --stream -",
+        Form::Moved,
+        [false, true, false],
+        "-",
+    ),
+    (
+        "keys --stream s --ignore-generation --form turned",
+        Form::Turned,
+        [false, false, true],
+        "s",
+    ),
+];
+
+/// The arguments of a text ask for the keys of this stream in this form, with these options.
+fn assert_stream(
+    rt: &impl Abort,
+    alloc: Global,
+    text: &str,
+    form: Form,
+    options: ([bool; 3], &str),
+) {
+    let words = words_of(rt, alloc, text);
+    let Ok(Request::Stream(found)) = request(alloc, &words) else {
+        panic!(rt; "{text}");
+    };
+    let flags = [found.zero, found.json, found.form.ignores_generation];
+    let is_wanted = found.form.form == form && (flags, found.stream) == options;
+    assert!(rt; is_wanted, "{text}");
+}
+
+#[test]
+fn requests_over_a_stream(rt: HostRuntime) {
+    for &(text, form, flags, stream) in &STREAMS {
+        assert_stream(&rt, rt.alloc(), text, form, (flags, stream));
+        assert_usage(&rt, rt.alloc(), text, ErrorKind::InvalidSubcommand);
+    }
+}
+
 /// The kind of `clap`'s refusal of the words.
 fn refusal_of<'a>(alloc: Global, words: &'a [&'a str]) -> Option<ErrorKind> {
     match plan(alloc, words) {
@@ -450,7 +498,7 @@ fn assert_usage(rt: &impl Abort, alloc: Global, text: &str, kind: ErrorKind) {
 }
 
 /// Arguments with the kind with which they are refused. Those that ask for another form than that of a pattern as it lies have a request and no plan.
-const USAGES: [(&str, ErrorKind); 53] = [
+const USAGES: [(&str, ErrorKind); 60] = [
     ("", ErrorKind::MissingSubcommand),
     ("canon", ErrorKind::MissingRequiredArgument),
     ("canon a b", ErrorKind::UnknownArgument),
@@ -492,6 +540,13 @@ const USAGES: [(&str, ErrorKind); 53] = [
     ("show a --table b", ErrorKind::UnknownArgument),
     ("canon -r a", ErrorKind::UnknownArgument),
     ("keys", ErrorKind::MissingRequiredArgument),
+    ("keys --stream s a", ErrorKind::ArgumentConflict),
+    ("keys a --stream s", ErrorKind::ArgumentConflict),
+    ("keys --stream s --from l", ErrorKind::ArgumentConflict),
+    ("keys --stream s -r", ErrorKind::ArgumentConflict),
+    ("keys --stream s --form b", ErrorKind::InvalidValue),
+    ("keys --stream", ErrorKind::InvalidValue),
+    ("duplicates --stream s", ErrorKind::UnknownArgument),
     ("keys -R a", ErrorKind::UnknownArgument),
     ("keys --json", ErrorKind::MissingRequiredArgument),
     ("duplicates a --json", ErrorKind::UnknownArgument),

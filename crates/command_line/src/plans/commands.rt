@@ -188,7 +188,9 @@ fn keys<'a>(alloc: Global) -> Result<Command<'a>, AllocError>
 {
     let command = any_files(alloc, "keys", KEYS, PLACED_UNLESS_GIVEN);
     let help = "Write an object of JSON for each file, one a line";
-    with_argument(command, flag(alloc, "json", help))
+    let command = with_argument(command, flag(alloc, "json", help));
+    let help = "Take the patterns of STREAM, a file or -: each ends in NUL";
+    with_argument(command, option(alloc, "stream", "STREAM", help))
 }
 
 fn step<'a>(alloc: Global) -> Result<Command<'a>, AllocError>

@@ -316,6 +316,13 @@ LIST has one name a line, as `find` writes them. With --zero each name ends in N
 `find -print0` writes them, and so do the lines of the output. The list is read before
 any file is opened. In the list, - is the name of a file, and not standard input.
 
+With --stream STREAM the patterns of one file, or of standard input, are taken one after
+the other. Each ends in a NUL byte; what follows the last NUL is a pattern too, unless it
+is empty. A pattern has its number for a name, from 1 on, and all that is written of it is
+what would be written of a file of that name with these bytes. Its line is written as soon
+as the pattern has ended, and it may have 2^30 bytes. If the stream can't be read to its
+end, the pattern that the reading stopped in is reported as refused.
+
 With --json each file gets an object of JSON, one a line, even if it has no key:
 
   {\"name\":\"glider.rle\",\"key\":\"7b1c..\"}
@@ -332,6 +339,7 @@ replaces the bytes that aren't UTF-8 text. Each object ends in a line feed, even
   golly_canon keys --form turned --ignore-generation *.rle
   golly_canon keys --json -r patterns > keys.jsonl
   find . -name '*.rle' -print0 | golly_canon keys --zero --from - > keys
+  printf 'x = 1, y = 1\\no!\\0x = 2, y = 1\\n2o!\\0' | golly_canon keys --stream -
 
 `golly_canon duplicates` lists the files that have one key, in groups.
 
@@ -341,7 +349,8 @@ Exit status:
   3  a file can't be opened or read, or the output can't be written
   4  there isn't enough memory, or more than 2^31 squares are needed, or more than
      2^21 in a form, for a file
-  5  the command line isn't understood, no file is named, or - is named twice
+  5  the command line isn't understood, no file is named, - is named twice, or files are
+     named besides a stream
 
 If several of these apply, the status is the greatest of them; but if the output can't
 be written, the status is 3. A file that is refused is reported as

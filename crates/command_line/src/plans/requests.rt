@@ -1,11 +1,13 @@
 //! The plan that the words ask for.
 
 ghost use Rattle.std.specs.Prelude.{◌≡◌, ◌≢◌, ◌⊎◌, ◌↔◌, ◌<◌, [], ℕ, Ok, IfOk, IfErr, OnOk, MatchOption, Some, IsSome, IsTrue, map, option_map, string_bytes, codes, count_by};
-ghost use Rattle.command_line.specs.Words.{bytes_eq, found_of, first_of, rows_of, subcommand_of, subcommand_rows_of, program, AreOfTask, AreWhole, IfWork, IsFoundAmong, IsPlanOf, IsRequestOf, IsTaskPlanOf, HasNoJob, task_of, task_plan_of, IsValueOf, HasNoForm, HasNoFormat, HasNoNumber, HasSecond, HasOneFile, HoldsFiles, HoldsFlag, HoldsForm, HoldsGenerations, HoldsKeys, NamesInputTwice, Explains, ExplainsPlan, RefusesAs, RefusesKeys, RefusesWord, form_word, input_count, input_count_under, target_word, u64_of, values_of};
+ghost use Rattle.command_line.specs.Words.{bytes_eq, found_of, first_of, rows_of, subcommand_of, subcommand_rows_of, program, AreOfTask, AreWhole, IfWork, IsFoundAmong, IsPlanOf, IsRequestOf, IsTaskPlanOf, HasNoJob, task_of, task_plan_of, IsValueOf, HasNoForm, HasNoFormat, HasNoNumber, HasSecond, HasOneFile, HoldsFiles, HoldsFlag, HoldsForm, HoldsGenerations, HoldsKeyForm, HoldsKeys, HoldsStream, NamesInputTwice, Explains, ExplainsPlan, RefusesAs, RefusesKeys, RefusesStream, RefusesWord, form_word, input_count, input_count_under, target_word, u64_of, values_of};
 ghost use Rattle.clap.specs.Words.{fault_of, kind_of};
 
 use super::commands::parse;
-use super::{Form, Job, KeyForm, KeysPlan, Plan, Request, Target, Task, TaskPlan, Usage};
+use super::{
+    Form, Job, KeyForm, KeysPlan, Plan, Request, StreamPlan, Target, Task, TaskPlan, Usage,
+};
 use clap::error::ErrorKind;
 use clap::{ArgMatches, Command, Error};
 use life_base::read_u64;
@@ -250,7 +252,11 @@ fn no_job(alloc: Global) -> Usage
 fn lacks_files(alloc: Global, call: &str) -> Usage
     ensures { RefusesAs ErrorKind.MissingRequiredArgument (Unit {0}) result }
 {
-    let message = "a FILE or --from LIST has to be given";
+    let message = if call == KEYS {
+        "a FILE, --from LIST or --stream STREAM has to be given"
+    } else {
+        "a FILE or --from LIST has to be given"
+    };
     refusal_as(alloc, ErrorKind::MissingRequiredArgument, call, message)
 }
 
@@ -276,6 +282,25 @@ fn values<'a>(alloc: Global, found: &ArgMatches<'a>, id: &str) -> Result<Vec<&'a
     }
 }
 
+/// What of a pattern its key depends on. A refusal says how the command is called.
+fn key_form(
+    alloc: Global,
+    found: &ArgMatches<'_>,
+    default_form: Form,
+    call: &str,
+) -> Result<KeyForm, Usage>
+    ensures ok { IfOk result (HoldsKeyForm default_form (rows_of (found_of found.now))) }
+    ensures err { IfErr result (RefusesWord (HasNoForm (rows_of (found_of found.now)))) }
+{
+    match form(alloc, found, default_form, call) {
+        Ok(form) => Ok(KeyForm {
+            form,
+            ignores_generation: is_set(found, "ignore-generation"),
+        }),
+        Err(usage) => Err(usage),
+    }
+}
+
 /// The plan of a command over any number of files. A refusal says how the command is called.
 fn any_files<'a>(
     alloc: Global,
@@ -294,21 +319,77 @@ fn any_files<'a>(
     if files.is_empty() && from.is_none() {
         return Err(lacks_files(alloc, call));
     }
-    let form = match form(alloc, found, default_form, call) {
+    let form = match key_form(alloc, found, default_form, call) {
         Ok(form) => form,
         Err(usage) => return Err(usage),
     };
     Ok(KeysPlan {
-        form: KeyForm {
-            form,
-            ignores_generation: is_set(found, "ignore-generation"),
-        },
+        form,
         zero: is_set(found, "zero"),
         json: is_set(found, "json"),
         recursive: is_set(found, "recursive"),
         from,
         files,
     })
+}
+
+/// The refusal of words that name a stream and files too.
+fn not_alone(alloc: Global) -> Usage
+    ensures { RefusesAs ErrorKind.ArgumentConflict (Unit {0}) result }
+{
+    let message = "--stream can't be used with a FILE, with --from or with -r";
+    refusal_as(alloc, ErrorKind::ArgumentConflict, KEYS, message)
+}
+
+/// The plan of `keys` over the patterns of a stream.
+fn over_stream<'a>(
+    alloc: Global,
+    found: &ArgMatches<'a>,
+    stream: &'a str,
+) -> Result<StreamPlan<'a>, Usage>
+    requires { first_of (codes "stream") (rows_of (found_of found.now)) ≡ Some stream.now }
+    ensures ok { IfOk result (HoldsStream (rows_of (found_of found.now))) }
+    ensures err { IfErr result (RefusesStream (rows_of (found_of found.now))) }
+{
+    let files = match values(alloc, found, "FILE") {
+        Ok(files) => files,
+        Err(error) => return Err(Usage::Words(error)),
+    };
+    if !files.is_empty() || value(found, "from").is_some() {
+        return Err(not_alone(alloc));
+    }
+    if is_set(found, "recursive") {
+        return Err(not_alone(alloc));
+    }
+    let (zero, json) = (is_set(found, "zero"), is_set(found, "json"));
+    match key_form(alloc, found, Form::Placed, KEYS) {
+        Ok(form) => Ok(StreamPlan {
+            form,
+            zero,
+            json,
+            stream,
+        }),
+        Err(usage) => Err(usage),
+    }
+}
+
+/// What `keys` asks for, with what was found for it, where standard input is named once at most.
+fn keys<'a>(alloc: Global, found: &ArgMatches<'a>) -> Result<Request<'a>, Usage>
+    requires { ¬ NamesInputTwice (Some (codes "keys", rows_of (found_of found.now))) }
+    ensures ok { IfOk result (IsRequestOf (Some (codes "keys", rows_of (found_of found.now)))) }
+    ensures refused { IfErr result
+        (Explains [] (Some (codes "keys", rows_of (found_of found.now)))) }
+{
+    match value(found, "stream") {
+        Some(stream) => match over_stream(alloc, found, stream) {
+            Ok(plan) => Ok(Request::Stream(plan)),
+            Err(usage) => Err(usage),
+        },
+        None => match any_files(alloc, found, Form::Placed, KEYS) {
+            Ok(plan) => Ok(Request::Keys(plan)),
+            Err(usage) => Err(usage),
+        },
+    }
 }
 
 /// How many of these names are standard input.
@@ -385,10 +466,7 @@ fn request_of<'a>(
         (Explains [] (Some (command.now, rows_of (found_of found.now)))) }
 {
     match command {
-        "keys" => match any_files(alloc, found, Form::Placed, KEYS) {
-            Ok(plan) => Ok(Request::Keys(plan)),
-            Err(usage) => Err(usage),
-        },
+        "keys" => keys(alloc, found),
         "duplicates" => match any_files(alloc, found, Form::Moved, DUPLICATES) {
             Ok(plan) => Ok(Request::Duplicates(plan)),
             Err(usage) => Err(usage),
@@ -422,8 +500,9 @@ fn from_matches<'a>(alloc: Global, matches: &ArgMatches<'a>) -> Result<Request<'
 ///
 /// `Words` with the text to show, where `clap` finds a fault in the words, as which `--help` and `--version` count too, by its kind; where the
 /// word after `--to` is that of no format, the one after `--form` that of no form, or the one after `--generations` no number below 2^64, as
-/// `InvalidValue`; where `keys` or `duplicates` is given neither a file nor a list, as `MissingRequiredArgument`; and where `clap`, or the list
-/// of their files, gets no memory, as `OutOfMemory`.
+/// `InvalidValue`; where `keys` or `duplicates` is given neither a file nor a list, and `keys` no stream either, as `MissingRequiredArgument`; where
+/// `keys` is given a stream and also a file, a list or `-r`, as `ArgumentConflict`; and where `clap`, or the list of their files, gets no memory, as
+/// `OutOfMemory`.
 /// `TwoInputs` where words without a fault name `-` for two files, whatever follows these options. `Memory` where all is right but there is
 /// no memory for the copy of a file's name.
 pub fn request<'a, S: AsStr>(alloc: Global, words: &'a [S]) -> Result<Request<'a>, Usage>
@@ -491,6 +570,7 @@ pub fn plan<S: AsStr>(alloc: Global, words: &[S]) -> Result<Plan, Usage>
     match request(alloc, words) {
         Ok(Request::Work(plan)) => as_job(alloc, plan),
         Ok(Request::Keys(_)) => Err(no_job(alloc)),
+        Ok(Request::Stream(_)) => Err(no_job(alloc)),
         Ok(Request::Duplicates(_)) => Err(no_job(alloc)),
         Err(usage) => Err(usage),
     }

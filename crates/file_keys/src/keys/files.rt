@@ -28,7 +28,7 @@ pub(crate) struct Files<F> {
 }
 
 /// The key of a source's pattern, or why it has none: `ReadFault` exactly where a read of it failed.
-fn source_outcome<R: Source>(
+pub(crate) fn source_outcome<R: Source>(
     alloc: Global,
     seeds: &Seeds,
     form: KeyForm,

@@ -1,12 +1,12 @@
 //! The lines of the command `keys`.
 
-ghost use Rattle.std.specs.Prelude.{◌≡◌, ◌<◌, ◌≤◌, ◌⊎◌, [], ◌∷◌, ◌++◌, OnOk, IfErr, true, codes, length, drop, take, slice_index, nat_lt};
-ghost use Rattle.file_keys.specs.Words.{list_any, LeavesSink, WritesText, error_line, escaped_name, escaped_byte, fault_text, is_special, key_line, name_mark, reason_of, refused_line, unopened_line, IsMemory};
+ghost use Rattle.std.specs.Prelude.{◌≡◌, ◌<◌, ◌≤◌, ◌⊎◌, [], ◌∷◌, ◌++◌, OnOk, IfErr, Some, true, codes, length, drop, take, slice_index, nat_lt};
+ghost use Rattle.file_keys.specs.Words.{list_any, LeavesSink, WritesText, error_line, escaped_name, escaped_byte, fault_text, is_special, key_line, name_mark, reason_of, refused_line, unopened_line, IsMemory, warning_line, warning_sentence};
 
 use super::outcome::Outcome;
 use super::refusal::{FileRefusal, lead};
 use fault_sentences::sentence;
-use file_hints::advice_words;
+use file_hints::{Warning, advice_words};
 use itoa::Buffer;
 use life_base::{Kind, Sink, append, write_text, write_texts};
 use memchr::memchr3;
@@ -213,6 +213,27 @@ fn write_unopened<E: Sink>(err: &mut E, name: &[u8], kind: ErrorKind) -> Result<
 {
     write_name(err, name)?;
     write_reason(err, kind)
+}
+
+/// Writes the sentence of a warning.
+fn write_sentence<E: Sink>(err: &mut E, warning: Warning) -> Result<(), Kind>
+    requires { E.failures err.old ≡ 0 }
+    ensures text { WritesText (E.contents err.old) (E.contents err.new)
+        (codes ": warning: " ++ (warning_sentence warning ++ codes "\n")) result }
+    ensures sink { LeavesSink E.failures E.stalled err.old err.new result }
+{
+    write_texts(err, &[b": warning: ", warning.sentence().as_bytes(), b"\n"])
+}
+
+/// Writes the line of a warning.
+pub(super) fn write_warning<E: Sink>(err: &mut E, name: &[u8], warning: Warning) -> Result<(), Kind>
+    requires { E.failures err.old ≡ 0 }
+    ensures text { WritesText (E.contents err.old) (E.contents err.new)
+        (warning_line name.now (Some warning)) result }
+    ensures sink { LeavesSink E.failures E.stalled err.old err.new result }
+{
+    write_escaped(err, name)?;
+    write_sentence(err, warning)
 }
 
 /// Writes why a file has no key.

@@ -1,13 +1,14 @@
 //! What a run of the command `keys` writes of its files.
 
 ghost use Rattle.std.specs.Prelude.{◌≡◌, true, false, max};
-ghost use Rattle.file_keys.specs.Words.{LeavesSink, sink_run, fault_of, fault_line, refusal_of, status_of, Reports, error_line, IsToldAs, object_text, outcome_line, outcome_status, output_line, report_line, TellsOn, WritesFiles, WritesText};
+ghost use Rattle.file_keys.specs.Words.{LeavesSink, sink_run, fault_of, fault_line, refusal_of, status_of, Reports, error_line, IsToldAs, object_text, outcome_line, outcome_status, output_line, report_line, TellsOn, warning_line, WritesEntry, WritesFiles, WritesText};
 
-use super::lines::{append_key_line, write_error_line};
+use super::lines::{append_key_line, write_error_line, write_warning};
 use super::objects::write_object_whole;
 use super::outcome::Outcome;
 use super::refusal::FileRefusal;
 use super::style::Style;
+use file_hints::Warning;
 use life_base::{Fault, Kind, Sink, write_text};
 use pattern_sources::{refuse, status};
 use std::alloc::Global;
@@ -59,6 +60,18 @@ pub(crate) fn tell_outcome<E: Sink>(
     }
 }
 
+/// Writes the warning of a file, if there is one, unless `tells` says that `err` takes no more reports, and returns whether it takes more.
+fn tell_warning<E: Sink>(tells: bool, err: &mut E, name: &[u8], warning: Option<Warning>) -> bool
+    requires { tells ≡ true → E.failures err.old ≡ 0 }
+    ensures { TellsOn E.contents E.failures E.stalled tells result err.old err.new
+        (warning_line name.now warning) }
+{
+    match warning {
+        Some(warning) if tells => write_warning(err, name, warning).is_ok(),
+        _ => tells,
+    }
+}
+
 /// Reports why the run ends early, unless `tells` says that `err` takes no more reports, and returns the status of that.
 pub(crate) fn break_off<E: Sink>(tells: bool, err: &mut E, kind: Kind) -> u8
     requires { tells ≡ true → E.failures err.old ≡ 0 }
@@ -83,7 +96,7 @@ fn greater(first: u8, second: u8) -> u8
 
 impl Outputs {
     /// Nothing is written yet.
-    pub(super) fn new(alloc: Global, style: Style) -> Outputs
+    pub(crate) fn new(alloc: Global, style: Style) -> Outputs
         ensures style { result.style ≡ style }
         ensures tells { result.tells ≡ true }
         ensures status { result.status ≡ 0 }
@@ -164,8 +177,28 @@ impl Outputs {
         }
     }
 
+    /// Writes a warning of a file, if there is one, and then what the style has of the file.
+    pub(crate) fn put_warned<W: Sink, E: Sink>(
+        &mut self,
+        name: &[u8],
+        outcome: Outcome,
+        warning: Option<Warning>,
+        out: &mut W,
+        err: &mut E,
+    ) -> Result<(), Kind>
+        requires works { W.failures out.old ≡ 0 }
+        requires hears { self.old.tells ≡ true → E.failures err.old ≡ 0 }
+        ensures entry { WritesEntry W.contents E.contents E.failures E.stalled out.old out.new
+            err.old err.new self.old self.new result name.now outcome warning }
+        ensures sink { LeavesSink W.failures W.stalled out.old out.new result }
+        ensures style { self.new.style ≡ self.old.style }
+    {
+        self.tells = tell_warning(self.tells, err, name, warning);
+        self.put(name, outcome, out, err)
+    }
+
     /// Reports why the run ends early, if standard error takes it, and returns the status of that.
-    pub(super) fn break_off<E: Sink>(&self, err: &mut E, kind: Kind) -> u8
+    pub(crate) fn break_off<E: Sink>(&self, err: &mut E, kind: Kind) -> u8
         requires hears { self.now.tells ≡ true → E.failures err.old ≡ 0 }
         ensures told { self.now.tells ≡ true
             → Reports (sink_run E.contents E.failures E.stalled err.old err.new)

@@ -137,7 +137,7 @@ where
     };
     let mut run = KeyRun {
         files,
-        outputs: Outputs::new(alloc, Style::of(plan)),
+        outputs: Outputs::new(alloc, Style::by(plan.json, plan.zero)),
     };
     match run.take_all(plan.files.as_slice(), list.as_slice(), plan.zero, out, err) {
         Ok(()) => run.outputs.status,

@@ -1,9 +1,7 @@
 //! How the command `keys` writes of its files.
 
 ghost use Rattle.std.specs.Prelude.{◌≡◌};
-ghost use Rattle.file_keys.specs.Words.{style_of};
-
-use command_line::KeysPlan;
+ghost use Rattle.file_keys.specs.Words.{style_by};
 
 /// How a run writes of its files.
 #[derive(Clone, Copy)]
@@ -17,13 +15,13 @@ pub enum Style {
 }
 
 impl Style {
-    /// The style of a run of this plan.
-    pub(super) fn of(plan: &KeysPlan<'_>) -> Style
-        ensures { result ≡ style_of plan.now }
+    /// The style of a run with these options.
+    pub(crate) fn by(json: bool, zero: bool) -> Style
+        ensures { result ≡ style_by json zero }
     {
-        if plan.json {
+        if json {
             Style::Json
-        } else if plan.zero {
+        } else if zero {
             Style::Zero
         } else {
             Style::Lines

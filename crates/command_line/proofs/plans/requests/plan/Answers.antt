@@ -4,7 +4,7 @@ use Rattle.clap.specs.Words.{subcommand_of}
 use Rattle.command_line.specs.CommandLine.{program}
 use Rattle.command_line.specs.Plans.{HasSecond, IsPlanOf, IsTaskPlanOf, task_of}
 use Rattle.command_line.specs.declared.plans.TaskPlan.{TaskPlan}
-use Rattle.command_line.proofs.MatchesLemmas.{no_plan_of_task, no_plan_of_files}
+use Rattle.command_line.proofs.MatchesLemmas.{no_plan_of_task, no_plan_of_files, no_plan_of_stream}
 use Rattle.command_line.proofs.TaskLemmas.{anyway}
 use Rattle.command_line.specs.declared.plans.Form.TheVariants.{Placed, Moved}
 use Rattle.command_line.proofs.plans.requests.plan.Goals as goal
@@ -17,7 +17,7 @@ returns-in-Ok-Work-clause-refused g c =
 pub returns-in-Ok-Keys-clause-refused : goal.returns-in-Ok-Keys-clause-refused
 returns-in-Ok-Keys-clause-refused g c =
     let is = rw c.in-Ok-Keys.field-0-is at c.in-Ok-Keys.ensures.ok in
-    no_plan_of_files (codes "keys") Placed _ _ c.in-Ok-Keys.field-0-0 c.no_job.result (inl refl) c.in-Ok-Keys.ensures.faultless is
+    no_plan_of_files (codes "keys") Placed _ _ c.in-Ok-Keys.field-0-0 c.no_job.result (inl refl) c.in-Ok-Keys.ensures.faultless is.0
     c.in-Ok-Keys.ensures.once c.no_job.ensures
 
 pub returns-in-Ok-Duplicates-clause-refused : goal.returns-in-Ok-Duplicates-clause-refused
@@ -25,6 +25,12 @@ returns-in-Ok-Duplicates-clause-refused g c =
     let is = rw c.in-Ok-Duplicates.field-0-is at c.in-Ok-Duplicates.ensures.ok in
     no_plan_of_files (codes "duplicates") Moved _ _ c.in-Ok-Duplicates.field-0-0 c.no_job-in-Ok-Duplicates.result (inr refl)
     c.in-Ok-Duplicates.ensures.faultless is c.in-Ok-Duplicates.ensures.once c.no_job-in-Ok-Duplicates.ensures
+
+pub returns-in-Ok-Stream-clause-refused : goal.returns-in-Ok-Stream-clause-refused
+returns-in-Ok-Stream-clause-refused g c =
+    let is = rw c.in-Ok-Stream.field-0-is at c.in-Ok-Stream.ensures.ok in
+    no_plan_of_stream _ _ c.in-Ok-Stream.field-0-0 c.no_job-in-Ok-Stream.result c.in-Ok-Stream.ensures.faultless is
+    c.in-Ok-Stream.ensures.once c.no_job-in-Ok-Stream.ensures
 
 pub returns-clause-refused : goal.returns-clause-refused
 returns-clause-refused g c = inl c.in-Err.ensures.refused
