@@ -21,7 +21,7 @@ const MOST_HELD = 2 ** 28;
 /** The most bytes of a tar that gzip packed. */
 const MOST_UNPACKED = 2 ** 30;
 /** The most milliseconds between the end of looking through a dropped folder and the browser's own list of its files. */
-const PATIENCE = 20000;
+export const PATIENCE = 20000;
 
 const UNNAMED = "its name isn't UTF-8 text, so the browser can't open it: rename it, or drop a tar of the folder";
 const UNLISTED = "the browser hides some names of a dropped folder from a page that was opened from the disk, so files may be missing: take Open a folder, " +

@@ -4,7 +4,7 @@ import { EXAMPLES } from "./examples.mjs";
 import { Failed, Jobs, Stopped } from "./jobs.mjs";
 import { Picture, coloursOfRule } from "./picture.mjs";
 import { SENTENCES } from "./sentences.mjs";
-import { filesOfTransfer, pathOf, sourcesOf, wantsList } from "./archive.mjs";
+import { PATIENCE, filesOfTransfer, pathOf, sourcesOf, wantsList } from "./archive.mjs";
 
 const $ = id => document.getElementById(id);
 /** What counts as one pattern: the words of each form. */
@@ -14,8 +14,12 @@ const COLUMNS = ["Group", "File", "Rule", "Generation", "Cells", "Box"];
 /** The most rows of the list, and the most bytes of a text, that are shown. */
 const MOST_ROWS = 500;
 const MOST_SHOWN = 1 << 16;
-/** The most cells that aren't 0 for RLE and for a step. */
+/** The most cells that aren't 0 for RLE and for a step by a rule table. */
 const MOST_CELLS = 2n ** 20n;
+/** The most generations in a step, which is the greatest number that the library takes. */
+const MOST_GENERATIONS = 2n ** 64n - 1n;
+/** After so many milliseconds of a step the page says that it is being made, and has a button that stops it. */
+const LONG_STEP = 500;
 /** The most generations, and the most bytes of their texts, that are kept for going back. */
 const MOST_BACK = 1000;
 const MOST_BACK_BYTES = 2 ** 26;
@@ -36,7 +40,12 @@ let colours = new Map();
 let shown = null;
 let form = "placed";
 let isChosen = false;
-let isRunning = false;
+/** The run that goes on, an object of its own, or null. */
+let currentRun = null;
+/** The step that is being made: the text that it is made from, and its end. */
+let currentStep = null;
+/** How many generations a step has. */
+let generations = 1n;
 /** A number that is different after each stop, and each time all is cleared. */
 let turn = 0;
 
@@ -301,17 +310,20 @@ function notWorking() {
 function stop() {
   turn++;
   jobs.stop();
-  running(false);
+  pause();
   notWorking();
   files = files.filter(it => it.keys !== undefined || it.failed !== undefined);
   say("Stopped.");
+  if (shown !== null) {
+    showNow();
+  }
   showCompared();
 }
 
 function clear() {
   turn++;
   jobs.stop();
-  running(false);
+  pause();
   notWorking();
   files = [];
   tables = new Map();
@@ -521,7 +533,7 @@ async function choose(file) {
   }
   const mine = turn;
   const doing = `Reading ${shownName(file.name)}`;
-  running(false);
+  pause();
   working(doing, 0);
   try {
     const found = await jobs.ask("read", { source: sourceOf(file), isShown: true }, bytes => working(doing, bytes / file.size));
@@ -575,6 +587,7 @@ function showPattern(isNew) {
   $("back").hidden = isOfFile();
   showSummary();
   showSteps();
+  showNow();
   showText();
 }
 
@@ -661,45 +674,110 @@ function tableOfShown() {
 
 const isNamed = ({ rule }) => !/^B[0-8]*\/S[0-8]*V?$/.test(rule);
 
+/** Takes the number of generations in a step from its field. Returns whether that has one. */
+function takeGenerations() {
+  const [, digits, exponent] = /^\s*(?:(\d+)|2\s*\^\s*(\d{1,2}))\s*$/.exec($("generations").value) ?? [];
+  const number = exponent === undefined ? BigInt(digits ?? 0) : 2n ** BigInt(exponent);
+  const isRight = number >= 1n && number <= MOST_GENERATIONS;
+  $("generations").ariaInvalid = String(!isRight);
+  if (isRight) {
+    generations = number;
+  } else {
+    pause();
+    showNow(`Write how many generations a step has: a whole number from 1 to ${powerOf(64)} \u2212 1, or a power of two such as 2^20.`);
+  }
+  return isRight;
+}
+
+/** Gives a step another number of generations, or the nearest one that it can have. */
+function giveGenerations(number) {
+  const within = number < 1n ? 1n : number > MOST_GENERATIONS ? MOST_GENERATIONS : number;
+  const exponent = within.toString(2).length - 1;
+  $("generations").value = exponent >= 20 && within === 2n ** BigInt(exponent) ? `2^${exponent}` : within.toString();
+  takeGenerations();
+}
+
 function showSteps() {
   if (shown === null) {
     return;
   }
   const lacks = isNamed(shown.summary) && tableOfShown() === undefined;
-  const isLarge = shown.summary.population > MOST_CELLS;
+  const isLarge = isNamed(shown.summary) && shown.summary.population > MOST_CELLS;
   for (const id of ["step", "run"]) {
     $(id).disabled = lacks || isLarge;
   }
   $("step-back").disabled = shown.before.length === 0;
   $("no-step").textContent = lacks
     ? `To step this pattern, drop the rule file of ${shown.summary.rule}, a .rule file with a @TABLE.`
-    : isLarge ? `Only a pattern of up to ${powerOf(20)} cells can be stepped or written as RLE.` : "";
+    : isLarge ? `Only a pattern of up to ${powerOf(20)} cells can be stepped by a rule table.` : "";
 }
 
-/** Makes one step. Returns whether there was one. */
+/** Says which generation is shown, and more about it. */
+function showNow(more = "") {
+  const { generation, population } = shown.summary;
+  $("now").textContent = [`Generation ${grouped(generation)}: ${counted(population, "cell", "cells")}.`, more].filter(it => it !== "").join(" ");
+}
+
+/** Makes a step, and says why if there is none. Returns whether there was one. */
 async function step() {
-  const of = shown;
+  const why = await stepped();
+  if (why !== null && why !== "") {
+    pause();
+    showNow(why);
+  }
+  return why === null;
+}
+
+/** Makes a step from what is shown, unless it is being made already. Returns null, or why there was none, or nothing where something else is shown since. */
+function stepped() {
   const { text } = shown;
+  if (currentStep?.text !== text) {
+    const mine = { text };
+    currentStep = mine;
+    const late = setTimeout(() => {
+      if (currentStep === mine && shown?.text === text) {
+        $("stop-step").hidden = false;
+        showNow("The next step is being computed.");
+      }
+    }, LONG_STEP);
+    mine.end = stepNow(shown, generations).finally(() => {
+      clearTimeout(late);
+      if (currentStep === mine) {
+        currentStep = null;
+        $("stop-step").hidden ||= currentRun === null;
+      }
+    });
+  }
+  return currentStep.end;
+}
+
+async function stepNow(of, number) {
+  const { text, summary, tree } = of;
+  // Meanwhile another file, the pattern of the file again, or nothing may have come to be shown.
+  const isShown = () => of === shown && of.text === text;
   try {
-    const found = await jobs.ask("step", { text, table: tableOfShown() });
-    // Meanwhile another file, or the pattern of the file again, may have come to be shown.
-    if (of !== shown || of.text !== text) {
-      return false;
+    const found = await jobs.ask("step", { text, table: tableOfShown(), generations: number });
+    if (!isShown()) {
+      return "";
     }
-    const { summary, tree } = shown;
     keepBefore({ text, summary, tree });
     Object.assign(shown, found, { rle: null });
     showPattern(false);
     say("");
-    return true;
+    return null;
   } catch (why) {
-    if (why instanceof Failed) {
-      const { refused, fault } = why;
-      const reason = refused ? `There is no next generation: ${refused.reason}. ${sentenceOf(refused.kind, refused.advice)}` : "";
-      say(reason || `The library stopped (${fault}); it was loaded anew.`);
-    }
-    return false;
+    return isShown() && why instanceof Failed ? whyNoStep(why, summary.generation + number) : "";
   }
+}
+
+/** Why there is no step to a generation, in words. */
+function whyNoStep({ refused, fault }, generation) {
+  if (refused === undefined) {
+    return `The library stopped (${fault}); it was loaded anew.`;
+  }
+  const { kind, reason, advice, made } = refused;
+  const sentence = kind === "Full" ? `The step needs more than ${powerOf(26)} different squares.` : sentenceOf(kind, advice);
+  return `There is no generation ${grouped(generation)}: ${reason}${made > 0n ? `, after ${counted(made, "generation", "generations")}` : ""}. ${sentence}`;
 }
 
 /** Keeps a generation for going back, and drops the oldest ones where they come to too much. */
@@ -714,38 +792,47 @@ function keepBefore(generation) {
 
 /** Shows the generation before, where it is kept. */
 function stepBack() {
-  running(false);
+  pause();
   if (shown.before.length > 0) {
     Object.assign(shown, shown.before.pop(), { rle: null });
     showPattern(false);
   }
 }
 
-function running(isOn) {
-  isRunning = isOn;
+/** Notes the run that goes on, or that there is none. Meanwhile its generations aren't read out, and the button that stops a long step stays. */
+function running(run) {
+  currentRun = run;
+  const isOn = run !== null;
   $("run").ariaPressed = String(isOn);
   $("run").textContent = isOn ? "Pause" : "Run";
+  $("now").ariaLive = isOn ? "off" : "polite";
+  $("stop-step").hidden ||= !isOn && currentStep === null;
 }
 
+/** Ends the run, if there is one. */
+function pause() {
+  running(null);
+}
+
+/** Makes one step after another, until the user pauses or there is no step. */
 async function run() {
-  if (isRunning) {
-    running(false);
-    return;
-  }
-  running(true);
+  const mine = {};
   const of = shown;
-  while (isRunning && of === shown) {
+  running(mine);
+  while (currentRun === mine && of === shown) {
     const begun = performance.now();
     if (!(await step())) {
       break;
     }
     await new Promise(resolve => setTimeout(resolve, Math.max(0, Number($("speed").value) - (performance.now() - begun))));
   }
-  running(false);
+  if (currentRun === mine) {
+    pause();
+  }
 }
 
 function back() {
-  running(false);
+  pause();
   Object.assign(shown, shown.first, { before: [], rle: null });
   showPattern(false);
 }
@@ -776,8 +863,21 @@ function addListeners() {
     fit: () => picture.fit(),
     plane: () => picture.plane(),
     "step-back": stepBack,
-    step: () => step(),
-    run,
+    step: () => takeGenerations() && step(),
+    run: () => {
+      if (currentRun !== null) {
+        pause();
+        showNow("Paused.");
+      } else if (takeGenerations()) {
+        run();
+      }
+    },
+    halve: () => giveGenerations(generations / 2n),
+    double: () => giveGenerations(generations * 2n),
+    "stop-step": () => {
+      stop();
+      $("step").focus();
+    },
     back,
     copy,
     save: () => saved(nameOfText(), written()),
@@ -801,6 +901,11 @@ function addListeners() {
   }
   $("files").addEventListener("change", event => chosen(event.target));
   $("folder").addEventListener("change", event => chosen(event.target));
+  $("generations").addEventListener("change", takeGenerations);
+  $("stepping").addEventListener("submit", event => {
+    event.preventDefault();
+    $("step").click();
+  });
   $("typed").addEventListener("submit", event => {
     event.preventDefault();
     takeText($("text").value, nameOfPasted());
@@ -824,7 +929,7 @@ function nameOfPasted() {
   return `pasted ${files.filter(it => it.name.startsWith("pasted ")).length + 1}`;
 }
 
-/** The files that the browser lists of a folder that was dropped on its input. */
+/** The files that the browser lists of what was dropped on the input for a folder. */
 function listOfDropped() {
   return new Promise(resolve => {
     const input = $("dropped");
@@ -835,26 +940,48 @@ function listOfDropped() {
   });
 }
 
+/** Whether files are dragged that the browser hands to an input alone, and not to the page, as WebKit does on Linux. */
+const isForInput = ({ types }) => types.includes("text/uri-list") && !types.includes("Files") && !types.includes("text/plain");
+
+/** The files that come to the input for a folder, or that none come. */
+async function* filesOfInput(listed) {
+  const list = await Promise.race([listed, new Promise(resolve => setTimeout(resolve, PATIENCE, null))]);
+  yield* (list ?? []).map(it => ({ name: pathOf(it), blob: it }));
+  yield { note: list === null
+    ? "The browser doesn't hand over what was dropped: use Open files or Open a folder."
+    : `The browser handed over ${counted(list.length, "file", "files")}. It may leave out hidden files, and files whose names aren't UTF-8 text: ` +
+      "drop a tar of them." };
+}
+
 function addDropping() {
   let depth = 0;
   const over = change => {
     depth = change === 0 ? 0 : Math.max(0, depth + change);
     $("dropping").hidden = depth === 0;
   };
-  $("dropped").hidden = !wantsList();
-  document.addEventListener("dragenter", () => over(1));
+  document.addEventListener("dragenter", event => {
+    $("dropped").hidden = !wantsList() && !isForInput(event.dataTransfer);
+    over(1);
+  });
   document.addEventListener("dragleave", () => over(-1));
-  document.addEventListener("dragover", event => event.preventDefault());
+  document.addEventListener("dragover", event => {
+    if (event.target !== $("dropped") || !isForInput(event.dataTransfer)) {
+      event.preventDefault();
+    }
+  });
   document.addEventListener("drop", event => {
     const transfer = event.dataTransfer;
     const dropped = [...transfer.items].filter(it => it.kind === "file");
     // The browser lists the files of a folder itself, where it is dropped on an input for one.
-    const isListed = event.target === $("dropped") && dropped[0]?.webkitGetAsEntry?.()?.isDirectory;
+    const isOnInput = event.target === $("dropped");
+    const isListed = isOnInput && (isForInput(transfer) || dropped[0]?.webkitGetAsEntry?.()?.isDirectory);
     if (!isListed) {
       event.preventDefault();
     }
     setTimeout(over, 0, 0);
-    if (dropped.length > 0) {
+    if (isForInput(transfer)) {
+      take(filesOfInput(isListed ? listOfDropped() : Promise.resolve(null)));
+    } else if (dropped.length > 0) {
       take(filesOfTransfer(transfer, isListed ? listOfDropped() : null));
     } else if (transfer.getData("text/plain") !== "") {
       takeText(transfer.getData("text/plain"), nameOfPasted());

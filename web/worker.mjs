@@ -82,15 +82,28 @@ const acts = {
     return { text: golly.toRle(text, { limit: LIMIT }) };
   },
 
-  async step({ text, table }) {
-    return opened(golly.step(text, { table, limit: LIMIT }));
+  /** The pattern of a text so many generations later. By a table they are made one after the other, and a refusal has how many there were. */
+  async step({ text, table, generations }) {
+    if (table === undefined) {
+      return opened(golly.step(text, { generations, limit: LIMIT }));
+    }
+    let later = text;
+    for (let made = 0n; made < generations; made++) {
+      try {
+        later = golly.step(later, { table, limit: LIMIT });
+      } catch (why) {
+        throw why instanceof Refused ? Object.assign(why, { made }) : why;
+      }
+    }
+    return opened(later);
   },
 };
 
 /** What the page is told of an error. */
 function toldOf(why) {
   if (why instanceof Refused) {
-    return { refused: { reason: why.message, kind: why.kind, line: why.line, inTable: why.inTable, advice: why.advice, found: why.found ?? "" } };
+    const { message, kind, line, inTable, advice, found = "", made = 0n } = why;
+    return { refused: { reason: message, kind, line, inTable, advice, found, made } };
   }
   if (why instanceof Unreadable) {
     return { unreadable: why.message };

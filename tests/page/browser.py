@@ -6,6 +6,7 @@ machine, and not with the page: it is started again, three times in all, and a l
 
 import base64
 import contextlib
+import ctypes.util
 import functools
 import glob
 import http.client
@@ -17,6 +18,7 @@ import shutil
 import signal
 import socket
 import subprocess
+import sys
 import tempfile
 import threading
 import time
@@ -29,6 +31,8 @@ from shared import counting
 CHROMIUM, DRIVER, FIREFOX, NODE = "chromium", "chromedriver", "firefox-esr", "node"
 # WebKit needs a display, which Xvfb is. Its browser isn't on the PATH.
 WEBKIT_DRIVER, XVFB, WEBKIT = "WebKitWebDriver", "Xvfb", "/usr/lib/*/webkit2gtk-4.*/MiniBrowser"
+# What drags files onto a window there, in the folder of this file, and a place of the display that is within the page.
+DRAGGING, HERE, WITHIN = "import sys, dragging; sys.exit(dragging.main(sys.argv[1:]))", os.path.dirname(os.path.abspath(__file__)), (400, 400)
 ELEMENT = "element-6066-11e4-a52e-4f735466cecf"
 # The most seconds of a script, of a condition that is waited for, until a browser is up, and until it has ended.
 SECONDS, PATIENCE, STARTING, ENDING = 600, 120, 120, 30
@@ -48,6 +52,11 @@ def is_there():
 def has_webkit():
     """Whether WebKit's browser, its driver and a display for it are installed."""
     return bool(glob.glob(WEBKIT) and shutil.which(WEBKIT_DRIVER) and shutil.which(XVFB))
+
+
+def can_drag():
+    """Whether the libraries are there by which files are dragged onto WebKit's page."""
+    return all(map(ctypes.util.find_library, ("gtk-3", "Xtst")))
 
 
 class Failed(Exception):
@@ -375,9 +384,18 @@ class WebKit(Driven):
         # What ends the driver ends the display too, whose home is the same (see `end`).
         display = started([XVFB, "-displayfd", "1", "-screen", "0", "1200x900x24"], home, "display")
         number = awaited(XVFB, display, lambda: re.search(r"(?m)^\d+$", text_in(os.path.join(home, "display"))))
-        self.process = started([WEBKIT_DRIVER, "--port=0"], home, DISPLAY=f":{number[0]}")
+        self.display = f":{number[0]}"
+        self.process = started([WEBKIT_DRIVER, "--port=0"], home, DISPLAY=self.display)
         port = awaited(WEBKIT_DRIVER, self.process, lambda: port_of(self.process))
         self.connect(port, {"webkitgtk:browserOptions": {"binary": glob.glob(WEBKIT)[-1], "args": ["--automation"]}})
+
+    def drag(self, paths):
+        """Drags files and folders onto the page with the pointer, from another window of the display."""
+        words = [sys.executable, "-B", "-c", DRAGGING, *map(str, WITHIN), *paths]
+        environment = {**os.environ, "DISPLAY": self.display}
+        ran = subprocess.run(words, cwd=HERE, env=environment, capture_output=True, text=True, timeout=PATIENCE, check=False)
+        if ran.returncode:
+            raise Failed(f"the window doesn't take what is dragged onto it: {ran.stderr[-500:]}")
 
 
 # Runs each script that comes in a line, and writes its value in a line.

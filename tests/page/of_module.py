@@ -233,6 +233,12 @@ def calls(browser, address):
         "no generation": ("return text(golly.step(given[0], { generations: 0 }));", None),
         "generations beyond the last one": ("try { golly.step('#CXRLE Gen=1\\n' + given[0], { generations: 2n ** 64n - 1n }); } "
                                             "catch (why) { return why.message; }", "GenerationTooLarge"),
+        "many generations within each limit of squares": (
+            "const wanted = text(golly.step(given[0], { generations: 60 })); const found = new Set(); for (let limit = 0; limit < 200; limit++) { "
+            "try { found.add(text(golly.step(given[0], { generations: 60, limit })) === wanted); } catch (why) { found.add(why.message); } } "
+            "return [...found].join();", "Full,true"),
+        "a cell that leaves the plane": ("try { golly.step(`#CXRLE Pos=${2n ** 61n - 3n},0\\nx=3,y=3\\nbo$2bo$3o!`, { generations: 2 ** 40 }); } "
+                                         "catch (why) { return [why.name, why.kind, why.line, why.inTable].join(); }", "Refused,OutOfPlane,,false"),
         "a closed stream": ("const it = golly.stream(); it.close(); it.close(); "
                             "try { it.feed(given[0]); } catch (why) { return why.message; }", "Spent"),
         "a text that is asked for twice": ("const it = golly.stream(); it.feed(given[0]); it.finish(); const found = it.finish(); it.close(); "

@@ -367,6 +367,27 @@ def odd_files(browser, folder, address, where):
         {"names": {"a.rle", "b\\xe2\\x80\\xae.rle"}, "answer": "Both files are one pattern."}))
 
 
+def dragging(browser, folder, address, where):
+    """Files and folders that are dragged onto the page with the pointer. The browser hands them to the page's input alone, and leaves out hidden files and
+    names that aren't UTF-8 text, which the page says."""
+    page = Page(browser, address)
+    top = odd_folder(folder)
+    one, other = put(os.path.join(folder, "some"), one_rle=GLIDER, other_mc=SPELLED)
+    whole = {f"odd/{name}" for name in ODD if not name.startswith(".")}
+    for name, paths, wanted in (("a folder of odd names", [top], whole), ("two files", [one, other], {"one.rle", "other.mc"}),
+                                ("a file and a folder", [one, top], {"one.rle", *whole})):
+        page.cleared()
+        browser.drag(paths)
+        page.until("!document.getElementById('compared').hidden")
+        page.rests()
+        counting.row(f"{name} is dragged {where}" if name.startswith("a folder") else f"{name} are dragged {where}", differing(
+            {"listed": listed(page), "answer": page.text("answer")},
+            {"listed": (wanted, {}), "answer": f"{'Both' if len(wanted) == 2 else f'All {len(wanted)}'} files are one pattern."}))
+        said = page.text("notes")
+        holds(f"the page says that some of {name} may be missing {where}", f"handed over {len(wanted)} files." in said, said)
+    page.cleared()
+
+
 def vanishing(browser, folder, address, where):
     """A chosen or dropped file that is gone when it is read is listed as such, and the others are compared."""
     page = Page(browser, address)
@@ -635,6 +656,201 @@ def stepping(page, folder, answers):
     colouring(page, folder)
 
 
+# A gun of gliders, whose picture isn't the same after any number of generations.
+GUN = b"x=36,y=9\n24bo$22bobo$12b2o6b2o12b2o$11bo3bo4b2o12b2o$2o8bo5bo3b2o$2o8bo3bob2o4bobo$10bo5bo7bo$11bo3bo$12b2o!\n"
+# A glider that leaves the plane at its south-eastern corner.
+LEAVING = b"#CXRLE Pos=%d,%d\nx=3,y=3\nbo$2bo$3o!\n" % (2 ** 61 - 24, 2 ** 61 - 24)
+
+# A table by which two states spread until they meet.
+MEET = b"@RULE Meet\n@TABLE\nn_states:3\nneighborhood:vonNeumann\nsymmetries:rotate4\nvar a={1,2}\n" + b"".join(
+    b"var %c={0,1,2}\n" % it for it in b"bcd") + b"0,a,b,c,d,a\n"
+
+
+def soup_of(size):
+    """A soup with as many rows as columns, which grows for ever under its rule."""
+    source = random.Random(size)
+    return b"x=0,y=0,rule=B34/S34\n" + b"".join(bytes(source.choices(b"bo", k=size)) + b"$\n" for _ in range(size)) + b"!\n"
+
+
+def given_generations(page, text):
+    """Writes into the field how many generations a step has, as a user does."""
+    page.browser.run("const it = document.getElementById('generations'); it.value = given[0]; it.dispatchEvent(new Event('change'));", text)
+
+
+def now(page):
+    """What is said beside the buttons of the steps. Numbers have no spaces."""
+    return page.text("now").replace("\u202f", "")
+
+
+def jumped(page, generation):
+    """Makes a step, and waits until this generation is shown."""
+    page.click("step")
+    page.until(f"document.getElementById('summary').children[3].textContent.replaceAll('\u202f', '') === '{generation}'")
+
+
+def jumping(page, folder, answers):
+    """Steps of many generations: by a number, by a power of two, by a table, and those that there aren't."""
+    pentomino = put(folder, rpentomino_rle=b"x=3,y=3\nb2o$2o$bo!\n")[0]
+    page.dropped([pentomino])
+    for text, before, generation in (("1103", 0, 1103), (" 2 ^ 30 ", 1103, 1103 + 2 ** 30), ("1", 1103 + 2 ** 30, 1104 + 2 ** 30)):
+        given_generations(page, text)
+        jumped(page, generation)
+        counting.row(f"a step of {text.strip()} from generation {before}", differing({"text": page.saved("save")[0]}, {
+            "text": answers.of("step", pentomino, "--generations", str(generation))}))
+    wanted = f"Generation {generation}: 116 cells."
+    counting.row("the generation and the cells are said", differing({"now": now(page), "cells": page.summary()["Cells"]}, {"now": wanted, "cells": "116"}))
+    page.click("step-back")
+    page.click("step-back")
+    counting.row("a long step back", differing({"generation": page.summary()["Generation"]}, {"generation": "1103"}))
+    page.click("back")
+    found = []
+    for text, name in (("1", "double"), ("3", "double"), ("524288", "double"), ("2^40", "halve"), ("7", "halve"), ("1", "halve"), ("2^63", "double")):
+        given_generations(page, text)
+        page.click(name)
+        found.append(page.browser.run("return document.getElementById('generations').value;"))
+    counting.row("twice and half as many generations", differing({"found": found}, {"found": ["2", "6", "2^20", "2^39", "3", "1", str(2 ** 64 - 1)]}))
+    page.browser.run("const it = document.getElementById('generations'); it.focus(); it.select();")
+    page.browser.command("Input.insertText", text="30")
+    page.key("Enter", windowsVirtualKeyCode=13, text="\r")
+    page.until("document.getElementById('summary').children[3].textContent === '30'")
+    counting.row("the key Enter in the field makes a step", differing({"text": page.saved("save")[0]}, {
+        "text": answers.of("step", pentomino, "--generations", "30")}))
+    not_numbers(page)
+    refusals(page, folder, answers)
+    of_many_cells(page, folder, answers)
+
+
+def not_numbers(page):
+    """What is no number of generations is said, and no step is made."""
+    problems = []
+    for text in ("0", "", "-1", "1.5", "2^64", "ten", "2^", str(2 ** 64)):
+        given_generations(page, text)
+        page.click("step")
+        page.click("run")
+        found = page.browser.run("const it = document.getElementById('generations'); return [it.ariaInvalid, document.getElementById('run').textContent];")
+        said = now(page)
+        problems += [] if found == ["true", "Run"] and "Write how many generations" in said and "Generation 30:" in said else [f"{text}: {found} {said}"]
+    given_generations(page, "1")
+    found = page.browser.run("return document.getElementById('generations').ariaInvalid;")
+    counting.row("what is no number of generations", problems + ([] if found == "false" else [found]))
+
+
+def refusals(page, folder, answers):
+    """Why there is no step, in words: a cell that leaves the plane, a generation that no file can name, and a table that decides nothing."""
+    page.dropped(put(folder, leaving_rle=LEAVING))
+    given_generations(page, "2^40")
+    page.click("step")
+    page.until("document.getElementById('now').textContent.includes('OutOfPlane')")
+    wanted = f"Generation 0: 5 cells. There is no generation {2 ** 40}: OutOfPlane. {page.sentence('OutOfPlane')}"
+    counting.row("a step that leaves the plane", differing({"now": now(page)}, {"now": wanted}))
+    page.dropped(put(folder, late_rle=b"#CXRLE Gen=18446744073709551600\nx=3,y=1\n3o!\n"))
+    given_generations(page, "16")
+    page.click("step")
+    page.until("document.getElementById('now').textContent.includes('There is no')")
+    wanted = f"Generation {2 ** 64 - 16}: 3 cells. There is no generation {2 ** 64}: GenerationTooLarge. {page.sentence('GenerationTooLarge')}"
+    counting.row("a step beyond the last generation", differing({"now": now(page)}, {"now": wanted}))
+    with open(os.path.join(of_module.TOP, "examples", "WireWorld.rule"), "rb") as it:
+        wires, ring = put(folder, WireWorld_rule=it.read(), ring_rle=b"x=5,y=3,rule=WireWorld\n.AB.$C3.C$.3C!\n")
+    stepped_by(page, ring, wires, "11")
+    page.until("document.getElementById('summary').children[3].textContent === '11'")
+    counting.row("a step of 11 generations by a table", differing({"text": page.saved("save")[0]}, {
+        "text": answers.of("step", ring, "--table", wires, "--generations", "11")}))
+    stepped_by(page, *put(folder, meeting_rle=b"x=7,y=1,rule=Meet\nA5.B!\n", Meet_rule=MEET), "50")
+    page.until("document.getElementById('now').textContent.includes('There is no')")
+    wanted = f"Generation 0: 2 cells. There is no generation 50: table line 10: Ambiguous, after 2 generations. {page.sentence('Ambiguous')}"
+    holds("a step by a table that decides nothing", now(page).startswith(wanted), [now(page), wanted])
+
+
+def stepped_by(page, file, table, generations):
+    """Drops a file and its table, and makes a step of so many generations."""
+    page.dropped([file])
+    page.browser.drop([table])
+    page.until("!document.getElementById('step').disabled")
+    page.rests()
+    given_generations(page, generations)
+    page.click("step")
+
+
+def of_many_cells(page, folder, answers):
+    """More cells than a step by a table may have, and a triangle whose sides have 2^40: what is drawn are squares, and not cells."""
+    path = put(folder, large_mc=large())[0]
+    page.dropped([path])
+    given_generations(page, "3")
+    jumped(page, 3)
+    counting.row("a step of 2^22 cells", differing({"text": page.saved("save")[0]}, {"text": answers.of("step", path, "--generations", "3")}))
+    page.example(2)
+    triangle = put(folder, triangle_mc=page.saved("save")[0].encode())[0]
+    given_generations(page, "64")
+    jumped(page, 64)
+    counting.row("a step of a triangle of 2^40 cells a side", differing({"text": page.saved("save")[0]}, {
+        "text": answers.of("step", triangle, "--generations", "64")}))
+    page.click("fit")
+    drawn = page.browser.run("""await new Promise(requestAnimationFrame); await new Promise(requestAnimationFrame);
+        const it = document.getElementById("picture");
+        const pixels = new Uint32Array(it.getContext("2d").getImageData(0, 0, it.width, it.height).data.buffer);
+        return pixels.filter(colour => colour !== pixels[0]).length;""")
+    holds(f"{drawn} of its pixels are drawn", drawn > 1000, drawn)
+
+
+def playing(page, folder, answers):
+    """A run by steps of many generations, its pause, and its end by a refusal."""
+    gun = put(folder, gun_rle=GUN)[0]
+    page.dropped([gun])
+    page.browser.run("document.getElementById('speed').value = '0';")
+    given_generations(page, "64")
+    page.click("run")
+    live = page.browser.run("return document.getElementById('now').ariaLive;")
+    page.until("Number(document.getElementById('summary').children[3].textContent.replaceAll('\u202f', '')) > 640")
+    page.browser.run(HEARING)
+    page.click("run")
+    generation = page.summary()["Generation"]
+    page.browser.run("await new Promise(it => setTimeout(it, 400));")
+    later = page.summary()["Generation"]
+    problems = [] if int(generation) % 64 == 0 and int(later) <= int(generation) + 64 else [f"{generation}, and {later} later"]
+    counting.row(f"a run by 64 generations, at generation {later}", problems + differing({"text": page.saved("save")[0], "live": live}, {
+        "text": answers.of("step", gun, "--generations", later), "live": "off"}))
+    state = page.browser.run("return ['run', 'now'].map(it => document.getElementById(it)).flatMap(it => [it.textContent, it.ariaPressed, it.ariaLive]);")
+    heard = page.browser.run("return window.heard.splice(0);")
+    holds("its pause is said", state[:2] == ["Run", "false"] and state[5] == "polite" and any("Paused." in it for it in heard), [state, heard])
+    given_generations(page, "1")
+    page.click("run")
+    given_generations(page, "2^10")
+    page.until(f"Number(document.getElementById('summary').children[3].textContent.replaceAll('\u202f', '')) > {int(later) + 4096}")
+    page.click("run")
+    holds("a run whose steps become longer", page.browser.run("return document.getElementById('run').ariaPressed;") == "false", "it runs")
+    page.dropped(put(folder, leaving_rle=LEAVING))
+    given_generations(page, "8")
+    page.click("run")
+    page.until("document.getElementById('run').textContent === 'Run'")
+    last = int(page.summary()["Generation"])
+    wanted = f"Generation {last}: 5 cells. There is no generation {last + 8}: OutOfPlane. {page.sentence('OutOfPlane')}"
+    counting.row(f"a run that leaves the plane after generation {last}", differing({"now": now(page), "far": last > 40}, {"now": wanted, "far": True}))
+    stopping(page, folder)
+
+
+def stopping(page, folder):
+    """A step that takes long is stopped, and so is a run of such steps."""
+    growing, small = put(folder, growing_rle=soup_of(64), small_rle=GLIDER)
+    page.dropped([growing])
+    given_generations(page, "2^40")
+    for name in ("step", "run"):
+        hidden = page.hides("stop-step")
+        page.click(name)
+        page.until("!document.getElementById('stop-step').hidden")
+        said = now(page)
+        page.click("stop-step")
+        page.until("document.getElementById('stop-step').hidden")
+        state = {"now": now(page), "said": page.text("said"), "run": page.text("run")}
+        holds(f"a long {name} is stopped", hidden and "is being computed" in said, said)
+        counting.row(f"what comes of the stopped {name}", differing(state, {"now": said.replace(" The next step is being computed.", ""), "said": "Stopped.",
+                                                                            "run": "Run"}))
+    page.dropped([small])
+    given_generations(page, "4")
+    jumped(page, 4)
+    counting.row("a step after that", differing(page.summary(), {"Cells": "5", "Generation": "4"}))
+    given_generations(page, "1")
+
+
 # Golly's colours of WireWorld, and a gradient from red to green over the states 1 to 3.
 COLOURS = {
     "colours": (b"0  48  48  48   dark grey\n# a comment\n1   0 128 255   light blue\n2 255 255 255   white\n3 255 128   0   orange\n\n@ICONS\n1 9 9 9\n",
@@ -881,7 +1097,9 @@ def looks(browser, folder, pictures, name, width, height, scheme):
             browser.command("Emulation.setDeviceMetricsOverride", width=width, height=height, deviceScaleFactor=1, mobile=width < 600)
     names = browser.run("return ['zoom-in', 'zoom-out', 'fit', 'step-back', 'step', 'run'].map(it => document.getElementById(it)?.textContent);")
     problems += [] if names == ["Zoom in", "Zoom out", "Fit", "Step back", "Step", "Run"] else [f"buttons {names}"]
-    problems += browser.run("""return [...document.querySelectorAll("button, input, textarea, canvas, progress")].filter(it => !it.hidden &&
+    names = browser.run("return ['generations', 'speed'].map(it => document.getElementById(it)?.labels[0]?.textContent);")
+    problems += [] if names == ["Generations in a step", "Speed"] else [f"fields {names}"]
+    problems += browser.run("""return [...document.querySelectorAll("button, input, select, textarea, canvas, progress")].filter(it => !it.hidden &&
         !(it.innerText.trim() || it.ariaLabel || it.labels?.length)).map(it => it.outerHTML);""")
     counting.row(f"the page, {name}", problems)
 
@@ -928,6 +1146,8 @@ def working(browser, folder, work, answers, server):
     warning(page, os.path.join(work, "warning"))
     many(page, os.path.join(work, "many"))
     stepping(page, os.path.join(work, "stepping"), answers)
+    jumping(page, os.path.join(work, "jumping"), answers)
+    playing(page, os.path.join(work, "playing"), answers)
     drawing(page, os.path.join(work, "drawing"))
     long_work(page, work)
     quiet(browser, address, server.address)
@@ -937,7 +1157,7 @@ def working(browser, folder, work, answers, server):
 
 
 def opening(browser, address, program, where):
-    """Three files are opened by the page's dialog, and one is stepped: by what every driver can do."""
+    """Three files are opened by the page's dialog, and one is stepped, also by many generations: by what every driver can do."""
     page = Page(browser, address)
     with tempfile.TemporaryDirectory() as work:
         answers = Answers(program, work)
@@ -955,6 +1175,16 @@ def opening(browser, address, program, where):
         page.click("step")
         page.until("document.getElementById('summary').children[3].textContent === '1'")
         counting.row(f"a step {where}", differing({"text": page.saved("save")[0]}, {"text": answers.of("step", pentomino)}))
+        given_generations(page, "2^10")
+        jumped(page, 1025)
+        counting.row(f"a step of 2^10 generations {where}", differing({"text": page.saved("save")[0]}, {
+            "text": answers.of("step", pentomino, "--generations", "1025")}))
+        page.click("run")
+        page.until("Number(document.getElementById('summary').children[3].textContent.replaceAll('\u202f', '')) > 4096")
+        page.click("run")
+        generation = page.summary()["Generation"]
+        counting.row(f"a run by 2^10 generations {where}", differing({"text": page.saved("save")[0]}, {
+            "text": answers.of("step", pentomino, "--generations", generation)}))
 
 
 def rows(folder, program, pictures):

@@ -106,6 +106,12 @@ def in_webkit(folder, program, options):
         with tempfile.TemporaryDirectory() as work:
             of_page.odd_files(browser, work, f"{server.address}/golly_canon.html", "in WebKit")
             of_page.vanishing(browser, work, f"{server.address}/golly_canon.html", "in WebKit")
+        if not browsers.can_drag():
+            print("skipped: files are dragged onto the page in WebKit, since there is no GTK 3 or no libXtst", flush=True)
+            return
+        for how, address in (("from the disk", f"file://{folder}"), ("from a web server", server.address)):
+            with tempfile.TemporaryDirectory() as work:
+                of_page.dragging(browser, work, f"{address}/golly_canon.html", f"in WebKit, {how}")
 
     with browsers.Server(folder) as server:
         browsers.tested("WebKit", browsers.WebKit, some)
