@@ -5,7 +5,8 @@ too wide; the man page has a date; each place that repeats the version has that 
 with their numbers (scripts/kinds says which places). Each figure with a unit in README is the one of the page that measures it. Each page and each `--help`
 that gives the limit of squares gives that of a form too, and both are those of the code. Each tool that lists duplicates, and each page that says so, has the
 same form where none is named. Each check in the folders of tests/ is run, by tests/all or by another one. The files that docs/ADDING.md says to extend for a
-new command have the names that it gives, as those have that ARCHITECTURE follows a command through. And ARCHITECTURE has each crate of crates.txt, once.
+new command have the names that it gives, as those have that ARCHITECTURE follows a command through. Where a page names a file of a crate after a function, a
+constant or a definition, the file has it. And ARCHITECTURE has each crate of crates.txt, once.
 
 usage: tests/documents/documents.py
 """
@@ -42,6 +43,8 @@ STEP = re.compile(r"\*\*\d+\. `(\w+)`: ")
 PLACE = re.compile(r"\| `([\w/]+\.\w+)` \| (.*) \|")
 # A row of a table of functions: their names, the file that has them, what they do here, and the clauses that say so.
 FUNCTIONS = re.compile(r"(?m)^\| (`[^|]+`) \| `(\w+/src/[\w/]+\.rt)` \| [^|]+ \| ([^|]+) \|$")
+# A name and the file of a crate that has it, as "`NAME` (`CRATE/src/FILE.rt`" or "`NAME` of `CRATE/specs/FILE.antt`".
+NAME_OF_FILE = re.compile(r"`(?:\w+::)?([A-Za-z_]\w*)`\s(?:\(|in |of )`(\w+/(?:src|specs)/[\w/]+\.(?:rt|antt))`")
 # How many names there are at least in each of these pages, so that a table of another form is noticed.
 NAMES = 30
 
@@ -243,8 +246,8 @@ def of_checks():
 
 
 def of_places():
-    """Whether each file has what a row of a table says of it: in docs/ADDING.md the names to extend, in the crate of the step, and in ARCHITECTURE the
-    functions of a command and the clauses of their contracts."""
+    """Whether each file has what a page says of it: in a row of a table of docs/ADDING.md the names to extend, in the crate of the step; in one of ARCHITECTURE
+    the functions of a command and the clauses of their contracts; and anywhere the name that comes before the file."""
     crate, found = "", []
     for line in text_of(ADDING).splitlines():
         if line.startswith(("#", "**")):
@@ -259,6 +262,9 @@ def of_places():
              for it in in_file("docs/ARCHITECTURE.md", f"crates/{path}", functions + clauses)]
     yield f"docs/ARCHITECTURE.md: {NAMES} names of functions and clauses or more, and not {len(found)}", len(found) >= NAMES
     yield from found
+    for document in DOCUMENTS:
+        for name, path in NAME_OF_FILE.findall(text_of(document)):
+            yield from in_file(document, f"crates/{path}", f"`{name}`")
 
 
 def in_file(document, path, said):

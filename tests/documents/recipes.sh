@@ -193,6 +193,20 @@ obo$10bo5bo7bo$11bo3bo$12b2o!'
     equal "the gun again" "$(golly_canon same gun.mc again.mc)" same
     verdict "both formats, in $shell" "$problems"
 
+    # A glider is itself again after four generations, and neither after two nor at its old place.
+    recipe period
+    wrote "glider.rle
+-"
+    for words in "4 placed" "2 moved"; do
+        golly_canon step glider.rle --generations "${words% *}" |
+            golly_canon duplicates --form "${words#* }" --ignore-generation glider.rle - > told
+        equal "the status of $words" $? 1
+        equal "what $words writes" "$(cat told)" ""
+    done
+    golly_canon step gun.mc --generations 30 | golly_canon duplicates --ignore-generation gun.mc - > told
+    equal "the status of a gun, which has shot" $? 1
+    verdict "what an author says, in $shell" "$problems"
+
     # The wire has eight cells, so that its electron is back behind eight generations.
     recipe table
     wrote '#CXRLE Pos=0,0 Gen=8

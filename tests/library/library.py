@@ -1,8 +1,8 @@
 #!/usr/bin/env python3
 """Calls the shared library by ctypes, beside the program, on each file of a folder and on files that are refused, by each limit of a store in turn
-beside the independent reader, with the limit that suffices for the bytes of a file, and from two threads at once; streams, fed in random pieces,
-beside the calls on whole files, with their keys; the sentence of each kind of fault, beside the man page; and the forms of small and random files, their
-keys too, beside the independent reader. The last line is 'N passed, M failed'.
+beside the independent reader, many generations too, with the limit that suffices for the bytes of a file, and from two threads at once; streams, fed in
+random pieces, beside the calls on whole files, with their keys; the sentence of each kind of fault, beside the man page; and the forms of small and random
+files, their keys too, beside the independent reader. The last line is 'N passed, M failed'.
 
 usage: tests/library/library.py PROGRAM FOLDER"""
 
@@ -85,6 +85,10 @@ MOVED = {
     "no header": (b"o!\n", 0, 6),
 }
 
+# How many generations further the worked files are taken within each limit, and the most cells with which the independent reader can do that.
+LATER = (0, 1, 6)
+MOST_CELLS = 4096
+
 # How many random files of each kind are read with the room that suffices for their bytes.
 ROOM_FILES = 200
 
@@ -150,6 +154,16 @@ def compared_in(other, form):
 def opened_in(form):
     """The call that opens a stream for a text in a form, with the arguments of the others."""
     return lambda stream, *others: library.golly_canon_open_canon_form(stream, ctypes.c_uint32(forms.FORMS.index(form)), *others)
+
+
+def later_by(generations):
+    """The call that takes a pattern so many generations further, with the arguments of the others."""
+    return lambda file, length, *others: library.golly_canon_step_generations(file, length, ctypes.c_uint64(generations), *others)
+
+
+def opened_later(generations):
+    """The call that opens a stream for a text so many generations later, with the arguments of the others."""
+    return lambda stream, *others: library.golly_canon_open_step_generations(stream, ctypes.c_uint64(generations), *others)
 
 
 def pieces_of(file, cutting):
@@ -262,6 +276,21 @@ def check_limits():
             continue  # It counts 2^20 cells at each limit.
         first = first_limit(call, file, (answer.output, answer.fault))
         check(first == least, f"each limit: {what}: {first} and not {least}")
+
+
+def check_limits_later():
+    """Every limit from 0 on, of worked files that are taken further: what the independent reader says, a fault too, or Full, and the first where there is
+    most room."""
+    for name, (file, _) in WORKED.items():
+        reading = commands.File(file).reading
+        is_large = not isinstance(reading, commands.Fault) and reading.plane.population > MOST_CELLS
+        for generations in LATER[:1] if is_large else LATER:
+            answer = commands.step(commands.File(file), generations=generations)
+            wanted = answer.output, answer.fault
+            for how, call in (("", later_by(generations)), (IN_PIECES, by_stream(opened_later(generations), 1))):
+                found = [outcome_of(call, file, limit, max(64, len(answer.output))) for limit in range(MOST_LIMIT + 1)]
+                others = [limit for limit, it in enumerate(found) if it not in (wanted, (b"", "Full\n"))]
+                check(found[-1] == wanted and not others, f"each limit: {name}, {generations} generations later{how}: {others[:5]}, {found[-1]}")
 
 
 def room_for(*files):
@@ -485,6 +514,7 @@ def main(program, folder):
     check_hints(program)
     check_streams(files)
     check_limits()
+    check_limits_later()
     check_room()
     check_forms()
 

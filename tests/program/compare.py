@@ -32,8 +32,12 @@ REPLACED_BY = [0, 10, ord("$"), ord("9"), ord("o"), ord("!"), ord(","), 127, 128
 MOST_CELLS = 2**12
 # One with more cells than this, and no more than the program takes, is neither moved nor turned: the reader makes eight of it.
 MOST_TURNED = 2**9
-# How many generations a pattern with at most MOST_TURNED cells is taken further; one with more cells only two, and with more than MOST_CELLS none.
-GENERATIONS = [0, 1, 2, 3, 7]
+# The reader makes one generation after the other, in which a cell can come to (2 n + 1)^2. So the cube of how many there are, times the number of cells,
+# is at most this number; and by a table, which the reader looks through for each cell, there are no more than so many.
+MOST_WORK = 150_000
+MOST_BY_TABLE = 7
+# A limit of squares for some of the calls of the library has at most so many binary digits.
+MOST_DIGITS = 13
 # Files above this size are not respelled, since that could make a line too long.
 LARGE = 2**19
 # What files and their patterns can be refused by. Want of memory or room, devices and inputs above 2^30 bytes are other tests' part.
@@ -42,6 +46,8 @@ SecondHeader BadNode BadLevel BadChild BadLeaf Timeline LineTooLong NoRuleLine N
 BadVariable BadTransition UnboundOutput NotQuiet RuleMismatch NeedsTable Ambiguous TooManyCells GenerationTooLarge StateBeyondTable""".split()
 # Comments of 4 KB. With them before it an RLE file is read whole, and stepped row by row if that can be done.
 COMMENTS = b"#C\n" * 1400
+# What may come in the place of every answer within a limit of squares.
+FULL = commands.Answer(4, b"", "Full\n")
 # How many cases there are from one line that says how far it is to the next.
 STRIDE = 10000
 # A folder in memory, where there is one.
@@ -128,15 +134,23 @@ def has_slow_form(file):
     return not isinstance(file.reading, commands.Fault) and MOST_TURNED < file.reading.plane.population
 
 
-def generations_of(case, file):
-    """How many generations further the pattern of a case is taken: the reader makes one after the other. A number of them may be beyond the last generation."""
+def generations_of(case, file, most=None):
+    """How many generations further the pattern of a case is taken. A number of them may be beyond the last generation."""
+    source = random.Random(f"generations {case.name}")
     if isinstance(file.reading, commands.Fault):
-        return [len(case.pattern) % 3]
+        return [source.randrange(3)]
     population = file.reading.plane.population
     if population > MOST_CELLS:
         return []
-    few = [GENERATIONS[len(case.pattern) % len(GENERATIONS)] if population <= MOST_TURNED else 2]
-    return [*few, 2**64 - file.reading.generation] if file.reading.generation else few
+    within = round((MOST_WORK / max(population, 1)) ** (1 / 3))
+    few = source.randrange(1 + (within if most is None else min(within, most)))
+    return [few, 2**64 - file.reading.generation] if file.reading.generation else [few]
+
+
+def limit_of(case):
+    """A limit of squares, small ones as often as large ones."""
+    source = random.Random(f"limit {case.name}")
+    return source.randrange(2 ** source.randrange(1, MOST_DIGITS + 1))
 
 
 def can_be_longer(case, file):
@@ -163,7 +177,7 @@ def wanted_answers(case):
         table = commands.File(case.table)
         yield ["step", name, "--table", "table"], commands.step(file, table)
         if not case.only_step:
-            for number in generations_of(case, file)[:1]:
+            for number in generations_of(case, file, MOST_BY_TABLE)[:1]:
                 yield ["step", name, "--generations", str(number), "--table", "table"], commands.step(file, table, number)
     if case.respelling is not None:
         yield ["convert", name, "--to", "mc"], commands.convert_to_mc(file)
@@ -224,6 +238,12 @@ def compared(judged, case):
             problems.append(told(case, words, got, wanted))
         answers[f"status {got.status}"] += 1
         answers.update(got.fault.split()[-1:])
+        if judged.limits(words):
+            limit = limit_of(case)
+            within = judged.answer(words, "pattern", limit)
+            if within not in (wanted, FULL):
+                problems.append(told(case, [*words, f"within {limit} squares"], within, f"{wanted} or {FULL}"))
+            answers.update(within.fault.split()[-1:])
         if words[0] == "canon" and words[-1] == words[1] and got.status == 0:
             text = got.output
     if case.respelling is not None and text is not None:
@@ -297,9 +317,11 @@ def main():
     options = parser.parse_args()
     # So that an interrupted run ends its processes and removes its folder.
     signal.signal(signal.SIGTERM, lambda *_: sys.exit(1))
-    answers = answers_of(findings(judged_of(options.program), options))
+    judged = judged_of(options.program)
+    answers = answers_of(findings(judged, options))
     print("\n".join(shares(answers)))
-    lacking = [kind for kind in KINDS if not answers[kind]] if options.only is None else []
+    kinds = [*KINDS, "Full"] if isinstance(judged, Library) else KINDS
+    lacking = [kind for kind in kinds if not answers[kind]] if options.only is None else []
     for kind in lacking:
         counting.check(False, f"nothing was refused as {kind}")
     return counting.ended()

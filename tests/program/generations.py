@@ -3,18 +3,26 @@
 `bgolly` makes of them; by a rule table, and at the edge of the plane, which Golly's plane doesn't have, beside repeated single steps; of more cells than `step`
 takes, by how many there are; and a soup that grows for ever, which ends where the memory that it may have ends.
 
+On a terminal a line there says what is done until the answer comes, and Ctrl-C ends it at once, with nothing written.
+
 usage: tests/program/generations.py PROGRAM [--golly BGOLLY] [--seed SEED]
 
 The last line counts the checks."""
 
 import argparse
+import fcntl
 import os
+import pty
 import random
 import resource
 import shutil
+import signal
 import subprocess
 import sys
 import tempfile
+import termios
+import time
+import tty
 
 sys.dont_write_bytecode = True  # nothing is left in tests/
 sys.path.insert(0, os.path.dirname(os.path.dirname(os.path.abspath(__file__))))
@@ -155,6 +163,107 @@ def that_grows(program):
     counting.row(f"a soup that grows for ever, with {MEGABYTES} MB", [] if found == (4, b"", b"Memory\n") and seconds < SECONDS else [f"{found!r:.200}, {seconds:.1f} s"])
 
 
+# ---- on a terminal
+
+LINE = b"\rmaking %d generation%s; Ctrl-C stops, ulimit -v limits memory"
+CLEARED = b"\r\x1b[K"
+
+
+class Terminal:
+    """A terminal, which controls what is started on it, so that a key there is a signal."""
+
+    def __init__(self):
+        self.end, self.own = pty.openpty()
+        tty.setraw(self.own)  # no end of a line is turned into two bytes
+        mode = termios.tcgetattr(self.own)
+        mode[3] |= termios.ISIG
+        termios.tcsetattr(self.own, termios.TCSANOW, mode)
+
+    def start(self, words, **streams):
+        """Starts a program whose standard error is this terminal, in a session of its own."""
+        def control():
+            os.setsid()
+            fcntl.ioctl(self.own, termios.TIOCSCTTY, 0)
+        run = subprocess.Popen(words, stderr=self.own, preexec_fn=control, **streams)
+        os.close(self.own)
+        return run
+
+    def read(self, wanted=None):
+        """What comes out of the terminal until that has something, or else until nobody writes to it."""
+        found = b""
+        while wanted is None or wanted not in found:
+            try:
+                data = os.read(self.end, 1 << 16)
+            except OSError:  # so ends a terminal
+                return found
+            found += data
+        return found
+
+
+def line_of(number):
+    return LINE % (number, b"" if number == 1 else b"s")
+
+
+def on_terminal(program):
+    """The line on a terminal, and what ends it."""
+    glider, wanted = b"x = 3, y = 3\nbo$2bo$3o!\n", program.later(b"x = 3, y = 3\nbo$2bo$3o!\n", 40)
+    program.put("glider.rle", glider)
+    program.put("leaving.rle", b"#CXRLE Pos=%d,0\nx = 3, y = 3\nbo$2bo$3o!\n" % (EDGE - 3))
+    program.put("wires.rule", WIREWORLD)
+    program.put("ring.rle", RING)
+    ring = program.later(RING, 11, ["--table", "wires.rule"])
+    for name, words, text, shown in (
+        ("40 generations", ["glider.rle", "--generations", "40"], wanted, line_of(40) + CLEARED),
+        ("one generation", ["glider.rle", "--generations", "1"], program.later(glider, 1), line_of(1) + CLEARED),
+        ("generations by a table", ["ring.rle", "--generations", "11", "--table", "wires.rule"], ring, line_of(11) + CLEARED),
+        ("a cell that leaves the plane", ["leaving.rle", "--generations", "99"], b"", line_of(99) + CLEARED + b"OutOfPlane\n"),
+        ("a step without a number", ["glider.rle"], program.text(["step", "-"], glider), b""),
+    ):
+        terminal = Terminal()
+        with tempfile.TemporaryFile() as out:
+            with terminal.start([program.path, "step", *words], cwd=program.folder, stdin=subprocess.DEVNULL, stdout=out) as run:
+                said = terminal.read()
+            out.seek(0)
+            found = out.read()
+        os.close(terminal.end)
+        problems = [] if found == text and said.startswith(shown) and (shown.endswith(b"OutOfPlane\n") or said == shown) else [f"{found[:100]!r} {said!r}"]
+        counting.row(f"on a terminal: {name}", problems)
+    shared_terminal(program, glider, wanted)
+    interrupted(program)
+
+
+def shared_terminal(program, glider, wanted):
+    """Where standard output is the same terminal, the line is cleared before the text."""
+    terminal = Terminal()
+    with terminal.start([program.path, "step", "-", "--generations", "40"], stdin=subprocess.PIPE, stdout=terminal.own) as run:
+        run.stdin.write(glider)
+        run.stdin.close()
+        said = terminal.read()
+    os.close(terminal.end)
+    counting.row("on a terminal: the text too", [] if said == line_of(40) + CLEARED + wanted else [repr(said)])
+
+
+def interrupted(program):
+    """Ctrl-C ends a long run at once, by the signal, and nothing is written."""
+    cells = "$".join("".join(random.Random(row).choice("ob") for _ in range(64)) for row in range(64))
+    program.put("growing.rle", f"x = 64, y = 64, rule = B34/S34\n{cells}!\n".encode())
+    path, number = os.path.join(program.folder, "written"), 2**40
+    terminal = Terminal()
+    with open(path, "wb") as out:
+        with terminal.start([program.path, "step", "growing.rle", "--generations", str(number)], cwd=program.folder, stdin=subprocess.DEVNULL, stdout=out) as run:
+            said = terminal.read(line_of(number))
+            time.sleep(0.3)  # it is at work
+            is_running = run.poll() is None
+            began = time.monotonic()
+            os.write(terminal.end, b"\x03")
+            run.wait(60)
+            seconds = time.monotonic() - began
+    os.close(terminal.end)
+    found = run.returncode, os.path.getsize(path)
+    right = said == line_of(number) and is_running and found == (-signal.SIGINT, 0) and seconds < 5
+    counting.row(f"Ctrl-C ends a long run in {seconds:.2f} s", [] if right else [f"{said!r} {is_running} {found}"])
+
+
 def main():
     parser = argparse.ArgumentParser()
     parser.add_argument("program")
@@ -170,6 +279,7 @@ def main():
         beside_steps(program)
         at_the_edge(program, given.seed)
         of_many_cells(program)
+        on_terminal(program)
         that_grows(program)
     return counting.ended()
 

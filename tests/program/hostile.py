@@ -1083,7 +1083,10 @@ MISUSED = [
               "convert", "input", "--to", "png"),
     explained("the text for no number of generations", b"the value of --generations is a number from 0 to 2^64 - 1", b"golly_canon step [OPTIONS] <FILE>",
               "step", "input", "--generations", "1e6"),
-    explained("the text for keys of no file", b"a FILE or --from LIST has to be given", b"golly_canon keys [OPTIONS] [FILE]...", "keys"),
+    explained("the text for keys of no file", b"a FILE, --from LIST or --stream STREAM has to be given", b"golly_canon keys [OPTIONS] [FILE]...", "keys"),
+    explained("the text for a stream beside a file", b"--stream can't be used with a FILE, with --from or with -r",
+              b"golly_canon keys [OPTIONS] [FILE]...", "keys", "--stream", "-", "FILE"),
+    explained("the text for duplicates of no file", b"a FILE or --from LIST has to be given", b"golly_canon duplicates [OPTIONS] [FILE]...", "duplicates"),
     Case("the line for a word that is no UTF-8 text", ["canon", NO_TEXT], 5, "error: an argument isn't UTF-8 text: a\ufffdb"),
 ]
 

@@ -4,7 +4,7 @@ import ctypes
 
 from independent import commands, forms
 from shared import c_interface, processes
-from shared.c_interface import AMBIGUOUS, FULL, MEMORY, NO_ROOM, Stream
+from shared.c_interface import AMBIGUOUS, FULL, MEMORY, NO_ROOM, SQUARES, Stream
 
 # The statuses of the program.
 SAME, DIFFERENT, REFUSED, WANTS = 0, 1, 2, 4
@@ -26,15 +26,19 @@ class Program:
     def knows(self, words):
         return True
 
+    def limits(self, words):
+        """Whether these words can be answered within a limit of squares."""
+        return False
+
     def answer(self, words, given):
         """Runs it on these words."""
         found = processes.spawned([self.path, *words], given)
         return commands.Answer(found.status, found.output, found.error.decode("latin-1"))
 
 
-def store():
+def store(limit):
     """The limit of a call's store, and a seed."""
-    return ctypes.c_uint64(c_interface.SQUARES), c_interface.seed()
+    return ctypes.c_uint64(limit), c_interface.seed()
 
 
 def numbers_of(words):
@@ -52,6 +56,7 @@ class Library:
         self.files = {}
         self.room = 1 << 16
         self.calls = None
+        self.limit = SQUARES
 
     def put(self, name, data):
         self.files[name] = data
@@ -59,6 +64,10 @@ class Library:
     def knows(self, words):
         """Whether there is a call for these words: by a table there is none for many generations."""
         return "--table" not in words or "--generations" not in words
+
+    def limits(self, words):
+        """Whether these words are compared within a limit of squares too: other calls at each limit are in tests/library/library.py."""
+        return "--generations" in words
 
     def loaded(self):
         """The library, loaded at the first call in each process, and the memory for its answers."""
@@ -85,12 +94,12 @@ class Library:
 
     def by_call(self, name, data, numbers):
         call = getattr(self.calls, f"golly_canon_{name}")
-        return self.asked(lambda *out: call(data, ctypes.c_size_t(len(data)), *numbers, *store(), *out))
+        return self.asked(lambda *out: call(data, ctypes.c_size_t(len(data)), *numbers, *store(self.limit), *out))
 
     def by_stream(self, name, data, numbers):
         """The same with the file in some eight pieces. A refused piece ends it, as the stream tells the fault again at its end."""
         stream = Stream()
-        status = getattr(self.calls, f"golly_canon_open_{name}")(ctypes.byref(stream), *numbers, *store())
+        status = getattr(self.calls, f"golly_canon_open_{name}")(ctypes.byref(stream), *numbers, *store(self.limit))
         size = len(data) // 8 + 1
         for at in range(0, len(data), size):
             piece = data[at: at + size]
@@ -103,20 +112,21 @@ class Library:
     def by_table(self, data, table):
         call = self.calls.golly_canon_step_by_table
         lengths = ctypes.c_size_t(len(data)), ctypes.c_size_t(len(table))
-        return self.asked(lambda *out: call(data, lengths[0], table, lengths[1], *store(), *out, ctypes.byref(self.flag)))
+        return self.asked(lambda *out: call(data, lengths[0], table, lengths[1], *store(self.limit), *out, ctypes.byref(self.flag)))
 
     def compared(self, one, other, numbers):
         call = self.calls.golly_canon_same_form if numbers else self.calls.golly_canon_same
         sizes = ctypes.c_size_t(len(one)), ctypes.c_size_t(len(other))
         answered = ctypes.byref(self.flag), ctypes.byref(self.line)
-        status = call(one, sizes[0], other, sizes[1], *numbers, *store(), *answered)
+        status = call(one, sizes[0], other, sizes[1], *numbers, *store(self.limit), *answered)
         if status:
             return self.refusal(status, False)
         return commands.Answer(SAME, b"same\n") if self.flag.value else commands.Answer(DIFFERENT, b"different\n")
 
-    def answer(self, words, given):
-        """Calls the library as these words of the program say. `-` is the file whose name is given."""
+    def answer(self, words, given, limit=SQUARES):
+        """Calls the library as these words of the program say, within so many squares. `-` is the file whose name is given."""
         self.loaded()
+        self.limit = limit
         numbers = numbers_of(words)
         first = self.files[given if words[1] == "-" else words[1]]
         if words[0] == "same":

@@ -5,9 +5,11 @@ which `sha256sum` writes of a file of that name with that text.
 
 usage: tests/program/keys.py PROGRAM [--cases N] [--seed SEED]
 
-The rows are: forms and the order of files; generations that are ignored; lists (`--from`), with both ends; objects (`--json`), which Python's `json` reads; odd names; files that are refused, and that can't be opened or read; the
-statuses; outputs that fail; the line of progress on a terminal; N random files of both formats in one process; and 100,000 names in one process,
-within bounds of time and memory. It needs coreutils from 9.0 on, and GNU time. The last line counts the checks.
+The rows are: forms and the order of files; generations that are ignored; lists (`--from`), with both ends; streams (`--stream`), each of whose patterns is
+compared with a file of these bytes; objects (`--json`), which Python's `json` reads; odd names; files that are refused, and that can't be opened or read; the
+statuses; outputs that fail; the line of progress on a terminal; N random files of both formats in one process, and as the patterns of a stream; and 100,000
+names in one process, and as many patterns of a stream, within bounds of time and memory. It needs coreutils from 9.0 on, and GNU time. The last line counts the
+checks.
 """
 
 import argparse
@@ -18,8 +20,10 @@ import json
 import multiprocessing
 import os
 import pty
+import random
 import re
 import shutil
+import signal
 import subprocess
 import sys
 import tempfile
@@ -42,6 +46,8 @@ CLOCK = "/usr/bin/time"
 # Of how many names a run is measured, and what it may take: processor time in seconds, and peak memory as a multiple of the list, beside what the
 # start takes.
 NAMES, SECONDS, TIMES, LITTLE = 100_000, 20, 6, 6_000_000
+# What a stream of as many patterns of 8 x 8 cells may take of the time of as many files, and of memory, however many they are.
+STREAM_SHARE, STREAM_MEMORY = 0.5, 12_000_000
 # Why a file has no key though the program was not let read it.
 ABSENT, LOCKED, FOLDER, OTHER = "no such file", "permission denied", "is a folder", "can't be opened"
 # The same of a name that isn't UTF-8 text, and what the end of a run over folders says of such names.
@@ -415,6 +421,75 @@ def list_rows(place):
         place.row(f"a list that can't be read: {name}", words, Answer(3, b"", b"ReadFault\n"))
 
 
+# ---- streams
+
+# How many bytes of a stream are read at once.
+CHUNK = 65536
+
+
+def numbered(pieces):
+    """The patterns of a stream as files: each has its number for a name."""
+    return [(b"%d" % number, data) for number, data in enumerate(pieces, 1)]
+
+
+def padded(data, length):
+    """A pattern of so many bytes: a comment is put before the first line."""
+    return b"#C" + b"c" * (length - len(data) - 3) + b"\n" + data
+
+
+def stream_rows(place):
+    glider, pair = SMALL[b"glider"], SMALL[b"pair.mc"]
+    pieces = [*SMALL.values(), b"", *LATER.values(), b"\x1f\x8bx", b"<html>", b"x = 2, y = 2\n2o$\n", glider + glider]
+    for form, more, last in itertools.product(("placed", "moved", "turned"), ([], [AT_START]), ([], [pair], [b"bad"])):
+        outcome = outcome_at_start if more else outcome_of
+        files = numbered(pieces + last)
+        stream = listed(pieces, b"\0") + b"".join(last)
+        words = ["--form", form, *more]
+        name = f"{form}, {' '.join(more) or 'with generations'}, {len(last)} pattern without its end"
+        place.row(f"a stream: {name}", [*words, "--stream", "-"], wanted(files, form, outcome=outcome), stream)
+        place.row(f"a stream whose keys end in NUL: {name}", ["--zero", "--stream=-", *words], wanted(files, form, True, outcome), stream)
+        found = place.run(["--json", "--stream", "-", *words], stream)
+        counting.row(f"the objects of a stream: {name}", object_problems(found, files, form, outcome))
+        place.put(b"stream", stream)
+        place.row(f"a stream in a file: {name}", [*words, "--stream", "stream"], wanted(files, form, outcome=outcome))
+    for name, stream, given in (("empty", b"", []), ("one NUL", b"\0", [b""]), ("NULs alone", b"\0\0\0", [b"", b"", b""]), ("one pattern", glider, [glider]),
+                                ("one pattern and its end", glider + b"\0", [glider]), ("nothing between two", glider + b"\0\0" + glider, [glider, b"", glider])):
+        place.row(f"a stream: {name}", ["--stream", "-"], wanted(numbered(given)), stream)
+        counting.row(f"its objects: {name}", object_problems(place.run(["--json", "--stream", "-"], stream), numbered(given)) if given else [])
+    for length in range(CHUNK - 3, CHUNK + 3):
+        given = [padded(glider, length), pair, padded(pair[5:], 2 * CHUNK - length), glider, padded(glider, 3 * CHUNK)]
+        place.row(f"a pattern of {length} bytes", ["--stream", "-"], wanted(numbered(given)), listed(given, b"\0"))
+    for name, why in (("absent", ABSENT), (".", FOLDER)):
+        place.row(f"a stream that can't be opened: {name}", ["--stream", name], wanted([(name.encode(), why)]))
+        counting.row(f"its object: {name}", object_problems(place.run(["--json", "--stream", name]), [(name.encode(), why)]))
+    slow = "; ".join(f"printf '{part}'; sleep 0.05" for part in ("x = 3, y =", " 3\\nbo$2b", "o$3o!\\0x", " = 1, y = 1\\no!", "\\0"))
+    answer = wanted(numbered([glider[:-1], b"x = 1, y = 1\no!"]))
+    counting.row("a stream that comes slowly", problems_of(place.shell(f'({slow}) | "$program" keys --stream -'), answer))
+    for words in (["--stream"], ["--stream", "-", "glider"], ["glider", "--stream", "-"], ["--stream", "-", "--from", "list"], ["--stream", "-", "-r"],
+                  ["--stream", "-", "--stream", "-"], ["--stream", "-", "-"], ["--stream", "-", "--form", "mirrored"]):
+        place.row(f"a stream that is misused: {' '.join(words)}", words, MISUSED, glider)
+    device_answers_of_stream(place, glider)
+
+
+def device_answers_of_stream(place, glider):
+    """A stream whose keys nobody takes, whose reader leaves, and one that is interrupted: what came before is whole."""
+    place.put(b"stream", listed([glider] * 1000, b"\0"))
+    counting.row("a stream on a full output", problems_of(place.shell('"$program" keys --stream stream > /dev/full'), Answer(3, b"", b"WriteFault\n")))
+    found = place.shell('"$program" keys --stream stream | head -n 1; exit ${PIPESTATUS[0]}')
+    counting.row("a stream whose reader leaves", problems_of(found, Answer(3, key_line(key_of(GLIDER), b"1"), b"")))
+    with subprocess.Popen([place.program, "keys", "--stream", "-"], stdin=subprocess.PIPE, stdout=subprocess.PIPE, stderr=subprocess.PIPE, bufsize=0) as it:
+        lines = []
+        for _ in range(3):
+            it.stdin.write(glider + b"\0")
+            lines.append(it.stdout.readline())
+        it.send_signal(signal.SIGINT)
+        left = it.stdout.read() + it.stderr.read()
+        status = it.wait(timeout=60)
+    right = [key_line(key_of(GLIDER), b"%d" % number) for number in (1, 2, 3)]
+    counting.row("each key is written as soon as its pattern has ended", [] if lines == right else [repr(lines)])
+    counting.row("a stream that is interrupted", [] if status == -signal.SIGINT and not left else [repr((status, left))])
+
+
 # ---- names
 
 ODD = [b"back\\slash", b"line\nfeed", b"carriage\rreturn", b"tab\tname", "\u00e9t\u00e9 \u4e2d\u6587 \U0001f600".encode(), b" spaces ", b"*star",
@@ -727,6 +802,12 @@ def random_rows(place, seed, count):
         answer = answer_of_random(named, files)
         counting.row(f"{len(named)} random files without their generations, {form}",
                      problems_of(place.run([AT_START, "--form", form, "--from", "-"], listed(named)), answer))
+        pieces = {b"%d" % number: files[name] for number, name in enumerate((name for name in named if b"\0" not in files[name][0]), 1)}
+        stream = listed([data for data, _ in pieces.values()], b"\0")
+        for words, chosen in (([], form), ([AT_START], (form, AT_START))):
+            answer = answer_of_random({number: outcomes[chosen] for number, (_, outcomes) in pieces.items()}, pieces)
+            counting.row(f"{len(pieces)} random patterns of a stream, {' '.join([form, *words])}",
+                         problems_of(place.run([*words, "--form", form, "--stream", "-"], stream), answer))
     counting.row("some of them are moved and some turned", [] if counts[0] > counts[1] > counts[2] else [repr(counts)])
 
 
@@ -748,6 +829,35 @@ def many_rows(place, measured):
     took = f": {elapsed} s, {user + system:.2f} s of processor time, {kilobytes / 1024:.1f} MB"
     counting.row("the time that they take", [] if user + system < SECONDS else [took], took)
     counting.row("the memory that they take", [] if 1024 * kilobytes < bound else [f"{took}, and {bound} bytes are the bound"], took)
+
+
+def times_of(place, measured, words, answer, name):
+    """The seconds of processor time and the bytes of memory that a run takes."""
+    clocked = [CLOCK, "-q", "-f", "%M %U %S", "-o", measured, place.program, "keys", *words]
+    counting.row(name, problems_of(processes.run(clocked, cwd=place.here, timeout=300), answer))
+    with open(measured, encoding="utf-8") as it:
+        kilobytes, user, system = map(float, it.read().split())
+    return user + system, 1024 * kilobytes
+
+
+def many_pieces_rows(place, measured):
+    """A stream of many small patterns, and what it takes beside as many files."""
+    chance = random.Random("many")
+    rows = [[bytes(chance.choice(b"bo") for _ in range(8)) for _ in range(8)] for _ in range(NAMES // 100)]
+    some = [b"x = 8, y = 8, rule = B3/S23\n%s!\n" % b"$".join(soup) for soup in rows]
+    names = [b"soup%d" % number for number in range(len(some))]
+    for name, data in zip(names, some):
+        place.put(name, data)
+    keys = [outcome_of(data, "placed")[1] for data in some]
+    place.put(b"list", listed(names * 100))
+    answer = Answer(0, b"".join(key_line(key, name) for key, name in zip(keys * 100, names * 100)), b"")
+    files, _ = times_of(place, measured, ["--from", "list"], answer, f"{NAMES} files of 8 x 8 cells")
+    place.put(b"stream", listed(some * 100, b"\0"))
+    answer = Answer(0, b"".join(key_line(key, b"%d" % number) for number, key in enumerate(keys * 100, 1)), b"")
+    stream, memory = times_of(place, measured, ["--stream", "stream"], answer, f"{NAMES} patterns of 8 x 8 cells in a stream")
+    took = f": {stream:.2f} s of processor time, {files:.2f} s as files, and {memory / 2**20:.1f} MB"
+    counting.row("the time that the patterns of a stream take", [] if stream <= STREAM_SHARE * files else [took], took)
+    counting.row("the memory that they take", [] if memory <= STREAM_MEMORY else [took], took)
 
 
 def main():
@@ -775,6 +885,7 @@ def main():
         refused_rows(small)
         standard_input_rows(small)
         list_rows(small)
+        stream_rows(small)
         name_rows(odd, texts.here)
         odd_object_rows(odd)
         object_rows(small)
@@ -783,6 +894,7 @@ def main():
         progress_rows(small)
         random_rows(some, options.seed, options.cases)
         many_rows(small, os.path.join(folder, "measured"))
+        many_pieces_rows(small, os.path.join(folder, "measured"))
     return counting.ended()
 
 

@@ -327,6 +327,10 @@ TWICE = [
 ]
 
 
+# The line that `step --generations` shows and clears, which tests/program/generations.py tests.
+MAKING = re.compile(rb"\rmaking \d+ generations?; [^\r\n]*\r\x1b\[K")
+
+
 def on_terminal(place, words, source=b"", **how):
     """A run whose standard error alone is a terminal."""
     with tempfile.TemporaryFile() as given:
@@ -344,7 +348,7 @@ def from_stream(place, words, given, **how):
             os.close(terminal)
             errors = keys.read_all(end)
         output.seek(0)
-        return Answer(run.returncode, output.read(), errors)
+        return Answer(run.returncode, output.read(), MAKING.sub(b"", errors))
 
 
 def explanation_rows(place):
