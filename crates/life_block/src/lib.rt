@@ -1,10 +1,28 @@
-//! The next generation of a square under a B/S rule, by squares: the next states of a square amid its eight neighbours are four squares of
-//! next states, each amid the quarters around it.
+//! One generation of a pattern, square by square: the next states of a square amid its eight neighbours are four squares of next states.
 //!
-//! A `Nine` is a square amid its neighbours, a `Sixteen` four rows of four squares, whose middle four have all their neighbours. Where nine
-//! squares are blank, the next states of the one in their middle are blank too. Where the sixteen have level 3, `leaf` reads the eight rows of
-//! each as a word, `leaf_words` makes words of their neighbours, and `counts` computes the next states of 64 cells at once. The words of a
-//! square of level 2 or 3 that is alone in the middle of the plane are made of its own cells.
+//! This crate answers what the next generation of a square is without visiting its cells one by one: it remembers the answer for the same nine squares, and at
+//! the bottom it steps the 64 cells of a word at once.
+//!
+//! Begin here:
+//!
+//! 1. [`next_life_generation`] returns the next generation under a B/S rule. It refuses too many cells (you say how many), and cells that leave the plane.
+//! 2. [`next_life_square`] does the same without these two checks, for a square that is smaller than the plane: the result is one level higher.
+//! 3. [`next_law_generation`] takes any `Law` of `life_sweep`, such as a rule table. It goes square by square where squares occur often.
+//! 4. [`next_word`] steps the 64 cells of a word, amid the words of their neighbours ([`NineWords`]).
+//!
+//! An example: a glider under B3/S23, as a macrocell file writes a square of level 3, now and one generation later (trimmed to that level).
+//!
+//! ```text
+//! $$$$.....*$......*$....***$$    becomes    $$$$$....*.*$.....**$.....*$
+//! ```
+//!
+//! Inside, a `Nine` is a square amid its neighbours, and a `Sixteen` four rows of four squares, of which the middle four have all their neighbours. Nine blank
+//! squares have a blank answer. `leaf` reads sixteen squares of level 3 as words, `leaf_words` makes the words of their neighbours, and `counts` counts.
+//!
+//! It doesn't know pattern files, tables, or which generation it is. It calls `life_sweep` where a cell is at the edge of the plane. Above it, `life_step`
+//! makes one generation of a file, and `life_leap` makes many.
+//!
+//! Read first: `specs/Pieces.antt` (the square at a place), `src/generation.rt`, `src/blocks.rt`, and `src/counts.rt`.
 #![tactic(auto)]
 
 mod blocks;

@@ -1,16 +1,23 @@
 //! A pattern any number of generations later, under a B/S rule.
 //!
-//! - What it answers: [`later`] returns the cells of a square n generations later, for each n below 2^64. It refuses exactly if a cell would be outside the
-//!   plane in one of these generations, or if memory or the limit of the store doesn't suffice. There is no limit on the number of cells.
-//! - How: n is divided into leaps of `life_leap`, each a power of two. A leap is at most as long as the distance of the pattern to the edge of the plane, so
-//!   that no cell can leave the plane unseen. Where that distance is 0, it makes a single generation of the whole plane.
-//! - Memory: `later` keeps each square of each leap in the caller's store. [`later_in_stages`] returns the same cells, but goes on in a fresh store once
-//!   the leaps have more than doubled a large one.
-//! - Types: a square is an `Id` in a store (`SharedSquares` of `life_quad`), a rule is a `LifeRule`, and an error is a `Fault` without a line number.
-//! - An example: with the square of a glider, `later(alloc, &mut store, &rule, glider, 1_000_000)` returns the square of the glider 250,000 cells
-//!   further east and south.
-//! - The generations of a plane are `after rule n cells` of `life_leap`; `LeavesWithin` in `specs/Course.antt` says what it is to leave the plane.
-//! - It knows nothing of files or of the generation that a pattern is in, and takes no rules by tables.
+//! This crate answers which cells a square has n generations later, for each n below 2^64. It refuses exactly if a cell would be outside the plane in one of
+//! these generations, or if memory or the limit of the store doesn't suffice. There is no limit on the number of cells.
+//!
+//! Begin here. A square is an Id in a store of `life_quad`, a rule is a `LifeRule`, and an error is a `Fault` without a line number:
+//!
+//! 1. [`later`] returns the square n generations later, and keeps each square of each leap in your store.
+//! 2. [`later_in_stages`] returns the same cells, but goes on in a fresh store once the leaps have more than doubled a large one.
+//!
+//! An example: with the square of a glider, `later(alloc, &mut store, &rule, glider, 1_000_000)` returns the square of the glider 250,000 columns further east
+//! and 250,000 rows further south.
+//!
+//! Inside, n is divided into leaps, each a power of two. A leap is at most as long as the distance of the pattern to the edge of the plane, so that no cell can
+//! leave the plane unseen. Where that distance is 0, it makes a single generation of the whole plane.
+//!
+//! It doesn't know files, the generation that a pattern is in, or rules by tables. It uses the leaps of `life_leap`. Above it, `life_generations` takes a file
+//! further, and `life_phases` finds its period.
+//!
+//! Read first: `specs/Course.antt` (`LeavesWithin` says what it is to leave the plane), `src/course.rt`, and `src/stages.rt`.
 #![tactic(auto)]
 
 mod course;
