@@ -1,4 +1,27 @@
-//! The program `golly_canon`: its words, its files, and what it leaves to `life_cli`.
+//! The program `golly_canon`: its arguments as text, its files and streams, and what a terminal shows.
+//!
+//! This crate is where the program meets the system. What a command writes is answered by `life_cli` and `file_keys`; this crate opens their files, lends them
+//! standard output and standard error, and ends with the status that they return.
+//!
+//! Begin here, in the order in which a run calls them:
+//!
+//! 1. `main` (in this file) reserves streams that are closed, and reads the arguments (`arguments`).
+//! 2. `run` asks `command_line` what they ask for, and prints a text of `clap` or a line if they ask for nothing that can be done.
+//! 3. `do_task` (in `tasks`) draws two seeds, opens the files (`opening`), and carries out a task on one file or two.
+//! 4. `list_files` (in `listing`) and `list_stream` (in `streaming`) do so for `keys` and `duplicates`; `folders` finds the files of a folder.
+//! 5. `explaining` and `closing` write the sentences that come after a refusal or at the end of a run.
+//!
+//! An example: two files of one glider, an RLE file and a macrocell file.
+//!
+//! ```text
+//! $ golly_canon keys one.rle two.mc
+//! 6d49a09978fd167769af106a97e3186cee07cf07e2e4481424797f7ae40b5459  one.rle
+//! 6d49a09978fd167769af106a97e3186cee07cf07e2e4481424797f7ae40b5459  two.mc
+//! ```
+//!
+//! It doesn't know stores, or how a pattern is read or written. It is proved to be safe, and no theorem says what it writes. No crate is above it.
+//!
+//! Read first: `src/tasks.rt`, and then `request` in the crate `command_line` and `carry_out` in `life_cli`.
 #![tactic(auto)]
 
 mod arguments;
