@@ -1,6 +1,13 @@
 //! Answers rows of standard input: tests of the libraries for what is not proved, where they are tables of inputs and answers. The inputs are in the file
 //! `stdin` of this crate and the answers in `stdout`, so that one more row is nothing more to prove.
 //!
+//! Begin here: `printf 'rule|b3s23\n' | rt try` in the folder of this crate answers the row `rule|b3s23`, in which the call `rule` has the input `b3s23`:
+//!
+//! ```text
+//! Life B3/S23
+//! 1 rows
+//! ```
+//!
 //! A row is the name of a call, `|` and an input, whose bytes are written so:
 //!
 //! - `;` is a line feed;
@@ -8,10 +15,15 @@
 //! - `\NUMBER*` means so many times the byte that is written after it.
 //!
 //! An input of several parts has another `|` between each two. The calls `shared`, `new` and `plain` are stores: their input is the limit of a store, how many
-//! times the steps are taken, and the steps, one a line. (`calls` and `steps` list the names.)
+//! times the steps are done, and the steps, one a line. (`calls` and `steps` list the names.)
 //!
 //! Each row is answered by a line, and a last line says how many there were. Rows that begin with `#` are comments. A call that is out of memory is answered
 //! `Memory`, and a row that gets no memory for its own input or answer `no memory`. What isn't a row is answered `no row`, which no row is answered with.
+//!
+//! It doesn't know the command line: each call goes to a library from `life_base` to `life_periods`. No crate is above it; the tests compare its answers with
+//! `stdout`.
+//!
+//! Read first: `src/calls.rt` (the calls), `src/steps.rt` (the steps on squares), and the file `stdin`.
 #![tactic(auto)]
 
 mod answer;
