@@ -156,6 +156,16 @@ patterns/shifted.rle"
     equal "standard error" "$(sort "$folder/err")" "$refused"
     verdict "duplicates of a folder, in $shell" "$problems"
 
+    # The first file of the group stays, and another file of one of the names that go is there already.
+    mkdir sorted sorted/aside && cp -r patterns sorted && echo "kept" > sorted/aside/glider.mc && cd sorted || exit 1
+    recipe aside
+    equal "the files that stay" "$(find patterns -type f | LC_ALL=C sort | tr '\n' ' ')" "patterns/a folder/\$(other) 'name'.mc patterns/empty patterns/gun.mc \
+patterns/later.mc patterns/more patterns/notes "
+    equal "the files that go" "$(ls -A aside | tr '\n' ' ')" "glider.mc glider.mc.~1~ glider.rle of two lines.rle shifted.rle "
+    equal "what is set aside" "$(cat aside/glider.mc.~1~; cmp aside/glider.mc ../patterns/glider.mc)" kept
+    cd .. && rm -r sorted
+    verdict "duplicates set aside, in $shell" "$problems"
+
     # Golly's script, which no test runs, takes the lines of this table apart.
     recipe golly 2 # some files aren't patterns
     equal "the lines of a table" "$(grep -cxE "[0-9a-f]{64}  $PWD/patterns/[a-z.]+" "$HOME/keys")" 5
