@@ -69,8 +69,8 @@ rle_back lines pattern e = elim (rle_decided 62 lines).0 [
   | inr (inl h) ↦ absurd (not_both (read_lines with_rle_line end_of_rle 1 begun lines) pattern (claimed_fault_at (1 + length lines) kinds.NoHeader) e
       (rle_lacks lines h.0 h.1))
   | inr (inr h) ↦
-      absurd (not_both (read_lines with_rle_line end_of_rle 1 begun lines) pattern (claimed_fault_at (1 + length h.front) h.kind) e
-      (ap (read_lines with_rle_line end_of_rle 1 begun) h.whole ∙ rle_refuses h.front h.rest h.line h.kind h.breaks))
+      absurd (not_both (read_lines with_rle_line end_of_rle 1 begun lines) pattern (claimed_fault_at (1 + length h.prefix) h.kind) e
+      (ap (read_lines with_rle_line end_of_rle 1 begun) h.whole ∙ rle_refuses h.prefix h.rest h.line h.kind h.breaks))
 ]
 
 -- ---- leaves

@@ -1,4 +1,4 @@
--- The lines before a refused one are the front of a file.
+-- The lines before a refused one are a prefix of a file.
 use Rattle.std.proofs.Common.{◌≡◌, ℕ, zero, suc, ◌+◌, ◌-◌, ◌<◌, min, List, [], ◌∷◌, ◌++◌, length, take, Bool, true, false, cond, not, ◌&&◌, refl, ap, ◌∙◌, sym, subst, arith, inl, inr, ◌==◌, Result, Ok, Err, IsOk, codes, append-nil}
 use Rattle.std.specs.List.{list_all}
 use Rattle.std.proofs.lemmas.Bool.{and_from, cases_Bool}
@@ -40,16 +40,16 @@ no_feeds (b ∷ bytes) = by (b == 10) refl (lines_of bytes) (no_feeds bytes)
     by true e lines h = h
     by false e lines h = onto lines e h
 
-front_no_feeds : (lines : List (List ℕ)) (n : ℕ) → list_all has_no_feed lines ≡ true → list_all has_no_feed (take n lines) ≡ true
-front_no_feeds lines zero h = refl
-front_no_feeds [] (suc n) h = refl
-front_no_feeds (line ∷ lines) (suc n) h = and_from _ _ (left_of_and _ _ h) (front_no_feeds lines n (right_of_and (has_no_feed line) _ h))
+prefix_no_feeds : (lines : List (List ℕ)) (n : ℕ) → list_all has_no_feed lines ≡ true → list_all has_no_feed (take n lines) ≡ true
+prefix_no_feeds lines zero h = refl
+prefix_no_feeds [] (suc n) h = refl
+prefix_no_feeds (line ∷ lines) (suc n) h = and_from _ _ (left_of_and _ _ h) (prefix_no_feeds lines n (right_of_and (has_no_feed line) _ h))
 
--- the lines of a front, and of what comes after it
-front_lines : (bytes more : List ℕ) (n : ℕ) → lines_of (lines_with_feeds (take n (lines_of bytes)) ++ more) ≡ take n (lines_of bytes) ++ lines_of more
-front_lines bytes more n =
+-- the lines of a prefix, and of what comes after it
+prefix_lines : (bytes more : List ℕ) (n : ℕ) → lines_of (lines_with_feeds (take n (lines_of bytes)) ++ more) ≡ take n (lines_of bytes) ++ lines_of more
+prefix_lines bytes more n =
     ap (λ (t : List ℕ). lines_of (t ++ more)) (ended_is (take n (lines_of bytes)))
-    ∙ lines-joined (take n (lines_of bytes)) more (front_no_feeds (lines_of bytes) n (no_feeds bytes))
+    ∙ lines-joined (take n (lines_of bytes)) more (prefix_no_feeds (lines_of bytes) n (no_feeds bytes))
 
 -- ---- the lines before a fault
 
@@ -142,12 +142,12 @@ mc_goes_on : (bytes : List ℕ) (m : ℕ) (kind : Kind) → begins_with bytes (c
 mc_goes_on bytes zero kind f h e = (codes "[M2]", is_ok (pattern_of (codes "[M2]")) blank blank_is)
 mc_goes_on bytes (suc m) kind f h e =
     let some = some_mc (lines_of bytes) m kind h (sym (as_mc bytes f) ∙ e) in
-    let front = lines_with_feeds (take (suc m) (lines_of bytes)) ++ [] in
-    let lines : lines_of front ≡ take (suc m) (lines_of bytes) = front_lines bytes [] (suc m) ∙ append-nil (take (suc m) (lines_of bytes)) in
-    let format : begins_with front (codes "[M2]") ≡ true =
-    first_is front (take (suc m) (lines_of bytes)) lines ∙ ap (λ (t : List ℕ). begins_with t (codes "[M2]")) (first_same (lines_of bytes) m)
+    let prefix = lines_with_feeds (take (suc m) (lines_of bytes)) ++ [] in
+    let lines : lines_of prefix ≡ take (suc m) (lines_of bytes) = prefix_lines bytes [] (suc m) ∙ append-nil (take (suc m) (lines_of bytes)) in
+    let format : begins_with prefix (codes "[M2]") ≡ true =
+    first_is prefix (take (suc m) (lines_of bytes)) lines ∙ ap (λ (t : List ℕ). begins_with t (codes "[M2]")) (first_same (lines_of bytes) m)
     ∙ sym (first_is bytes (lines_of bytes) refl) ∙ f in
-    ([], is_ok (pattern_of front) some.0 (as_mc front format ∙ ap macrocell_of lines ∙ some.1))
+    ([], is_ok (pattern_of prefix) some.0 (as_mc prefix format ∙ ap macrocell_of lines ∙ some.1))
   where
     first_same : (lines : List (List ℕ)) (m : ℕ) → first_line_of (take (suc m) lines) ≡ first_line_of lines
     first_same [] m = refl
@@ -158,14 +158,14 @@ blank_header : (position : PositionFields) → with_rle_line (before_header posi
 unfolding with_rle_line
 blank_header position = refl
 
-abbrev Front : List ℕ → ℕ → List ℕ
-Front bytes m = lines_with_feeds (take m (lines_of bytes))
+abbrev FirstLines : List ℕ → ℕ → List ℕ
+FirstLines bytes m = lines_with_feeds (take m (lines_of bytes))
 
--- a front of lines that are no macrocell file is none, with or without a header after it
+-- a prefix of lines that are no macrocell file is none, with or without a header after it
 no_mc : (bytes : List ℕ) (m : ℕ) (more : List ℕ) → begins_with bytes (codes "[M2]") ≡ false
-    → begins_with (first_line_of (lines_of more)) (codes "[M2]") ≡ false → begins_with (Front bytes m ++ more) (codes "[M2]") ≡ false
+    → begins_with (first_line_of (lines_of more)) (codes "[M2]") ≡ false → begins_with (FirstLines bytes m ++ more) (codes "[M2]") ≡ false
 no_mc bytes m more f g =
-    first_is (Front bytes m ++ more) (take m (lines_of bytes) ++ lines_of more) (front_lines bytes more m)
+    first_is (FirstLines bytes m ++ more) (take m (lines_of bytes) ++ lines_of more) (prefix_lines bytes more m)
     ∙ at (lines_of bytes) m (sym (first_is bytes (lines_of bytes) refl) ∙ f)
   where
     at : (lines : List (List ℕ)) (m : ℕ) → begins_with (first_line_of lines) (codes "[M2]") ≡ false
@@ -188,10 +188,10 @@ rle_goes_on bytes m kind f h e = by l.0 l.1
 
     whole : (more : List ℕ) (next : Lines) (pattern : Pattern) → begins_with (first_line_of (lines_of more)) (codes "[M2]") ≡ false
         → Runs with_rle_line begun (take m (lines_of bytes) ++ lines_of more) next → end_of_rle next ≡ Ok pattern
-        → IsOk (pattern_of (Front bytes m ++ more))
+        → IsOk (pattern_of (FirstLines bytes m ++ more))
     whole more next pattern g r p =
-        is_ok (pattern_of (Front bytes m ++ more)) pattern
-        (as_rle (Front bytes m ++ more) (no_mc bytes m more f g) ∙ ap (read_lines with_rle_line end_of_rle 1 begun) (front_lines bytes more m)
+        is_ok (pattern_of (FirstLines bytes m ++ more)) pattern
+        (as_rle (FirstLines bytes m ++ more) (no_mc bytes m more f g) ∙ ap (read_lines with_rle_line end_of_rle 1 begun) (prefix_lines bytes more m)
         ∙ ended_behind with_rle_line end_of_rle begun next (take m (lines_of bytes) ++ lines_of more) 1 r
         ∙ ap (on_line (1 + length (take m (lines_of bytes) ++ lines_of more))) p)
 
@@ -215,9 +215,9 @@ rle_goes_on bytes m kind f h e = by l.0 l.1
           (subst (λ (t : List (List ℕ)). Runs with_rle_line begun t (after_end file)) (nothing_more (take m (lines_of bytes))) r) refl,
     )
 
-pub fronts_go_on : PrefixesGoOn
-fronts_go_on bytes zero kind some h e = absurd (omega arith)
-fronts_go_on bytes (suc m) kind some h e =
+pub prefixes_go_on : PrefixesGoOn
+prefixes_go_on bytes zero kind some h e = absurd (omega arith)
+prefixes_go_on bytes (suc m) kind some h e =
     let same : suc m - 1 ≡ m = omega arith in
     subst (λ k. (more : List ℕ) × IsOk (pattern_of (lines_with_feeds (take k (lines_of bytes)) ++ more))) (sym same)
     (elim (cases_Bool (begins_with bytes (codes "[M2]"))) [ inl f ↦ mc_goes_on bytes m kind f h e | inr f ↦ rle_goes_on bytes m kind f h e ])

@@ -202,17 +202,17 @@ macrocell_refuses (header ∷ rest) zero kind h u b =
     ap (λ (found : Result ClaimedMacrocell Kind). on_line 1 found >>= λ (f : ClaimedMacrocell). read_lines with_macrocell_line end_of 2 f rest)
     (first_err header kind b)
 macrocell_refuses (header ∷ rest) (suc k) kind h u b =
-    let front = take k rest in
-    let short : length front ≡ k = length-take-le k rest (omega arith) in
-    let r = runs front (header ∷ []) begun refl (begun_stands header)
+    let prefix = take k rest in
+    let short : length prefix ≡ k = length-take-le k rest (omega arith) in
+    let r = runs prefix (header ∷ []) begun refl (begun_stands header)
     (λ i l. let below : i < k = omega (arith, short) in
-    ap (λ (t : List (List ℕ)). broken_rule 62 (header ∷ t) (slice_index_or front i [])) (take_take rest i k below)
+    ap (λ (t : List (List ℕ)). broken_rule 62 (header ∷ t) (slice_index_or prefix i [])) (take_take rest i k below)
     ∙ ap (λ (t : List ℕ). broken_rule 62 (header ∷ take i rest) t) (index_take rest i k below) ∙ u (suc i) (omega arith)) in
     first_read header rest (first_is header (u 0 (omega arith)))
     ∙ ap (read_lines with_macrocell_line end_of 2 begun) (cut_at rest k (omega arith))
-    ∙ refused_behind with_macrocell_line end_of begun r.0 front (drop (suc k) rest) (slice_index_or rest k []) kind 2 r.1
-    (step_err (header ∷ front) r.0 (slice_index_or rest k []) refl r.2 kind b)
-    ∙ ap (λ n. Err (claimed_fault_at n kind)) (let e : 2 + length front ≡ suc k + 1 = omega (arith, short) in e)
+    ∙ refused_behind with_macrocell_line end_of begun r.0 prefix (drop (suc k) rest) (slice_index_or rest k []) kind 2 r.1
+    (step_err (header ∷ prefix) r.0 (slice_index_or rest k []) refl r.2 kind b)
+    ∙ ap (λ n. Err (claimed_fault_at n kind)) (let e : 2 + length prefix ≡ suc k + 1 = omega (arith, short) in e)
   where
     take_take : (xs : List (List ℕ)) (i n : ℕ) → i < n → take i (take n xs) ≡ take i xs
     take_take xs zero n h = refl

@@ -74,7 +74,7 @@ module _ (rule : LayerRule) (generation : ℕ) (nodes : List Node) (line : List 
       given None None None (no_rule r) (no_generation g) (square_is blank (begins_with line (codes "#")) e refl ∙ s) file
       (record { is_rule = refl; is_generation = refl; are_nodes = sym (append-nil (map line_in nodes)) })
 
-  -- the claims' answer behind the test of the length
+  -- the claims' answer after the test of the length
   abbrev with_short : Result ClaimedMacrocell Kind
   with_short =
       cond (is_blank line) (Ok file)
@@ -88,8 +88,8 @@ module _ (rule : LayerRule) (generation : ℕ) (nodes : List Node) (line : List 
   rule_step : (found : Result LayerRule Kind) → layer_rule_of (drop 2 line) ≡ found → is_claimed_command (codes "#R") line ≡ true
       → Fits P (result_err found) (result_map rule_in found >>= λ r. Ok (record file { rule = r }))
   rule_step (Ok r) e c =
-      let told = rule_parsed_so line r c e in
-      passes _ (given (Some r) None None told.0 told.1 told.2 _
+      let reported = rule_parsed_so line r c e in
+      passes _ (given (Some r) None None reported.0 reported.1 reported.2 _
       (record { is_rule = refl; is_generation = refl; are_nodes = sym (append-nil (map line_in nodes)) }))
   rule_step (Err kind) e c = fails kind
 
@@ -100,8 +100,8 @@ module _ (rule : LayerRule) (generation : ℕ) (nodes : List Node) (line : List 
   generation_step false small r g = fails kinds.BadNumber
   generation_step true false r g = fails kinds.TooLarge
   generation_step true true r g =
-      let told = generation_parsed_so line (value_of (trim (drop 2 line))) r g refl in
-      passes _ (given None (Some (value_of (trim (drop 2 line)))) None told.0 told.1 told.2 _
+      let reported = generation_parsed_so line (value_of (trim (drop 2 line))) r g refl in
+      passes _ (given None (Some (value_of (trim (drop 2 line)))) None reported.0 reported.1 reported.2 _
       (record { is_rule = refl; is_generation = refl; are_nodes = sym (append-nil (map line_in nodes)) }))
 
   node_step : (o : Option Kind) (found : Result (List Node) Kind) → is_blank line ≡ false → begins_with line (codes "#") ≡ false
@@ -194,7 +194,7 @@ module _ (rule : LayerRule) (generation : ℕ) (nodes : List Node) (line : List 
   long_step true = fails kinds.LineTooLong
   long_step false = short_fits
 
-  -- a line behind the first, in both
+  -- a line after the first, in both
   pub line_fits : Fits P broken_line (with_macrocell_line file line)
   unfolding with_macrocell_line
   line_fits = long_step (is_too_long line)

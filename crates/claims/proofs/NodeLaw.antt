@@ -83,7 +83,7 @@ quad_step P false true false children next h = fails kinds.StateRange
 quad_step P false false states true next h = passes next h
 quad_step P false false states false next h = fails kinds.BadChild
 
--- a square behind others, in both
+-- a square after others, in both
 pub node_fits : (rule : LayerRule) (nodes : List Node) (node : Node)
     → Fits (λ next. map line_in next ≡ map line_in nodes ++ line_in node ∷ []) (broken_by_square 62 rule (levels_of nodes) (Some (line_in node)))
     (with_node (rule_in rule) nodes node)
@@ -139,7 +139,7 @@ leaf_is : (text : List ℕ) → (list_all is_claimed_leaf_byte text && list_all 
     ≡ is_leaf text
 leaf_is text = ap (λ v. list_all is_claimed_leaf_byte text && list_all (λ row. nat_le (length row) 8) (leaf_rows text) && v) (end_is (drop 8 (leaf_rows text)))
 
--- the square of a node line behind others, in both
+-- the square of a node line after others, in both
 pub text_fits : (rule : LayerRule) (nodes : List Node) (text : List ℕ)
     → Fits (Adds nodes (square_of_text text)) (broken_by_node 62 rule (levels_of nodes) text) (node_of text >>= λ node. with_node (rule_in rule) nodes node)
 text_fits rule nodes text =

@@ -35,7 +35,7 @@ space_text b bytes h = by (three (b == 32) (b == 9) (b == 13) refl refl refl h)
     by (inr (inl e)) = at 9 refl e
     by (inr (inr e)) = at 13 refl e
 
--- whitespace in front is passed over
+-- whitespace at the beginning is passed over
 spaces : (file : ClaimedRle) (bytes : List ℕ) → with_texts file (claimed_texts_of bytes) ≡ with_texts file (claimed_texts_of (trim_start bytes))
 spaces file [] = refl
 spaces file (b ∷ bytes) = elim (cases_Bool (is_whitespace b)) [
@@ -52,7 +52,7 @@ spaces file (b ∷ bytes) = elim (cases_Bool (is_whitespace b)) [
         (cond (bytes_eq (b ∷ []) (codes "!")) (Ok (after_end file))
         (claimed_item_of (b ∷ []) >>= λ item. with_item file item >>= λ next. with_texts next texts))) e
 
--- what stands in front after whitespace is none
+-- what stands at the beginning after whitespace is none
 trimmed_first : (bytes : List ℕ) (b : ℕ) (rest : List ℕ) → trim_start bytes ≡ b ∷ rest → is_whitespace b ≡ false
 trimmed_first [] b rest e = cc
 trimmed_first (a ∷ bytes) b rest e = elim (cases_Bool (is_whitespace a)) [
@@ -122,7 +122,7 @@ with_more : (file : LayerRle) (item : LayerItem) (items : List LayerItem)
     → with_items (with_items file (item ∷ [])) items ≡ with_items file (item ∷ items)
 with_more file item items = ap (λ (t : List LayerItem). record file { items = t }) (append_assoc file.items (item ∷ []) items)
 
--- the items that bytes spell, none of which breaks a rule, and what stands behind them
+-- the items that bytes spell, none of which breaks a rule, and what comes after them
 pub spelled_is : (items : List LayerItem) (bytes : List ℕ) (file : LayerRle) (last : Next) → Spells 62 bytes items last
     → first_fault 62 file.rule (placed_after file.position file.items items) ≡ None
     → with_texts (file_in file) (claimed_texts_of bytes) ≡ from_here (with_items file items) last

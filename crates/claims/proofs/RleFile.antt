@@ -200,16 +200,17 @@ unmarked_runs lines file b =
 
 marked_runs : (lines : List (List ℕ)) (file : LayerRle) → IsMarked 62 lines file → Runs with_rle_line begun lines (after_end (file_in file))
 marked_runs lines file b =
-    let front : LayerRle = record file { items = b.earlier } in
+    let prefix : LayerRle = record file { items = b.earlier } in
     let none = no_fault file.rule file.position [] b.earlier b.final file.items b.items b.sound in
-    let same : with_items front b.final ≡ file = ap (λ (t : List LayerItem). record file { items = t }) (sym b.items) in
-    let last : Runs with_rle_line (after_header (file_in front)) (b.last ∷ b.free) (after_end (file_in file)) = (
+    let same : with_items prefix b.final ≡ file = ap (λ (t : List LayerItem). record file { items = t }) (sym b.items) in
+    let last : Runs with_rle_line (after_header (file_in prefix)) (b.last ∷ b.free) (after_end (file_in file)) = (
       after_end (file_in file),
-      last_is front b.last b.final b.marked none.1 ∙ ap (λ (f : LayerRle). Ok (after_end (file_in f))) same,
+      last_is prefix b.last b.final b.marked none.1 ∙ ap (λ (f : LayerRle). Ok (after_end (file_in f))) same,
       free_runs b.free file,
     ) in
     subst (λ (t : List (List ℕ)). Runs with_rle_line begun t (after_end (file_in file))) (sym b.whole)
-    (runs_on with_rle_line begun (after_header (file_in front)) (after_end (file_in file)) b.front (b.last ∷ b.free) (unmarked_runs b.front front b.begun) last)
+    (runs_on with_rle_line begun (after_header (file_in prefix)) (after_end (file_in file)) b.prefix (b.last ∷ b.free)
+    (unmarked_runs b.prefix prefix b.begun) last)
 
 -- what a file says, in both
 pub record SaysRle (lines : List (List ℕ)) (file : LayerRle) (pattern : Pattern) : Type 0 where
@@ -237,30 +238,30 @@ rle_says lines file valid = (
 
 -- lines lead somewhere, where this line has this fault
 abbrev Fails : List (List ℕ) → List ℕ → Kind → Type 0
-Fails front line kind = (said : Lines) × Runs with_rle_line begun front said × (with_rle_line said line ≡ Err kind)
+Fails prefix line kind = (said : Lines) × Runs with_rle_line begun prefix said × (with_rle_line said line ≡ Err kind)
 
-breaks_fails : (front : List (List ℕ)) (line : List ℕ) (kind : Kind) → BreaksRle 62 front line kind → Fails front line kind
-breaks_fails front line kind (breaks_before position h e) = (
+breaks_fails : (prefix : List (List ℕ)) (line : List ℕ) (kind : Kind) → BreaksRle 62 prefix line kind → Fails prefix line kind
+breaks_fails prefix line kind (breaks_before position h e) = (
   before_header (position_in position),
-  preamble_runs front default_position position h,
+  preamble_runs prefix default_position position h,
   open_is position line ∙ ap (opened position) e,
 )
-breaks_fails front line kind (by_form file u e) =
-    (after_header (file_in file), unmarked_runs front file u, later_is file line ∙ ap (judged file line) e)
-breaks_fails front line kind (by_text file items u e s sound) =
-    (after_header (file_in file), unmarked_runs front file u, data_is file line items (Broken kind) e s sound)
-breaks_fails front line kind (by_item file items item rest u e s sound fault) = (
+breaks_fails prefix line kind (by_form file u e) =
+    (after_header (file_in file), unmarked_runs prefix file u, later_is file line ∙ ap (judged file line) e)
+breaks_fails prefix line kind (by_text file items u e s sound) =
+    (after_header (file_in file), unmarked_runs prefix file u, data_is file line items (Broken kind) e s sound)
+breaks_fails prefix line kind (by_item file items item rest u e s sound fault) = (
   after_header (file_in file),
-  unmarked_runs front file u,
+  unmarked_runs prefix file u,
   data_is file line items (Spelled item rest) e s sound
       ∙ ap (λ (o : Option Kind). item_answer (with_items file items) item o >>= λ now. with_texts now (claimed_texts_of rest)) fault,
 )
 
 -- a line that breaks a rule is refused
-pub rle_refuses : (front more : List (List ℕ)) (line : List ℕ) (kind : Kind) → BreaksRle 62 front line kind
-    → read_lines with_rle_line end_of_rle 1 begun (front ++ line ∷ more) ≡ Err (claimed_fault_at (1 + length front) kind)
-rle_refuses front more line kind b =
-    let f = breaks_fails front line kind b in refused_behind with_rle_line end_of_rle begun f.0 front more line kind 1 f.1 f.2
+pub rle_refuses : (prefix more : List (List ℕ)) (line : List ℕ) (kind : Kind) → BreaksRle 62 prefix line kind
+    → read_lines with_rle_line end_of_rle 1 begun (prefix ++ line ∷ more) ≡ Err (claimed_fault_at (1 + length prefix) kind)
+rle_refuses prefix more line kind b =
+    let f = breaks_fails prefix line kind b in refused_behind with_rle_line end_of_rle begun f.0 prefix more line kind 1 f.1 f.2
 
 -- lines without a header lack it after the last one
 pub rle_lacks : (lines : List (List ℕ)) (position : LayerPosition) → IsPreamble 62 default_position lines position

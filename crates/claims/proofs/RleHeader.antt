@@ -11,22 +11,22 @@ use Rattle.claims.specs.Rules.{Rule, claimed_rule_of}
 use Rattle.claims.specs.Rle.{after_token, after_digits, claimed_rule_part, claimed_header_of}
 use Rattle.claims.proofs.RuleLaw.{rule_in as rule_in_claims, rule_of_is}
 
-abbrev told : {X : Type 0} → Option X → Result X Kind
-told (Some x) = Ok x
-told None = Err kinds.BadHeader
+abbrev reported : {X : Type 0} → Option X → Result X Kind
+reported (Some x) = Ok x
+reported None = Err kinds.BadHeader
 
-behind_is : (token text : List ℕ) → after_token token text ≡ told (after_word token text)
+behind_is : (token text : List ℕ) → after_token token text ≡ reported (after_word token text)
 behind_is token text = by (begins_with text token)
   where
     by : (v : Bool) → cond v (Ok (trim_start (drop (length token) text))) (Err kinds.BadHeader)
-        ≡ told (cond v (Some (trim_start (drop (length token) text))) None)
+        ≡ reported (cond v (Some (trim_start (drop (length token) text))) None)
     by true = refl
     by false = refl
 
-behind_number_is : (text : List ℕ) → after_digits text ≡ told (after_number text)
+behind_number_is : (text : List ℕ) → after_digits text ≡ reported (after_number text)
 behind_number_is text = by (is_digit_text (leading_digits text))
   where
-    by : (v : Bool) → cond v (Ok (trim_start (after_digits_of text))) (Err kinds.BadHeader) ≡ told (cond v (Some (trim_start (after_digits_of text))) None)
+    by : (v : Bool) → cond v (Ok (trim_start (after_digits_of text))) (Err kinds.BadHeader) ≡ reported (cond v (Some (trim_start (after_digits_of text))) None)
     by true = refl
     by false = refl
 
@@ -36,7 +36,7 @@ ruled form = result_map rule_in_claims (rule_in form)
 
 -- one token more
 module _ (next : List ℕ → Result Rule Kind) (form : List ℕ → Option (Option (List ℕ))) (same : (rest : List ℕ) → next rest ≡ ruled (form rest)) where
-  bound : (found : Option (List ℕ)) → (told found >>= next) ≡ ruled (found >>? form)
+  bound : (found : Option (List ℕ)) → (reported found >>= next) ≡ ruled (found >>? form)
   bound (Some rest) = same rest
   bound None = refl
 

@@ -1,4 +1,4 @@
--- The first text of a line of data is the item that the layer below reads in front of it.
+-- The first text of a line of data is the item that the layer below reads before it.
 use mathlib.Core.Bool.{and-false}
 use Rattle.std.proofs.Common.{◌≡◌, ℕ, suc, ◌+◌, ◌-◌, ◌*◌, ◌^◌, ◌<◌, ◌≤◌, List, [], ◌∷◌, take, drop, Bool, true, false, cond, ◌&&◌, ◌||◌, refl, ap, ◌∙◌, sym, subst, arith, ◌⊎◌, inl, inr, nat_le, nat_lt, ◌==◌, bytes_eq, codes, take_while, Option, Some, None, Result, Ok, Err}
 use Rattle.std.specs.Char.{is_ascii_digit}
@@ -21,7 +21,7 @@ use Rattle.claims.proofs.RlePlane.{item_in}
 abbrev pub inner : ℕ → Bool
 inner b = is_ascii_digit b || nat_le 112 b && nat_le b 121
 
--- the first text, and what stands behind it
+-- the first text, and what comes after it
 abbrev pub text_of : List ℕ → List ℕ
 text_of [] = []
 text_of (b ∷ bytes) = cond (inner b) (b ∷ text_of bytes) (b ∷ [])
@@ -45,7 +45,7 @@ texts_cut b (c ∷ bytes) = ap (λ (t : List (List ℕ)). cond (inner b) (onto_f
     by true e = refl
     by false e = refl
 
--- ---- digits in front
+-- ---- digits at the beginning
 
 abbrev behind : List ℕ → List ℕ
 behind text = drop (prefix_len is_ascii_digit text) text
@@ -66,11 +66,11 @@ behind_digit b t h = ap (λ v. drop (cond v (1 + prefix_len is_ascii_digit t) 0)
 behind_other : (b : ℕ) (t : List ℕ) → is_ascii_digit b ≡ false → behind (b ∷ t) ≡ b ∷ t
 behind_other b t h = ap (λ v. drop (cond v (1 + prefix_len is_ascii_digit t) 0) (b ∷ t)) h
 
-front_digit : (b : ℕ) (t : List ℕ) → is_ascii_digit b ≡ true → take_while is_ascii_digit (b ∷ t) ≡ b ∷ take_while is_ascii_digit t
-front_digit b t h = ap (λ v. take (cond v (1 + prefix_len is_ascii_digit t) 0) (b ∷ t)) h ∙ take_one (prefix_len is_ascii_digit t) b t
+prefix_digit : (b : ℕ) (t : List ℕ) → is_ascii_digit b ≡ true → take_while is_ascii_digit (b ∷ t) ≡ b ∷ take_while is_ascii_digit t
+prefix_digit b t h = ap (λ v. take (cond v (1 + prefix_len is_ascii_digit t) 0) (b ∷ t)) h ∙ take_one (prefix_len is_ascii_digit t) b t
 
-front_other : (b : ℕ) (t : List ℕ) → is_ascii_digit b ≡ false → take_while is_ascii_digit (b ∷ t) ≡ []
-front_other b t h = ap (λ v. take (cond v (1 + prefix_len is_ascii_digit t) 0) (b ∷ t)) h
+prefix_other : (b : ℕ) (t : List ℕ) → is_ascii_digit b ≡ false → take_while is_ascii_digit (b ∷ t) ≡ []
+prefix_other b t h = ap (λ v. take (cond v (1 + prefix_len is_ascii_digit t) 0) (b ∷ t)) h
 
 text_digit : (b : ℕ) (bytes : List ℕ) → is_ascii_digit b ≡ true → text_of (b ∷ bytes) ≡ b ∷ text_of bytes
 text_digit b bytes h = ap (λ v. cond v (b ∷ text_of bytes) (b ∷ [])) (digit_inner b h)
@@ -86,14 +86,14 @@ text_begins b bytes = by (inner b)
     by true = (text_of bytes, refl)
     by false = ([], refl)
 
-fronts_are : (bytes : List ℕ) → take_while is_ascii_digit (text_of bytes) ≡ leading_digits bytes
-fronts_are [] = refl
-fronts_are (b ∷ bytes) = elim (cases_Bool (is_ascii_digit b)) [
-  | inl h ↦ ap (take_while is_ascii_digit) (text_digit b bytes h) ∙ front_digit b (text_of bytes) h ∙ ap (λ (t : List ℕ). b ∷ t) (fronts_are bytes)
-      ∙ sym (front_digit b bytes h)
+prefixes_are : (bytes : List ℕ) → take_while is_ascii_digit (text_of bytes) ≡ leading_digits bytes
+prefixes_are [] = refl
+prefixes_are (b ∷ bytes) = elim (cases_Bool (is_ascii_digit b)) [
+  | inl h ↦ ap (take_while is_ascii_digit) (text_digit b bytes h) ∙ prefix_digit b (text_of bytes) h ∙ ap (λ (t : List ℕ). b ∷ t) (prefixes_are bytes)
+      ∙ sym (prefix_digit b bytes h)
   | inr h ↦
       let t = text_begins b bytes in
-      ap (take_while is_ascii_digit) t.1 ∙ front_other b t.0 h ∙ sym (front_other b bytes h)
+      ap (take_while is_ascii_digit) t.1 ∙ prefix_other b t.0 h ∙ sym (prefix_other b bytes h)
 ]
 
 behinds_are : (bytes : List ℕ) → behind (text_of bytes) ≡ text_of (after_digits_of bytes)
@@ -112,7 +112,7 @@ rests_are (b ∷ bytes) = elim (cases_Bool (is_ascii_digit b)) [
   | inr h ↦ ap rest_of (sym (behind_other b bytes h))
 ]
 
--- what stands behind the digits does not begin with one
+-- what comes after the digits does not begin with one
 no_digit : (bytes : List ℕ) (b : ℕ) (rest : List ℕ) → after_digits_of bytes ≡ b ∷ rest → is_ascii_digit b ≡ false
 no_digit [] b rest e = cc
 no_digit (a ∷ bytes) b rest e = elim (cases_Bool (is_ascii_digit a)) [
@@ -218,7 +218,7 @@ pub data Found (rest : List ℕ) : Next → Result Item Kind → Type 0 where
 moved : (rest : List ℕ) {n m : Next} {r s : Result Item Kind} → n ≡ m → r ≡ s → Found rest m s → Found rest n r
 moved rest {n} {m} {r} {s} e f h = subst (λ x. Found rest x r) (sym e) (subst (λ x. Found rest m x) (sym f) h)
 
--- what the text behind the digits says
+-- what the text after the digits says
 abbrev last_item : ℕ → List ℕ → Result Item Kind
 last_item count last = cond (bytes_eq last (codes "$")) (Ok (row_ends count)) (claimed_run_of count (claimed_state_of last))
 
@@ -342,7 +342,7 @@ pub item_found : (bytes : List ℕ) → Found (rest_of bytes) (item_with_digits 
 item_found bytes =
     at_rest (item_with_digits 62 (leading_digits bytes) (after_digits_of bytes)) (claimed_item_of (text_of bytes)) (rests_are bytes)
     (moved (rest_of (after_digits_of bytes)) refl
-    (ap (λ (digits : List ℕ). claimed_count_of digits >>= λ count. last_item count (behind (text_of bytes))) (fronts_are bytes)
+    (ap (λ (digits : List ℕ). claimed_count_of digits >>= λ count. last_item count (behind (text_of bytes))) (prefixes_are bytes)
     ∙ ap (λ (last : List ℕ). claimed_count_of (leading_digits bytes) >>= λ count. last_item count last) (behinds_are bytes))
     (count_step (rest_of (after_digits_of bytes)) (after_digits_of bytes) (leading_digits bytes)
     (λ count. last_found count (after_digits_of bytes) (no_digit bytes))))

@@ -86,9 +86,9 @@ rule_text_rows =
     row (Ok (codes "Life")) (codes "Life" ∷ []) ∷
     []
 
-rules_are_told : Each (λ text. claimed_rule_of text >>= λ rule. Ok (claimed_rule_text rule)) rule_text_rows
+rules_are_reported : Each (λ text. claimed_rule_of text >>= λ rule. Ok (claimed_rule_text rule)) rule_text_rows
 unfolding claimed_rule_of claimed_digits_of
-rules_are_told = refl
+rules_are_reported = refl
 
 -- ---- states of extended RLE
 
@@ -223,9 +223,9 @@ macrocell_rows =
     row (refused 3 kinds.BadChild) (codes "[M2]\n*$\n5 1 0 0 0" ∷ codes "[M2]\n*$\n4 0 0 3 0\n*$" ∷ []) ∷
     []
 
-macrocells_are_told : Each seen macrocell_rows
+macrocells_are_reported : Each seen macrocell_rows
 unfolding pattern_of claimed_rule_of claimed_digits_of with_macrocell_line with_rle_line
-macrocells_are_told = refl
+macrocells_are_reported = refl
 
 -- extended RLE
 abbrev rle_rows : Rows Seen
@@ -268,9 +268,9 @@ rle_rows =
     codes "#CXRLE Pos=0,2305843009213693951\nx=1,y=1\no2$" ∷ []) ∷
     []
 
-rles_are_told : Each seen rle_rows
+rles_are_reported : Each seen rle_rows
 unfolding pattern_of claimed_rule_of claimed_digits_of with_rle_line
-rles_are_told = refl
+rles_are_reported = refl
 
 -- ---- almost accepted
 

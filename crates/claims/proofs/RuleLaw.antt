@@ -75,9 +75,9 @@ other_step true word = refl
 other_step false word = refl
 
 -- four neighbours, or another word
-front_is : (front : List ℕ) → begins_with (map to_ascii_uppercase front) (codes "B") ≡ bytes_eq (map to_ascii_uppercase (take 1 front)) (codes "B")
-front_is [] = refl
-front_is (b ∷ front) = refl
+prefix_is : (prefix : List ℕ) → begins_with (map to_ascii_uppercase prefix) (codes "B") ≡ bytes_eq (map to_ascii_uppercase (take 1 prefix)) (codes "B")
+prefix_is [] = refl
+prefix_is (b ∷ prefix) = refl
 
 unsupported_step : (v h s : Bool) (word : List ℕ)
     → cond (v || h) (Err kinds.UnsupportedRule) (cond s (Err kinds.UnsupportedRule) (Ok (named word)))
@@ -91,16 +91,16 @@ fours : (digits : Digits) → are_up_to_four digits ≡ nat_lt (digit_set digits
 fours digits = ap (λ v. v && list_all (λ n. nat_le n 4) (counts_in digits.survivals)) (four-digit_set digits.births)
     ∙ ap (λ v. nat_lt (digit_set digits.births) 32 && v) (four-digit_set digits.survivals)
 
--- by what the front is
-abbrev front_of : List ℕ → List ℕ
-front_of word = take (length word - 1) word
+-- by what the prefix is
+abbrev prefix_of : List ℕ → List ℕ
+prefix_of word = take (length word - 1) word
 
 abbrev letter_of : List ℕ → List ℕ
 letter_of word = map to_ascii_uppercase (drop (length word - 1) word)
 
 abbrev four_of : List ℕ → Option DigitSets → Option DigitSets
 four_of word sets =
-    cond (bytes_eq (map to_ascii_uppercase (take 1 (front_of word))) (codes "B") && bytes_eq (letter_of word) (codes "V")) (up_to_four sets) None
+    cond (bytes_eq (map to_ascii_uppercase (take 1 (prefix_of word))) (codes "B") && bytes_eq (letter_of word) (codes "V")) (up_to_four sets) None
 
 abbrev names_of : List ℕ → Option DigitSets → Bool
 names_of word sets = is_some sets && (bytes_eq (letter_of word) (codes "V") || bytes_eq (letter_of word) (codes "H"))
@@ -113,20 +113,20 @@ four_or word sets (Some found) = life_rule VonNeumann found
 four_or word sets None = other_of word sets
 
 lettered_is : (word : List ℕ) (found : Option Digits)
-    → lettered_rule word (map to_ascii_uppercase (front_of word)) (letter_of word) found
+    → lettered_rule word (map to_ascii_uppercase (prefix_of word)) (letter_of word) found
     ≡ result_map rule_in (four_or word (option_map sets_in found) (four_of word (option_map sets_in found)))
 lettered_is word None = other_step (list_any (λ b. b == 47) word) word
     ∙ ap (λ (r : Result LayerRule Kind). result_map rule_in r)
-    (sym (none_step (bytes_eq (map to_ascii_uppercase (take 1 (front_of word))) (codes "B") && bytes_eq (letter_of word) (codes "V"))))
+    (sym (none_step (bytes_eq (map to_ascii_uppercase (take 1 (prefix_of word))) (codes "B") && bytes_eq (letter_of word) (codes "V"))))
   where
     none_step : (u : Bool) → four_or word None (cond u None None) ≡ other_of word None
     none_step true = refl
     none_step false = refl
 lettered_is word (Some digits) =
-    ap (λ b. cond (b && bytes_eq (letter_of word) (codes "V") && are_up_to_four digits) (counting_rule 4 digits) rest) (front_is (front_of word))
-    ∙ ap (λ f. cond (bytes_eq (map to_ascii_uppercase (take 1 (front_of word))) (codes "B") && bytes_eq (letter_of word) (codes "V") && f)
+    ap (λ b. cond (b && bytes_eq (letter_of word) (codes "V") && are_up_to_four digits) (counting_rule 4 digits) rest) (prefix_is (prefix_of word))
+    ∙ ap (λ f. cond (bytes_eq (map to_ascii_uppercase (take 1 (prefix_of word))) (codes "B") && bytes_eq (letter_of word) (codes "V") && f)
     (counting_rule 4 digits) rest) (fours digits)
-    ∙ step (bytes_eq (map to_ascii_uppercase (take 1 (front_of word))) (codes "B")) (bytes_eq (letter_of word) (codes "V")) _ _ _
+    ∙ step (bytes_eq (map to_ascii_uppercase (take 1 (prefix_of word))) (codes "B")) (bytes_eq (letter_of word) (codes "V")) _ _ _
     (counting_is VonNeumann digits)
     (unsupported_step (bytes_eq (letter_of word) (codes "V")) (bytes_eq (letter_of word) (codes "H")) (list_any (λ b. b == 47) word) word)
   where
@@ -146,12 +146,12 @@ word_is : (word : List ℕ) (found : Option Digits) → option_map sets_in found
 unfolding four_sets
 word_is word (Some digits) e = counting_is Moore digits
 word_is word None e =
-    lettered_is word (claimed_digits_of (front_of word))
-    ∙ ap (λ (s : Option DigitSets). result_map rule_in (four_or word s (four_of word s))) (sets_are (front_of word)) ∙ same_or
+    lettered_is word (claimed_digits_of (prefix_of word))
+    ∙ ap (λ (s : Option DigitSets). result_map rule_in (four_or word s (four_of word s))) (sets_are (prefix_of word)) ∙ same_or
   where
-    same_or : result_map rule_in (four_or word (life_sets (front_of word)) (four_of word (life_sets (front_of word))))
-        ≡ result_map rule_in (four_or_other word (four_of word (life_sets (front_of word))))
-    same_or = elim (four_of word (life_sets (front_of word))) as (λ o. result_map rule_in (four_or word (life_sets (front_of word)) o)
+    same_or : result_map rule_in (four_or word (life_sets (prefix_of word)) (four_of word (life_sets (prefix_of word))))
+        ≡ result_map rule_in (four_or_other word (four_of word (life_sets (prefix_of word))))
+    same_or = elim (four_of word (life_sets (prefix_of word))) as (λ o. result_map rule_in (four_or word (life_sets (prefix_of word)) o)
         ≡ result_map rule_in (four_or_other word o)) [ None ↦ refl | Some found ↦ refl ]
 
 tests_are : (a b : Bool) (x : Result Rule Kind) (y : Result LayerRule Kind) → x ≡ result_map rule_in y

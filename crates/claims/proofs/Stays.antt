@@ -1,4 +1,4 @@
--- What is refused at a line stays refused there, whatever comes behind it.
+-- What is refused at a line stays refused there, whatever comes after it.
 use Rattle.std.proofs.Common.{◌≡◌, ℕ, zero, suc, ◌+◌, ◌-◌, ◌^◌, ◌<◌, ◌≤◌, min, List, [], ◌∷◌, length, take, Bool, true, false, cond, refl, ap, ◌∙◌, sym, subst, arith, Result, Ok, Err, codes}
 use Rattle.life_base.specs.Text.{lines_of, begins_with}
 use Rattle.life_base.specs.declared.kind.Kind.{Kind}
@@ -28,7 +28,7 @@ module _ {A B : Type 0} (step : A → List ℕ → Result A Kind) (at_end : A �
   abbrev go : Result A Kind → ℕ → List (List ℕ) → Result B Fault
   go r start lines = on_line start r >>= λ (next : A). read_lines step at_end (start + 1) next lines
 
-  -- no fault is told of a line before the first
+  -- no fault is reported of a line before the first
   fault_line : (lines : List (List ℕ)) (start : ℕ) (said : A) (f : Fault) → read_lines step at_end start said lines ≡ Err f → min start cap ≤ f.place.line
   fault_line [] start said f e = by (at_end said) e
     where

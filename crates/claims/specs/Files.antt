@@ -11,7 +11,7 @@ use Rattle.claims.specs.Macrocell.{first_line, with_macrocell_line, claimed_macr
 use Rattle.claims.specs.Rle.{Lines, before_header, after_header, after_end, no_position_fields}
 use Rattle.claims.specs.Rle.{with_rle_line, claimed_rle_cell as rle_cell}
 
--- the fault of a line; a number above 2 ^ 64 - 1 is told as that
+-- the fault of a line; a number above 2 ^ 64 - 1 is reported as that
 abbrev pub claimed_fault_at : ℕ → Kind → Fault
 claimed_fault_at number kind = record { place = record { line = min number (2 ^ 64 - 1) }; kind = kind }
 
@@ -51,7 +51,7 @@ pattern_of bytes =
 abbrev pub claimed_fault_of : Kind → Fault
 claimed_fault_of kind = record { place = record { line = 0 }; kind = kind }
 
--- room in the store or memory was wanted; that is of no line
+-- the store is full or memory is refused; that is of no line
 abbrev pub IsShortage : Fault → Type 0
 IsShortage fault = (fault ≡ claimed_fault_of Full) ⊎ (fault ≡ claimed_fault_of Memory)
 

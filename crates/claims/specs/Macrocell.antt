@@ -100,7 +100,7 @@ abbrev pub generation_of : List ℕ → Result ℕ Kind
 generation_of text = if not (is_digit_text text) then Err BadNumber else if nat_lt (value_of text) (2 ^ 64) then Ok (value_of text) else Err TooLarge
 
 -- What the lines so far say with one more after them, or the first rule that this one breaks. Of several rules the last one counts, and so of
--- generations. A word is told by the first bytes of the line as it stands, while a node line is taken without the whitespace at its ends.
+-- generations. A word is recognized by the first bytes of the line as it stands, while a node line is taken without the whitespace at its ends.
 unfoldable pub with_macrocell_line : ClaimedMacrocell → List ℕ → Result ClaimedMacrocell Kind
 with_macrocell_line file line =
     if is_too_long line then Err LineTooLong

@@ -2,7 +2,7 @@
 -- orthogonal neighbours. The rest is this project's own: the four other forms, digits in any order and more than once, small letters, at most 255
 -- bytes, and the kinds with the order of their tests. Golly Help has more, which is refused: `:` (a bounded grid), `H` (six neighbours), births on 0,
 -- and, in a text with `/`, letters after a digit and a missing `S`. Every text of 1 to 255 visible bytes without `/` and `:` that is none of the five
--- forms, with or without a letter `V` or `H` behind it, is a name, whatever it means in Golly.
+-- forms, with or without a letter `V` or `H` after it, is a name, whatever it means in Golly.
 use Rattle.std.specs.Prelude.{ℕ, ◌+◌, ◌-◌, Bool, true, false, not, ◌&&◌, ◌||◌, List, [], ◌∷◌, ◌++◌, ◌==◌, length, take, drop, map, filter, nat_le, nat_lt, if◌then◌else◌, bytes_eq, codes, Option, Some, None, Result, Ok, Err}
 use Rattle.std.specs.Char.{is_ascii_graphic, to_ascii_uppercase}
 use Rattle.std.specs.List.{list_all, list_any, slice_split}
@@ -37,7 +37,7 @@ pub record Digits : Type 0 where
   pub births : List ℕ
   pub survivals : List ℕ
 
--- The five forms, D for any digits `0` to `8`: `BD/SD` and `SD/BD`, `BDSD` and `SDBD`, `D/D`. They are told by their marks, and by the digits
+-- The five forms, D for any digits `0` to `8`: `BD/SD` and `SD/BD`, `BDSD` and `SDBD`, `D/D`. They are recognized by their marks, and by the digits
 -- before, between and after these.
 abbrev pub digits_by_marks : List ℕ → List (List ℕ) → Option Digits
 digits_by_marks marks ([] ∷ d ∷ [] ∷ e ∷ []) =
@@ -70,9 +70,9 @@ claimed_other_rule word = if has word (byte "/") then Err UnsupportedRule else O
 -- means four neighbours, north, east, south and west (Golly Help, after `BD/SD`; after `BDSD` it is this project's own); any other `V`, and `H`, means
 -- neighbours that aren't supported.
 abbrev pub lettered_rule : List ℕ → List ℕ → List ℕ → Option Digits → Result Rule Kind
-lettered_rule word front letter None = claimed_other_rule word
-lettered_rule word front letter (Some digits) =
-    if begins_with front (codes "B") && bytes_eq letter (codes "V") && are_up_to_four digits then counting_rule 4 digits
+lettered_rule word prefix letter None = claimed_other_rule word
+lettered_rule word prefix letter (Some digits) =
+    if begins_with prefix (codes "B") && bytes_eq letter (codes "V") && are_up_to_four digits then counting_rule 4 digits
     else if bytes_eq letter (codes "V") || bytes_eq letter (codes "H") then Err UnsupportedRule
     else claimed_other_rule word
 
@@ -80,9 +80,9 @@ lettered_rule word front letter (Some digits) =
 abbrev pub word_rule : List ℕ → Option Digits → Result Rule Kind
 word_rule word (Some digits) = counting_rule 8 digits
 word_rule word None =
-    let front = take (length word - 1) word in
+    let prefix = take (length word - 1) word in
     let letter = drop (length word - 1) word in
-    lettered_rule word (map to_ascii_uppercase front) (map to_ascii_uppercase letter) (claimed_digits_of front)
+    lettered_rule word (map to_ascii_uppercase prefix) (map to_ascii_uppercase letter) (claimed_digits_of prefix)
 
 -- the rule that a text names; whitespace at its ends counts for nothing
 unfoldable pub claimed_rule_of : List ℕ → Result Rule Kind

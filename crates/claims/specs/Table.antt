@@ -32,7 +32,7 @@ pub record Variable : Type 0 where
   pub name : List ℕ
   pub states : List ℕ
 
--- a transition: the number of its line (one above 2 ^ 64 - 1 is told as that), the entries for the centre and its neighbours, and that for the next
+-- a transition: the number of its line (one above 2 ^ 64 - 1 is reported as that), the entries for the centre and its neighbours, and that for the next
 -- state
 pub record Transition : Type 0 where
   pub line : ℕ
@@ -192,7 +192,7 @@ abbrev pub new_table : List ℕ → Table
 new_table name = record { name = name; n_states = None; neighbours = None; symmetry = None; variables = []; transitions = [] }
 
 -- What the lines so far say with one more after them, or the first rule that this one breaks. A line that is too long is refused wherever it stands.
--- Of the others blank lines and comments before the rule line are passed over, and every line between it and the table line, and behind the table.
+-- Of the others blank lines and comments before the rule line are passed over, and every line between it and the table line, and after the table.
 unfoldable pub with_table_line : Section → ℕ → List ℕ → Result Section Kind
 with_table_line section number line = if is_too_long line then Err LineTooLong else by_section section
   where

@@ -59,7 +59,7 @@ refuses_weaker kind Memory f h = absurd h
 pub such_as : (kind : ErrorKind) (is_such : Type 0) (usage : Usage) → RefusesAs kind (Unit {0}) usage → is_such → RefusesAs kind is_such usage
 such_as kind is_such usage h such = refuses_weaker kind usage (λ any. such) h
 
--- names that are counted behind references
+-- names that are counted after references
 counted_from : (test : List ℕ → Bool) (a : ℕ) (names : List (Bor (List ℕ))) → fold (λ (n : ℕ) (name : Bor (List ℕ)). n + cond (test name.now) 1 0) a names
     ≡ fold (λ (n : ℕ) (name : List ℕ). n + cond (test name) 1 0) a (map (λ name. name.now) names)
 counted_from test a [] = refl

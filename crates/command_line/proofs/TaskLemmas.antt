@@ -169,7 +169,7 @@ stream_explains m TwoInputs is found once (inl h) = absurd h
 stream_explains m Memory is found once (inl h) = absurd h
 stream_explains m usage is found once (inr h) = word_explains m (HasNoForm m.1) usage (λ word. inr (inl (inr (inr (inl is)), word))) once h
 
--- why `step` has no plan: the word behind --generations, or no memory for the names of the files
+-- why `step` has no plan: the word after --generations, or no memory for the names of the files
 step_usage : (m : Text × List Row) (usage : Usage) → m.0 ≡ codes "step" → AreOfTask (Some m) → (¬ NamesNoFormat (Some m)) → (¬ NamesNoForm (Some m))
     → (¬ NamesInputTwice (Some m)) → RefusesWord (HasNoNumber m.1) usage ⊎ ((usage ≡ Memory) × ¬ HasNoNumber m.1) → Explains [] (Some m) usage
 step_usage m usage is task format form once (inl h) = word_explains m (HasNoNumber m.1) usage (λ word. inr (inr (is, word))) once h

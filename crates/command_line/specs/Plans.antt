@@ -215,15 +215,15 @@ AreOfTask (Some matches) = (task : Task) × (matches.0 ≡ command_of task) × H
 abbrev pub AreWhole : Option (Text × List Row) → Type 0
 AreWhole matches = AreOfTask matches ⊎ AreOfAnyFiles matches
 
--- the word behind --to is that of no format
+-- the word after --to is that of no format
 abbrev pub HasNoFormat : List Row → Type 0
 HasNoFormat rows = (word : Text) × (first_of (codes "to") rows ≡ Some word) × ((t : Target) → word ≢ target_word t)
 
--- the word behind --form is that of no form
+-- the word after --form is that of no form
 abbrev pub HasNoForm : List Row → Type 0
 HasNoForm rows = (word : Text) × (first_of (codes "form") rows ≡ Some word) × ((f : Form) → word ≢ form_word f)
 
--- the word behind --generations isn't a number below 2^64
+-- the word after --generations isn't a number below 2^64
 abbrev pub HasNoNumber : List Row → Type 0
 HasNoNumber rows = (word : Text) × (first_of (codes "generations") rows ≡ Some word) × ((n : ℕ) → u64_of word ≢ Ok n)
 
@@ -237,11 +237,11 @@ RefusesAs kind is_such Memory = ⊥
 abbrev pub RefusesWord : Type 0 → Usage → Type 0
 RefusesWord is_such usage = RefusesAs InvalidValue is_such usage
 
--- why what was found for a command over any number of files has no plan: neither a file nor a list was found, or the word behind --form is that of no form
+-- why what was found for a command over any number of files has no plan: neither a file nor a list was found, or the word after --form is that of no form
 abbrev pub RefusesKeys : List Row → Usage → Type 0
 RefusesKeys rows usage = RefusesAs MissingRequiredArgument (LacksFiles rows) usage ⊎ RefusesWord (HasNoForm rows) usage
 
--- why what was found for `keys` over a stream has no plan: files were found too, or the word behind --form is that of no form
+-- why what was found for `keys` over a stream has no plan: files were found too, or the word after --form is that of no form
 abbrev pub RefusesStream : List Row → Usage → Type 0
 RefusesStream rows usage = RefusesAs ArgumentConflict (HasFiles rows) usage ⊎ RefusesWord (HasNoForm rows) usage
 
@@ -260,7 +260,7 @@ abbrev pub NamesNoNumber : Option (Text × List Row) → Type 0
 NamesNoNumber None = ⊥
 NamesNoNumber (Some matches) = (matches.0 ≡ codes "step") × HasNoNumber matches.1
 
--- the word behind an option is none of its values
+-- the word after an option is none of its values
 abbrev pub NamesNoValue : Option (Text × List Row) → Type 0
 NamesNoValue matches = NamesNoFormat matches ⊎ (NamesNoForm matches ⊎ NamesNoNumber matches)
 
@@ -301,7 +301,7 @@ NamesInputTwice None = ⊥
 NamesInputTwice (Some matches) = 1 < input_count matches.1
 
 -- Why words are refused in which `clap` finds these faults and these matches: since `clap` is out of memory; by the kind of a fault; in words
--- without a fault, since the word behind --to is that of no format, the one behind --form that of no form or the one behind --generations no number, since
+-- without a fault, since the word after --to is that of no format, the one after --form that of no form or the one after --generations no number, since
 -- `keys` or `duplicates` is given neither a file nor a list, and no stream either, since `keys` is given files besides a stream, or since standard input is
 -- named twice, which is reported before these. Memory comes only where
 -- none of that is so, and the words ask for a task: all that is left to do is to copy the names of its files.

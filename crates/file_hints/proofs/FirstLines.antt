@@ -47,7 +47,7 @@ none_left (b ∷ text) h = absurd (omega arith)
 pub too_short : (head : List ℕ) → length head < 257 → false ≡ begins_with (drop 257 head) (codes "ustar")
 too_short head h = sym (ap (λ t. begins_with t (codes "ustar")) (drop_all 257 head (omega arith)))
 
--- the front of a text, and a text that is no longer than its front
+-- the prefix of a text, and a text that is no longer than its prefix
 pub cut_length : (n : ℕ) (text : List ℕ) → n ≤ length text → n ≡ length (take n text)
 cut_length n text h = grind (arith, common_steps)
 

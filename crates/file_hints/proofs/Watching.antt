@@ -40,15 +40,15 @@ none_of test (b ∷ text) h =
     let e : test b ≡ false = off (test b) (h 0 (omega arith)) in
     rw e (none_of test text (λ k l. h (suc k) (omega (arith, l))))
 
-front_place : (text : List ℕ) (i k : ℕ) → k < length (take i text) → get_or (take i text) k 0 ≡ get_or text k 0
-front_place text i k h = grind (arith, common_steps)
+prefix_place : (text : List ℕ) (i k : ℕ) → k < length (take i text) → get_or (take i text) k 0 ≡ get_or text k 0
+prefix_place text i k h = grind (arith, common_steps)
 
-front_length : (text : List ℕ) (i k : ℕ) → k < length (take i text) → k < i
-front_length text i k h = grind (arith, common_steps)
+prefix_length : (text : List ℕ) (i k : ℕ) → k < length (take i text) → k < i
+prefix_length text i k h = grind (arith, common_steps)
 
 none_before : (test : ℕ → Bool) (text : List ℕ) (i : ℕ) → ((k : ℕ) → k < i → test (get_or text k 0) ≡ true → ⊥) → list_any test (take i text) ≡ false
 none_before test text i h =
-    none_of test (take i text) (λ k l e. h k (front_length text i k l) (sym (ap test (front_place text i k l)) ∙ e))
+    none_of test (take i text) (λ k l e. h k (prefix_length text i k l) (sym (ap test (prefix_place text i k l)) ∙ e))
 
 cut_there : (text : List ℕ) (i b : ℕ) → i < length text → get_or text i 0 ≡ b → text ≡ take i text ++ b ∷ drop (i + 1) text
 cut_there text i b l h = grind (arith, common_steps)

@@ -41,7 +41,7 @@ is_neighbour_count b = nat_le (byte "0") b && nat_le b (byte "8")
 abbrev pub is_set_letter : ℕ → Bool
 is_set_letter b = b == byte "B" || b == byte "b" || b == byte "S" || b == byte "s"
 
--- the text without the counts at its front
+-- the text without the counts at its beginning
 abbrev pub without_counts : List ℕ → List ℕ
 without_counts [] = []
 without_counts (b ∷ text) = if is_neighbour_count b then without_counts text else b ∷ text

@@ -26,7 +26,7 @@ holds_text files.Image = false
 holds_text files.Binary = false
 holds_text kind = true
 
--- the mark of a tar file is behind 257 bytes
+-- the mark of a tar file is after 257 bytes
 abbrev pub is_tar : List ℕ → Bool
 is_tar head = begins_with (drop 257 head) (codes "ustar")
 
@@ -47,7 +47,7 @@ binary_of head =
     else (if has_byte 0 head then Some files.Binary
     else None))))))
 
--- the text without the spaces, tabs, line ends and form feeds at its front
+-- the text without the spaces, tabs, line ends and form feeds at its beginning
 abbrev pub without_space : List ℕ → List ℕ
 without_space [] = []
 without_space (b ∷ text) = if is_ascii_whitespace b then without_space text else b ∷ text
@@ -65,7 +65,7 @@ abbrev pub first_text : List (List ℕ) → List ℕ
 first_text [] = []
 first_text (text ∷ texts) = text
 
--- the lines behind the first
+-- the lines after the first
 abbrev pub lines_but_first : List (List ℕ) → List (List ℕ)
 lines_but_first [] = []
 lines_but_first (line ∷ lines) = lines

@@ -10,7 +10,7 @@ use Rattle.life_base.specs.Writing.{WritesPrefix}
 use Rattle.life_base.proofs.WritingLemmas.{prefix-after, prefix-grows}
 use Rattle.file_keys.specs.Duplicates.{Class, classes_in, classes_of, kept_groups, kept_names, next_names}
 use Rattle.file_keys.specs.Groups.{distinct_keys, ended_name, files_with, group_names, groups_of, has_several, IsGroupStatus, keys_in, name_bytes, names_text, printed_names, status_by}
-use Rattle.file_keys.specs.KeyRuns.{Taken}
+use Rattle.file_keys.specs.KeyRuns.{Processed}
 use Rattle.file_keys.specs.Keys.{IsStatus}
 use Rattle.file_keys.specs.declared.duplicates.groups.Group.{Group}
 use Rattle.file_keys.specs.declared.duplicates.groups.Groups.{Groups}
@@ -37,7 +37,7 @@ names_of_entries [] = refl
 names_of_entries (e ∷ es) = ap (λ (l : List (List (List ℕ))). kept_names e.1 ∷ l) (names_of_entries es)
 
 -- of files: those that are in groups
-names_of_groups : (F : List ℕ → List Taken) (keys : List (List ℕ))
+names_of_groups : (F : List ℕ → List Processed) (keys : List (List ℕ))
     → map (map name_bytes) (filter has_several (map F keys))
     ≡ filter has_several (map (λ (class : Class). class.1) (map (λ (key : List ℕ). (key, map name_bytes (F key))) keys))
 names_of_groups F [] = refl
@@ -55,15 +55,15 @@ names_of_groups F (key ∷ keys) =
     by false same = same
 
 -- what a run keeps of files is what it prints of them
-pub kept_is : (groups : Groups) (taken : List Taken) → classes_in groups ≡ classes_of taken → kept_groups groups ≡ group_names taken
-kept_is groups taken is =
+pub kept_is : (groups : Groups) (processed : List Processed) → classes_in groups ≡ classes_of processed → kept_groups groups ≡ group_names processed
+kept_is groups processed is =
     ap (filter has_several) (names_of_entries groups.by_key.entries ∙ ap (map (λ (class : Class). class.1)) is)
-    ∙ sym (names_of_groups (λ (key : List ℕ). files_with key taken) (distinct_keys (keys_in taken)))
+    ∙ sym (names_of_groups (λ (key : List ℕ). files_with key processed) (distinct_keys (keys_in processed)))
 
-pub none_is : (taken : List Taken) → is_empty (group_names taken) ≡ is_empty (groups_of taken)
-none_is taken = by (groups_of taken)
+pub none_is : (processed : List Processed) → is_empty (group_names processed) ≡ is_empty (groups_of processed)
+none_is processed = by (groups_of processed)
   where
-    by : (groups : List (List Taken)) → is_empty (map (map name_bytes) groups) ≡ is_empty groups
+    by : (groups : List (List Processed)) → is_empty (map (map name_bytes) groups) ≡ is_empty groups
     by [] = refl
     by (group ∷ groups) = refl
 
@@ -71,7 +71,7 @@ none_is taken = by (groups_of taken)
 
 -- the text of these names was written, but for that of the last ones, `rest`
 abbrev pub Printed : Option (List ℕ) → Option (List ℕ) → Bool → (names rest : List (List ℕ)) → Type 0
-Printed a b zero names rest = (front : List ℕ) × (names_text zero names ≡ front ++ names_text zero rest) × Appends a b front
+Printed a b zero names rest = (prefix : List ℕ) × (names_text zero names ≡ prefix ++ names_text zero rest) × Appends a b prefix
 
 pub text_both : (zero : Bool) (names more : List (List ℕ)) → names_text zero (names ++ more) ≡ names_text zero names ++ names_text zero more
 text_both zero names more = flat_map-append (ended_name zero) names more

@@ -13,7 +13,7 @@ use Rattle.life_base.specs.declared.kind.Kind.TheVariants as kinds
 use Rattle.file_keys.specs.Duplicates.{broken_off, classes_in, classes_of, Gathers, kept_groups, PutsFile, RanDuplicates, through, with_outcome}
 use Rattle.pattern_sources.specs.Faults.{fault_line, refusal_of, status_of, Reports}
 use Rattle.file_keys.specs.Groups.{group_names, groups_text, IsGroupStatus, status_by}
-use Rattle.file_keys.specs.KeyRuns.{bytes_of_name, error_line, errors_of, greatest_status, IsToldAs, list_word, Listed, Name, names_among, names_in, names_of, outcome_status, ReadsList, Taken, Takes, TakesAll, TellsOn, Took, Word, words_of_plan}
+use Rattle.file_keys.specs.KeyRuns.{bytes_of_name, error_line, errors_of, greatest_status, IsReportedAs, list_word, Listed, Name, names_among, names_in, names_of, outcome_status, ReadsList, Processed, Takes, TakesAll, TellsOn, Took, Word, words_of_plan}
 use Rattle.file_keys.specs.Keys.{end_byte_of_name, IsStatus}
 use Rattle.file_keys.specs.declared.duplicates.gathered.Gathered.{Gathered}
 use Rattle.file_keys.specs.declared.keys.outcome.Outcome.{Outcome}
@@ -24,25 +24,25 @@ use Rattle.command_line.specs.declared.plans.KeyForm.{KeyForm}
 use Rattle.command_line.specs.declared.plans.KeysPlan.{KeysPlan}
 use Rattle.file_keys.proofs.DuplicateLemmas.{group_status, kept_is, none_is}
 use Rattle.file_keys.proofs.GroupLemmas.{classes_more, classes_other}
-use Rattle.file_keys.proofs.KeyRunLemmas.{broken_tells, from_none, greatest_is, greatest_then, one_line, takes_then, tells_all, tells_then, three, told_takes, tells_none}
+use Rattle.file_keys.proofs.KeyRunLemmas.{broken_tells, from_none, greatest_is, greatest_then, one_line, takes_then, tells_all, tells_then, three, reported_takes, tells_none}
 
 -- the classes of files with one more, whatever came of it
-classes_with : (taken : List Taken) (name : Name) (outcome : Outcome)
-    → classes_of (taken ++ record { name = name; outcome = outcome } ∷ []) ≡ with_outcome (classes_of taken) outcome (bytes_of_name name)
-classes_with taken name (Key key) = classes_more taken (record { name = name; outcome = Key key }) key refl
-classes_with taken name (Refused fault) = classes_other taken (record { name = name; outcome = Refused fault }) refl (λ key. refl)
-classes_with taken name (Unopened kind) = classes_other taken (record { name = name; outcome = Unopened kind }) refl (λ key. refl)
+classes_with : (processed : List Processed) (name : Name) (outcome : Outcome)
+    → classes_of (processed ++ record { name = name; outcome = outcome } ∷ []) ≡ with_outcome (classes_of processed) outcome (bytes_of_name name)
+classes_with processed name (Key key) = classes_more processed (record { name = name; outcome = Key key }) key refl
+classes_with processed name (Refused fault) = classes_other processed (record { name = name; outcome = Refused fault }) refl (λ key. refl)
+classes_with processed name (Unopened kind) = classes_other processed (record { name = name; outcome = Unopened kind }) refl (λ key. refl)
 
 module _ {F R E : Type 0} (step : F → Origin → Result (OpenedFile R) IoError → F → Type 0) (remaining : R → Option (List ℕ)) (reads_failed : R → ℕ)
     (contents : E → Option (List ℕ)) (failures : E → ℕ) (stalled : E → Bool) where
-  -- no file was taken yet
+  -- no file was processed yet
   pub gathers_none : (form : KeyForm) (names : List Name) (f : F) (e : E) (a : Gathered) → (a.tells ≡ true → failures e ≡ 0)
       → Gathers step remaining reads_failed contents failures stalled form names names f f e e a a
   gathers_none form names f e a hears = record {
-    taken = [];
+    processed = [];
     split = refl;
     takes = refl;
-    told = tells_none contents failures stalled a.tells e hears;
+    reported = tells_none contents failures stalled a.tells e hears;
     status = omega arith;
     kept = λ before is. is ∙ ap classes_of (sym (append-nil before));
   }
@@ -53,30 +53,30 @@ module _ {F R E : Type 0} (step : F → Origin → Result (OpenedFile R) IoError
       → Gathers step remaining reads_failed contents failures stalled form rest last g h y z b c
       → Gathers step remaining reads_failed contents failures stalled form names last f h x z a c
   gathers_more form names rest last f g h x y z a b c p q = record {
-    taken = p.taken ++ q.taken;
-    split = p.split ∙ ap (λ l. names_of p.taken ++ l) q.split ∙ sym (append_assoc (names_of p.taken) (names_of q.taken) last)
-        ∙ ap (λ l. l ++ last) (sym (map-append (λ (t : Taken). t.name) p.taken q.taken));
-    takes = takes_then (Takes step remaining reads_failed form) f p.taken g q.taken h p.takes q.takes;
-    told = subst (TellsOn contents failures stalled a.tells c.tells x z)
-        (sym (flat_map-append (λ (t : Taken). error_line (bytes_of_name t.name) t.outcome) p.taken q.taken))
-        (tells_then contents failures stalled a.tells b.tells c.tells x y z (errors_of p.taken) (errors_of q.taken) p.told q.told);
-    status = three a.status b.status c.status (greatest_status p.taken) (greatest_status q.taken) q.status p.status
-        ∙ ap (max a.status) (sym (greatest_then p.taken q.taken));
-    kept = λ before is. q.kept (before ++ p.taken) (p.kept before is) ∙ ap classes_of (append_assoc before p.taken q.taken);
+    processed = p.processed ++ q.processed;
+    split = p.split ∙ ap (λ l. names_of p.processed ++ l) q.split ∙ sym (append_assoc (names_of p.processed) (names_of q.processed) last)
+        ∙ ap (λ l. l ++ last) (sym (map-append (λ (t : Processed). t.name) p.processed q.processed));
+    takes = takes_then (Takes step remaining reads_failed form) f p.processed g q.processed h p.takes q.takes;
+    reported = subst (TellsOn contents failures stalled a.tells c.tells x z)
+        (sym (flat_map-append (λ (t : Processed). error_line (bytes_of_name t.name) t.outcome) p.processed q.processed))
+        (tells_then contents failures stalled a.tells b.tells c.tells x y z (errors_of p.processed) (errors_of q.processed) p.reported q.reported);
+    status = three a.status b.status c.status (greatest_status p.processed) (greatest_status q.processed) q.status p.status
+        ∙ ap (max a.status) (sym (greatest_then p.processed q.processed));
+    kept = λ before is. q.kept (before ++ p.processed) (p.kept before is) ∙ ap classes_of (append_assoc before p.processed q.processed);
   }
 
   -- one file
-  gathers_one : (form : KeyForm) (name : Name) (told : Outcome) (rest : List Name) (f g : F) (x y : E) (a b : Gathered)
-      → Takes step remaining reads_failed form f (record { name = name; outcome = told }) g
-      → PutsFile contents failures stalled x y a b (bytes_of_name name) told
+  gathers_one : (form : KeyForm) (name : Name) (reported : Outcome) (rest : List Name) (f g : F) (x y : E) (a b : Gathered)
+      → Takes step remaining reads_failed form f (record { name = name; outcome = reported }) g
+      → PutsFile contents failures stalled x y a b (bytes_of_name name) reported
       → Gathers step remaining reads_failed contents failures stalled form (name ∷ rest) rest f g x y a b
-  gathers_one form name told rest f g x y a b takes puts = record {
-    taken = record { name = name; outcome = told } ∷ [];
+  gathers_one form name reported rest f g x y a b takes puts = record {
+    processed = record { name = name; outcome = reported } ∷ [];
     split = refl;
     takes = (g, takes, refl);
-    told = subst (TellsOn contents failures stalled a.tells b.tells x y) (one_line (error_line (bytes_of_name name) told)) puts.told;
-    status = at b.status a.status (outcome_status told) puts.status;
-    kept = λ before is. puts.kept ∙ ap (λ classes. with_outcome classes told (bytes_of_name name)) is ∙ sym (classes_with before name told);
+    reported = subst (TellsOn contents failures stalled a.tells b.tells x y) (one_line (error_line (bytes_of_name name) reported)) puts.reported;
+    status = at b.status a.status (outcome_status reported) puts.status;
+    kept = λ before is. puts.kept ∙ ap (λ classes. with_outcome classes reported (bytes_of_name name)) is ∙ sym (classes_with before name reported);
   }
     where
       at : (m n s : ℕ) → m ≡ max n s → m ≡ max n (max s 0)
@@ -87,14 +87,14 @@ module _ {F R E : Type 0} (step : F → Origin → Result (OpenedFile R) IoError
       (x y z : E) (a b c : Gathered) → form' ≡ form → rest ≡ name ∷ rest' → bytes ≡ bytes_of_name name
       → Gathers step remaining reads_failed contents failures stalled form names rest f g x y a b
       → Takes step remaining reads_failed form' g (record { name = name; outcome = outcome }) h
-      → (told : Outcome) × IsToldAs outcome told × PutsFile contents failures stalled y z b c bytes told
+      → (reported : Outcome) × IsReportedAs outcome reported × PutsFile contents failures stalled y z b c bytes reported
       → Gathers step remaining reads_failed contents failures stalled form names rest' f h x z a c
-  gathers_next form form' names rest rest' name bytes outcome f g h x y z a b c is_form split is before takes (told, how, puts) =
-      let these = told_takes step remaining reads_failed form g h name outcome told how
+  gathers_next form form' names rest rest' name bytes outcome f g h x y z a b c is_form split is before takes (reported, how, puts) =
+      let these = reported_takes step remaining reads_failed form g h name outcome reported how
       (subst (λ k. Takes step remaining reads_failed k g (record { name = name; outcome = outcome }) h) is_form takes) in
       gathers_more form names rest rest' f g h x y z a b c before
       (subst (λ l. Gathers step remaining reads_failed contents failures stalled form l rest' g h y z b c) (sym split)
-      (gathers_one form name told rest' g h y z b c these (subst (λ l. PutsFile contents failures stalled y z b c l told) is puts)))
+      (gathers_one form name reported rest' g h y z b c these (subst (λ l. PutsFile contents failures stalled y z b c l reported) is puts)))
 
   -- all files
   pub gathers_all : (form : KeyForm) (names rest : List Name) (f g : F) (x y : E) (a b : Gathered) → rest ≡ []
@@ -112,10 +112,10 @@ module _ {F R E : Type 0} (step : F → Origin → Result (OpenedFile R) IoError
   gathers_both form form' zero_ended words list f g h x y z a b c is_form p q =
       let more = map Listed (names_in (end_byte_of_name zero_ended) list) in
       gathers_more form (names_among zero_ended words list) more [] f g h x y z a b c (record {
-        taken = p.taken;
-        split = ap (λ l. l ++ more) (p.split ∙ append-nil (names_of p.taken));
+        processed = p.processed;
+        split = ap (λ l. l ++ more) (p.split ∙ append-nil (names_of p.processed));
         takes = p.takes;
-        told = p.told;
+        reported = p.reported;
         status = p.status;
         kept = p.kept;
       })
@@ -129,39 +129,39 @@ module _ {F R W E : Type 0} (step : F → Origin → Result (OpenedFile R) IoErr
     (same : names ≡ names_among plan.zero (words_of_plan plan) list) (hears : a.tells ≡ true) (fresh : a.status ≡ 0) (new : classes_in a.groups ≡ [])
     (p : Gathers step remaining reads_failed contents failures stalled form names [] ready last x y a b) where
   -- the files that a run took
-  took_of : Took step remaining reads_failed plan opener p.taken []
+  took_of : Took step remaining reads_failed plan opener p.processed []
   took_of = record {
     list = list;
     ready = ready;
     last = last;
     read = read;
     names = sym same ∙ p.split;
-    takes = subst (λ k. TakesAll step remaining reads_failed k ready p.taken last) is_form p.takes;
+    takes = subst (λ k. TakesAll step remaining reads_failed k ready p.processed last) is_form p.takes;
   }
 
-  groups_are : kept_groups b.groups ≡ group_names p.taken
-  groups_are = kept_is b.groups p.taken (p.kept [] new)
+  groups_are : kept_groups b.groups ≡ group_names p.processed
+  groups_are = kept_is b.groups p.processed (p.kept [] new)
 
-  heard : TellsOn contents failures stalled true b.tells x y (errors_of p.taken)
-  heard = subst (λ t. TellsOn contents failures stalled t b.tells x y (errors_of p.taken)) hears p.told
+  heard : TellsOn contents failures stalled true b.tells x y (errors_of p.processed)
+  heard = subst (λ t. TellsOn contents failures stalled t b.tells x y (errors_of p.processed)) hears p.reported
 
-  greatest : b.status ≡ greatest_status p.taken
-  greatest = from_none a.status b.status (greatest_status p.taken) p.status fresh
+  greatest : b.status ≡ greatest_status p.processed
+  greatest = from_none a.status b.status (greatest_status p.processed) p.status fresh
 
   -- a run that comes to its end
   pub gathered_through : (flushed : Bool) (status : ℕ) → Appends (held u) (held v) (groups_text plan.zero (kept_groups b.groups)) → flushed ≡ true
       → status ≡ status_by b.status (is_empty (kept_groups b.groups))
       → RanDuplicates step remaining reads_failed plan opener (sink_run held w-failures w-stalled u v) (sink_run contents failures stalled x y) flushed
       status
-  gathered_through flushed status written is_flushed is = through p.taken took_of
+  gathered_through flushed status written is_flushed is = through p.processed took_of
       (subst (λ groups. Appends (held u) (held v) (groups_text plan.zero groups)) groups_are written) is_flushed
-      (tells_all contents failures stalled b.tells x y (errors_of p.taken) heard)
-      (is ∙ ap₂ status_by greatest (ap is_empty groups_are ∙ none_is p.taken))
+      (tells_all contents failures stalled b.tells x y (errors_of p.processed) heard)
+      (is ∙ ap₂ status_by greatest (ap is_empty groups_are ∙ none_is p.processed))
 
   -- and its status
   pub gathered_status : (status : ℕ) → status ≡ status_by b.status (is_empty (kept_groups b.groups)) → IsGroupStatus status
   gathered_status status is =
-      subst IsGroupStatus (sym is) (group_status b.status (is_empty (kept_groups b.groups)) (subst IsStatus (sym greatest) (greatest_is p.taken)))
+      subst IsGroupStatus (sym is) (group_status b.status (is_empty (kept_groups b.groups)) (subst IsStatus (sym greatest) (greatest_is p.processed)))
 
   -- a run whose output fails
   pub gathered_broken : (z : E) (flushed : Bool) (kind : Kind) (status : ℕ)
@@ -171,8 +171,8 @@ module _ {F R W E : Type 0} (step : F → Origin → Result (OpenedFile R) IoErr
       → status ≡ status_of kind
       → RanDuplicates step remaining reads_failed plan opener (sink_run held w-failures w-stalled u v) (sink_run contents failures stalled x z) flushed
       status
-  gathered_broken z flushed kind status written is cause told silent is_status = broken_off p.taken took_of
+  gathered_broken z flushed kind status written is cause reported silent is_status = broken_off p.processed took_of
       (subst (λ groups. WritesPrefix (held u) (held v) (groups_text plan.zero groups)) groups_are written) cause
-      (subst (λ k. Reports (sink_run contents failures stalled x z) (errors_of p.taken ++ fault_line (refusal_of (fault_of k)))) is
-      (broken_tells contents failures stalled b.tells x y z (errors_of p.taken) _ heard told silent))
+      (subst (λ k. Reports (sink_run contents failures stalled x z) (errors_of p.processed ++ fault_line (refusal_of (fault_of k)))) is
+      (broken_tells contents failures stalled b.tells x y z (errors_of p.processed) _ heard reported silent))
       (is_status ∙ ap status_of is)

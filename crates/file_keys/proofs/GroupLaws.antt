@@ -4,7 +4,7 @@ use Rattle.std.specs.List.{list_any}
 use Rattle.std.specs.Str.{bytes_eq}
 use Rattle.std.proofs.lemmas.Option.{slice_get_within, get_or_from_slice_get}
 use Rattle.file_keys.specs.Groups.{AreInOneGroup, distinct_keys, files_with, groups_of, GroupsAreByKey, has_key, has_several, HaveOneKey, is_key, key_list, keys_in}
-use Rattle.file_keys.specs.KeyRuns.{Taken}
+use Rattle.file_keys.specs.KeyRuns.{Processed}
 use Rattle.file_keys.specs.declared.keys.outcome.Outcome.{Outcome}
 use Rattle.file_keys.specs.declared.keys.outcome.Outcome.TheVariants.{Key, Refused, Unopened}
 use Rattle.file_keys.proofs.GroupLemmas.{among_distinct, AreApart, distinct_apart, itself}
@@ -119,17 +119,18 @@ of_key : (key : List ℕ) (outcome : Outcome) → outcome ≡ Key key → is_key
 of_key key outcome is = subst (λ (o : Outcome). is_key key o ≡ true) (sym is) (itself key)
 
 -- the key of a file is one of the keys
-key_among : (key : List ℕ) (taken : List Taken) (t : Taken) → In taken t → t.outcome ≡ Key key → list_any (bytes_eq key) (keys_in taken) ≡ true
+key_among : (key : List ℕ) (processed : List Processed) (t : Processed) → In processed t → t.outcome ≡ Key key
+    → list_any (bytes_eq key) (keys_in processed) ≡ true
 key_among key [] t c is = absurd c
-key_among key (s ∷ taken) t (inl same) is =
-    subst (λ (o : Outcome). list_any (bytes_eq key) (key_list o ++ keys_in taken) ≡ true) (sym (ap (λ (u : Taken). u.outcome) same ∙ is))
-    (ap (λ b. b || list_any (bytes_eq key) (keys_in taken)) (itself key))
-key_among key (s ∷ taken) t (inr c) is = by s.outcome (key_among key taken t c is)
+key_among key (s ∷ processed) t (inl same) is =
+    subst (λ (o : Outcome). list_any (bytes_eq key) (key_list o ++ keys_in processed) ≡ true) (sym (ap (λ (u : Processed). u.outcome) same ∙ is))
+    (ap (λ b. b || list_any (bytes_eq key) (keys_in processed)) (itself key))
+key_among key (s ∷ processed) t (inr c) is = by s.outcome (key_among key processed t c is)
   where
-    by : (o : Outcome) → list_any (bytes_eq key) (keys_in taken) ≡ true → list_any (bytes_eq key) (key_list o ++ keys_in taken) ≡ true
+    by : (o : Outcome) → list_any (bytes_eq key) (keys_in processed) ≡ true → list_any (bytes_eq key) (key_list o ++ keys_in processed) ≡ true
     by (Key own) rest = or (bytes_eq key own) rest
       where
-        or : (b : Bool) → list_any (bytes_eq key) (keys_in taken) ≡ true → (b || list_any (bytes_eq key) (keys_in taken)) ≡ true
+        or : (b : Bool) → list_any (bytes_eq key) (keys_in processed) ≡ true → (b || list_any (bytes_eq key) (keys_in processed)) ≡ true
         or true rest = refl
         or false rest = rest
     by (Refused fault) rest = rest
@@ -138,28 +139,28 @@ key_among key (s ∷ taken) t (inr c) is = by s.outcome (key_among key taken t c
 -- ---- groups
 
 -- a group is all files with some key, and has more than one
-group_is : (taken group : List Taken) → In (groups_of taken) group
-    → (key : List ℕ) × (files_with key taken ≡ group) × (has_several group ≡ true)
-group_is taken group c =
-    let kept = in_filter has_several (map (λ (key : List ℕ). files_with key taken) (distinct_keys (keys_in taken))) group c in
-    let made = in_map (λ (key : List ℕ). files_with key taken) (distinct_keys (keys_in taken)) group kept.0 in
+group_is : (processed group : List Processed) → In (groups_of processed) group
+    → (key : List ℕ) × (files_with key processed ≡ group) × (has_several group ≡ true)
+group_is processed group c =
+    let kept = in_filter has_several (map (λ (key : List ℕ). files_with key processed) (distinct_keys (keys_in processed))) group c in
+    let made = in_map (λ (key : List ℕ). files_with key processed) (distinct_keys (keys_in processed)) group kept.0 in
     (made.0, made.2, kept.1)
 
 -- a file of a group has its key
-member_is : (key : List ℕ) (taken : List Taken) (t : Taken) → In (files_with key taken) t → t.outcome ≡ Key key
-member_is key taken t c = key_of key t.outcome (in_filter (has_key key) taken t c).1
+member_is : (key : List ℕ) (processed : List Processed) (t : Processed) → In (files_with key processed) t → t.outcome ≡ Key key
+member_is key processed t c = key_of key t.outcome (in_filter (has_key key) processed t c).1
 
 -- no two of these groups have a file in common
-module _ (F : List ℕ → List Taken) (same : (k l : List ℕ) (t : Taken) → In (F k) t → In (F l) t → bytes_eq k l ≡ true) where
-  later : (key : List ℕ) (keys : List (List ℕ)) (t : Taken) (b : ℕ) → In (F key) t → b < length (filter has_several (map F keys))
+module _ (F : List ℕ → List Processed) (same : (k l : List ℕ) (t : Processed) → In (F k) t → In (F l) t → bytes_eq k l ≡ true) where
+  later : (key : List ℕ) (keys : List (List ℕ)) (t : Processed) (b : ℕ) → In (F key) t → b < length (filter has_several (map F keys))
       → In (get_or (filter has_several (map F keys)) b []) t → list_any (bytes_eq key) keys ≡ true
   later key keys t b first lt second =
       let group = get_or (filter has_several (map F keys)) b [] in
       let kept = in_filter has_several (map F keys) group (in_at (filter has_several (map F keys)) b [] lt) in
       let made = in_map F keys group kept.0 in
-      in_any key made.0 keys made.1 (same key made.0 t first (subst (λ (l : List Taken). In l t) (sym made.2) second))
+      in_any key made.0 keys made.1 (same key made.0 t first (subst (λ (l : List Processed). In l t) (sym made.2) second))
 
-  place_once : (keys : List (List ℕ)) → AreApart keys → (a b : ℕ) (t : Taken) → a < length (filter has_several (map F keys))
+  place_once : (keys : List (List ℕ)) → AreApart keys → (a b : ℕ) (t : Processed) → a < length (filter has_several (map F keys))
       → b < length (filter has_several (map F keys)) → In (get_or (filter has_several (map F keys)) a []) t
       → In (get_or (filter has_several (map F keys)) b []) t → a ≡ b
   place_once [] apart a b t in_a in_b first second = absurd (omega (arith, in_a))
@@ -181,52 +182,54 @@ module _ (F : List ℕ → List Taken) (same : (k l : List ℕ) (t : Taken) → 
       by true (suc m) (suc n) in_a in_b first second rest = ap suc (rest m n (omega (arith, in_a)) (omega (arith, in_b)) first second)
       by false m n in_a in_b first second rest = rest m n in_a in_b first second
 
-same_key : (taken : List Taken) (k l : List ℕ) (t : Taken) → In (files_with k taken) t → In (files_with l taken) t → bytes_eq k l ≡ true
-same_key taken k l t first second =
-    let both : Key k ≡ Key l = sym (member_is k taken t first) ∙ member_is l taken t second in
+same_key : (processed : List Processed) (k l : List ℕ) (t : Processed) → In (files_with k processed) t → In (files_with l processed) t → bytes_eq k l ≡ true
+same_key processed k l t first second =
+    let both : Key k ≡ Key l = sym (member_is k processed t first) ∙ member_is l processed t second in
     let keys : k ≡ l = cc in
     subst (λ (m : List ℕ). bytes_eq k m ≡ true) keys (itself k)
 
 -- files with one key are in one group
-together : (taken : List Taken) (i j : ℕ) (s t : Taken) → i < j → slice_get taken i ≡ Some s → slice_get taken j ≡ Some t → HaveOneKey s t
-    → AreInOneGroup taken s t
-together taken i j s t before at_i at_j (key, first, second) =
-    let in_i = slice_get_within taken i s at_i in
-    let in_j = slice_get_within taken j t at_j in
-    let is_s = get_or_from_slice_get taken i s s at_i in
-    let is_t = get_or_from_slice_get taken j t t at_j in
-    let has_s : In taken s = subst (In taken) is_s (in_at taken i s in_i) in
-    let has_t : In taken t = subst (In taken) is_t (in_at taken j t in_j) in
-    let several : 1 < length (files_with key taken) =
-    two_pass (has_key key) taken i j s t before in_j
-    (subst (λ (u : Taken). has_key key u ≡ true) (sym is_s) (of_key key s.outcome first))
-    (subst (λ (u : Taken). has_key key u ≡ true) (sym is_t) (of_key key t.outcome second)) in
-    let there = any_in key (distinct_keys (keys_in taken)) (among_distinct key (keys_in taken) ∙ key_among key taken s has_s first) in (
-      files_with key taken,
-      in_to (groups_of taken) (files_with key taken)
-          (filter_in has_several (map (λ (k : List ℕ). files_with k taken) (distinct_keys (keys_in taken))) (files_with key taken)
-          (map_in (λ (k : List ℕ). files_with k taken) (distinct_keys (keys_in taken)) key there) (lt-ltb 1 (length (files_with key taken)) several)),
-      in_to (files_with key taken) s (filter_in (has_key key) taken s has_s (of_key key s.outcome first)),
-      in_to (files_with key taken) t (filter_in (has_key key) taken t has_t (of_key key t.outcome second)),
+together : (processed : List Processed) (i j : ℕ) (s t : Processed) → i < j → slice_get processed i ≡ Some s → slice_get processed j ≡ Some t → HaveOneKey s t
+    → AreInOneGroup processed s t
+together processed i j s t before at_i at_j (key, first, second) =
+    let in_i = slice_get_within processed i s at_i in
+    let in_j = slice_get_within processed j t at_j in
+    let is_s = get_or_from_slice_get processed i s s at_i in
+    let is_t = get_or_from_slice_get processed j t t at_j in
+    let has_s : In processed s = subst (In processed) is_s (in_at processed i s in_i) in
+    let has_t : In processed t = subst (In processed) is_t (in_at processed j t in_j) in
+    let several : 1 < length (files_with key processed) =
+    two_pass (has_key key) processed i j s t before in_j
+    (subst (λ (u : Processed). has_key key u ≡ true) (sym is_s) (of_key key s.outcome first))
+    (subst (λ (u : Processed). has_key key u ≡ true) (sym is_t) (of_key key t.outcome second)) in
+    let there = any_in key (distinct_keys (keys_in processed)) (among_distinct key (keys_in processed) ∙ key_among key processed s has_s first) in (
+      files_with key processed,
+      in_to (groups_of processed) (files_with key processed)
+          (filter_in has_several (map (λ (k : List ℕ). files_with k processed) (distinct_keys (keys_in processed))) (files_with key processed)
+          (map_in (λ (k : List ℕ). files_with k processed) (distinct_keys (keys_in processed)) key there)
+          (lt-ltb 1 (length (files_with key processed)) several)),
+      in_to (files_with key processed) s (filter_in (has_key key) processed s has_s (of_key key s.outcome first)),
+      in_to (files_with key processed) t (filter_in (has_key key) processed t has_t (of_key key t.outcome second)),
     )
 
 -- and those in one group have one key
-of_one_group : (taken : List Taken) (s t : Taken) → AreInOneGroup taken s t → HaveOneKey s t
-of_one_group taken s t (group, there, has_s, has_t) =
-    let is = group_is taken group (in_from (groups_of taken) group there) in (
+of_one_group : (processed : List Processed) (s t : Processed) → AreInOneGroup processed s t → HaveOneKey s t
+of_one_group processed s t (group, there, has_s, has_t) =
+    let is = group_is processed group (in_from (groups_of processed) group there) in (
       is.0,
-      member_is is.0 taken s (subst (λ (l : List Taken). In l s) (sym is.1) (in_from group s has_s)),
-      member_is is.0 taken t (subst (λ (l : List Taken). In l t) (sym is.1) (in_from group t has_t)),
+      member_is is.0 processed s (subst (λ (l : List Processed). In l s) (sym is.1) (in_from group s has_s)),
+      member_is is.0 processed t (subst (λ (l : List Processed). In l t) (sym is.1) (in_from group t has_t)),
     )
 
 pub groups_are_by_key : GroupsAreByKey
-groups_are_by_key taken = record {
-  together = λ i j s t before at_i at_j. (of_one_group taken s t, together taken i j s t before at_i at_j);
-  several = λ group there. ltb-true 1 (length group) (group_is taken group (in_from (groups_of taken) group there)).2;
-  whole = λ group there. let is = group_is taken group (in_from (groups_of taken) group there) in (is.0, sym is.1);
+groups_are_by_key processed = record {
+  together = λ i j s t before at_i at_j. (of_one_group processed s t, together processed i j s t before at_i at_j);
+  several = λ group there. ltb-true 1 (length group) (group_is processed group (in_from (groups_of processed) group there)).2;
+  whole = λ group there. let is = group_is processed group (in_from (groups_of processed) group there) in (is.0, sym is.1);
   apart = λ a b group other t at_a at_b first second.
-      place_once (λ (key : List ℕ). files_with key taken) (same_key taken) (distinct_keys (keys_in taken)) (distinct_apart (keys_in taken)) a b t
-      (slice_get_within (groups_of taken) a group at_a) (slice_get_within (groups_of taken) b other at_b)
-      (subst (λ (l : List Taken). In l t) (sym (get_or_from_slice_get (groups_of taken) a group [] at_a)) (in_from group t first))
-      (subst (λ (l : List Taken). In l t) (sym (get_or_from_slice_get (groups_of taken) b other [] at_b)) (in_from other t second));
+      place_once (λ (key : List ℕ). files_with key processed) (same_key processed) (distinct_keys (keys_in processed))
+      (distinct_apart (keys_in processed)) a b t
+      (slice_get_within (groups_of processed) a group at_a) (slice_get_within (groups_of processed) b other at_b)
+      (subst (λ (l : List Processed). In l t) (sym (get_or_from_slice_get (groups_of processed) a group [] at_a)) (in_from group t first))
+      (subst (λ (l : List Processed). In l t) (sym (get_or_from_slice_get (groups_of processed) b other [] at_b)) (in_from other t second));
 }

@@ -11,7 +11,7 @@ use Rattle.std.proofs.lemmas.Bool.{or_parts}
 use Rattle.indexmap.specs.IndexMap.{insert_entry}
 use Rattle.file_keys.specs.Duplicates.{Class, classes_of, kept_names, with_name}
 use Rattle.file_keys.specs.Groups.{distinct_keys, files_with, has_key, is_key, key_list, keys_in, name_bytes}
-use Rattle.file_keys.specs.KeyRuns.{Taken}
+use Rattle.file_keys.specs.KeyRuns.{Processed}
 use Rattle.file_keys.specs.declared.duplicates.groups.Group.{Group}
 use Rattle.file_keys.specs.declared.keys.outcome.Outcome.{Outcome}
 use Rattle.file_keys.specs.declared.keys.outcome.Outcome.TheVariants.{Key, Refused, Unopened}
@@ -220,74 +220,76 @@ with_name_there names (key ∷ keys) own name apart there =
         (sym (append-nil (names key)) ∙ ap (λ b. names key ++ cond b (name ∷ []) []) (sym (either_way own key false is))) (rest there)
 
 -- the names of the files with a key
-abbrev names_with : List Taken → List ℕ → List (List ℕ)
-names_with taken key = map name_bytes (files_with key taken)
+abbrev names_with : List Processed → List ℕ → List (List ℕ)
+names_with processed key = map name_bytes (files_with key processed)
 
 -- of one file more
-names_more : (taken : List Taken) (t : Taken) (own : List ℕ) → t.outcome ≡ Key own → (key : List ℕ)
-    → names_with (taken ++ t ∷ []) key ≡ more_names (names_with taken) own (name_bytes t) key
-names_more taken t own is key =
-    ap (map name_bytes) (filter-append (has_key key) taken (t ∷ [])) ∙ map-append name_bytes (files_with key taken) (cond (has_key key t) (t ∷ []) [])
-    ∙ ap (λ (l : List (List ℕ)). names_with taken key ++ l) (by (has_key key t) ∙ ap (λ (o : Outcome). cond (is_key key o) (name_bytes t ∷ []) []) is)
+names_more : (processed : List Processed) (t : Processed) (own : List ℕ) → t.outcome ≡ Key own → (key : List ℕ)
+    → names_with (processed ++ t ∷ []) key ≡ more_names (names_with processed) own (name_bytes t) key
+names_more processed t own is key =
+    ap (map name_bytes) (filter-append (has_key key) processed (t ∷ [])) ∙ map-append name_bytes (files_with key processed) (cond (has_key key t) (t ∷ []) [])
+    ∙ ap (λ (l : List (List ℕ)). names_with processed key ++ l) (by (has_key key t) ∙ ap (λ (o : Outcome). cond (is_key key o) (name_bytes t ∷ []) []) is)
   where
     by : (b : Bool) → map name_bytes (cond b (t ∷ []) []) ≡ cond b (name_bytes t ∷ []) []
     by true = refl
     by false = refl
 
 -- a key that no file has
-no_names : (taken : List Taken) (own : List ℕ) → list_any (bytes_eq own) (keys_in taken) ≡ false → names_with taken own ≡ []
+no_names : (processed : List Processed) (own : List ℕ) → list_any (bytes_eq own) (keys_in processed) ≡ false → names_with processed own ≡ []
 no_names [] own none = refl
-no_names (t ∷ taken) own none = by t.outcome none (λ rest. no_names taken own rest)
+no_names (t ∷ processed) own none = by t.outcome none (λ rest. no_names processed own rest)
   where
-    by : (o : Outcome) → list_any (bytes_eq own) (key_list o ++ keys_in taken) ≡ false
-        → (list_any (bytes_eq own) (keys_in taken) ≡ false → names_with taken own ≡ [])
-        → map name_bytes (cond (is_key own o) (t ∷ files_with own taken) (files_with own taken)) ≡ []
+    by : (o : Outcome) → list_any (bytes_eq own) (key_list o ++ keys_in processed) ≡ false
+        → (list_any (bytes_eq own) (keys_in processed) ≡ false → names_with processed own ≡ [])
+        → map name_bytes (cond (is_key own o) (t ∷ files_with own processed) (files_with own processed)) ≡ []
     by (Key key) none rest =
-        let both = or_parts (bytes_eq own key) (list_any (bytes_eq own) (keys_in taken)) none in
-        ap (λ b. map name_bytes (cond b (t ∷ files_with own taken) (files_with own taken))) both.0 ∙ rest both.1
+        let both = or_parts (bytes_eq own key) (list_any (bytes_eq own) (keys_in processed)) none in
+        ap (λ b. map name_bytes (cond b (t ∷ files_with own processed) (files_with own processed))) both.0 ∙ rest both.1
     by (Refused fault) none rest = rest none
     by (Unopened kind) none rest = rest none
 
 -- the keys of one file more
-keys_more : (taken : List Taken) (t : Taken) → keys_in (taken ++ t ∷ []) ≡ keys_in taken ++ key_list t.outcome
-keys_more taken t =
-    flat_map-append (λ (s : Taken). key_list s.outcome) taken (t ∷ []) ∙ ap (λ (l : List (List ℕ)). keys_in taken ++ l) (append-nil (key_list t.outcome))
+keys_more : (processed : List Processed) (t : Processed) → keys_in (processed ++ t ∷ []) ≡ keys_in processed ++ key_list t.outcome
+keys_more processed t =
+    flat_map-append (λ (s : Processed). key_list s.outcome) processed (t ∷ [])
+    ∙ ap (λ (l : List (List ℕ)). keys_in processed ++ l) (append-nil (key_list t.outcome))
 
 classes_same : (f g : List ℕ → List (List ℕ)) (keys : List (List ℕ)) → ((key : List ℕ) → f key ≡ g key) → classes_by f keys ≡ classes_by g keys
 classes_same f g [] same = refl
 classes_same f g (key ∷ keys) same = ap₂ (λ (l : List (List ℕ)) (more : List Class). (key, l) ∷ more) (same key) (classes_same f g keys same)
 
 -- the classes with one file more that has a key
-pub classes_more : (taken : List Taken) (t : Taken) (own : List ℕ) → t.outcome ≡ Key own
-    → classes_of (taken ++ t ∷ []) ≡ with_name (classes_of taken) own (name_bytes t)
-classes_more taken t own is =
-    ap (λ (keys : List (List ℕ)). classes_by (names_with (taken ++ t ∷ [])) (distinct_keys keys))
-    (keys_more taken t ∙ ap (λ (o : Outcome). keys_in taken ++ key_list o) is)
-    ∙ classes_same (names_with (taken ++ t ∷ [])) more (distinct_keys (keys_in taken ++ own ∷ [])) (names_more taken t own is)
-    ∙ ap (classes_by more) (distinct_more (keys_in taken) own)
-    ∙ by (list_any (bytes_eq own) (keys_in taken)) refl
+pub classes_more : (processed : List Processed) (t : Processed) (own : List ℕ) → t.outcome ≡ Key own
+    → classes_of (processed ++ t ∷ []) ≡ with_name (classes_of processed) own (name_bytes t)
+classes_more processed t own is =
+    ap (λ (keys : List (List ℕ)). classes_by (names_with (processed ++ t ∷ [])) (distinct_keys keys))
+    (keys_more processed t ∙ ap (λ (o : Outcome). keys_in processed ++ key_list o) is)
+    ∙ classes_same (names_with (processed ++ t ∷ [])) more (distinct_keys (keys_in processed ++ own ∷ [])) (names_more processed t own is)
+    ∙ ap (classes_by more) (distinct_more (keys_in processed) own)
+    ∙ by (list_any (bytes_eq own) (keys_in processed)) refl
   where
     more : List ℕ → List (List ℕ)
-    more = more_names (names_with taken) own (name_bytes t)
+    more = more_names (names_with processed) own (name_bytes t)
 
-    by : (b : Bool) → list_any (bytes_eq own) (keys_in taken) ≡ b
-        → classes_by more (cond b (distinct_keys (keys_in taken)) (distinct_keys (keys_in taken) ++ own ∷ [])) ≡ with_name (classes_of taken) own (name_bytes t)
-    by true there = sym (with_name_there (names_with taken) (distinct_keys (keys_in taken)) own (name_bytes t) (distinct_apart (keys_in taken))
-        (among_distinct own (keys_in taken) ∙ there))
+    by : (b : Bool) → list_any (bytes_eq own) (keys_in processed) ≡ b
+        → classes_by more (cond b (distinct_keys (keys_in processed)) (distinct_keys (keys_in processed) ++ own ∷ []))
+        ≡ with_name (classes_of processed) own (name_bytes t)
+    by true there = sym (with_name_there (names_with processed) (distinct_keys (keys_in processed)) own (name_bytes t) (distinct_apart (keys_in processed))
+        (among_distinct own (keys_in processed) ∙ there))
     by false none =
-        let other : list_any (bytes_eq own) (distinct_keys (keys_in taken)) ≡ false = among_distinct own (keys_in taken) ∙ none in
-        map-append (λ (key : List ℕ). (key, more key)) (distinct_keys (keys_in taken)) (own ∷ [])
+        let other : list_any (bytes_eq own) (distinct_keys (keys_in processed)) ≡ false = among_distinct own (keys_in processed) ∙ none in
+        map-append (λ (key : List ℕ). (key, more key)) (distinct_keys (keys_in processed)) (own ∷ [])
         ∙ ap₂ (λ (l : List Class) (names : List (List ℕ)). l ++ (own, names) ∷ [])
-        (sym (with_none (names_with taken) (distinct_keys (keys_in taken)) own (name_bytes t) other))
-        (ap₂ (λ (l : List (List ℕ)) b. l ++ cond b (name_bytes t ∷ []) []) (no_names taken own none) (itself own))
-        ∙ sym (with_name_new (names_with taken) (distinct_keys (keys_in taken)) own (name_bytes t) other)
+        (sym (with_none (names_with processed) (distinct_keys (keys_in processed)) own (name_bytes t) other))
+        (ap₂ (λ (l : List (List ℕ)) b. l ++ cond b (name_bytes t ∷ []) []) (no_names processed own none) (itself own))
+        ∙ sym (with_name_new (names_with processed) (distinct_keys (keys_in processed)) own (name_bytes t) other)
 
 -- and with one that has none
-pub classes_other : (taken : List Taken) (t : Taken) → key_list t.outcome ≡ [] → ((key : List ℕ) → has_key key t ≡ false)
-    → classes_of (taken ++ t ∷ []) ≡ classes_of taken
-classes_other taken t none lacks =
-    ap (λ (keys : List (List ℕ)). classes_by (names_with (taken ++ t ∷ [])) (distinct_keys keys))
-    (keys_more taken t ∙ ap (λ (l : List (List ℕ)). keys_in taken ++ l) none ∙ append-nil (keys_in taken))
-    ∙ classes_same (names_with (taken ++ t ∷ [])) (names_with taken) (distinct_keys (keys_in taken)) (λ key.
-    ap (map name_bytes) (filter-append (has_key key) taken (t ∷ []) ∙ ap (λ b. files_with key taken ++ cond b (t ∷ []) []) (lacks key)
-    ∙ append-nil (files_with key taken)))
+pub classes_other : (processed : List Processed) (t : Processed) → key_list t.outcome ≡ [] → ((key : List ℕ) → has_key key t ≡ false)
+    → classes_of (processed ++ t ∷ []) ≡ classes_of processed
+classes_other processed t none lacks =
+    ap (λ (keys : List (List ℕ)). classes_by (names_with (processed ++ t ∷ [])) (distinct_keys keys))
+    (keys_more processed t ∙ ap (λ (l : List (List ℕ)). keys_in processed ++ l) none ∙ append-nil (keys_in processed))
+    ∙ classes_same (names_with (processed ++ t ∷ [])) (names_with processed) (distinct_keys (keys_in processed)) (λ key.
+    ap (map name_bytes) (filter-append (has_key key) processed (t ∷ []) ∙ ap (λ b. files_with key processed ++ cond b (t ∷ []) []) (lacks key)
+    ∙ append-nil (files_with key processed)))

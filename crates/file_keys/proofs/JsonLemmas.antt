@@ -23,23 +23,23 @@ chunk_at bytes valid (b ∷ more) rest parts valid_len invalid_len last =
 
 -- what was written of a name, before what is left of it
 abbrev pub Written : Option (List ℕ) → Option (List ℕ) → List ℕ → List ℕ → Type 0
-Written a b name rest = (front : List ℕ) × (json_name name ≡ front ++ json_name rest) × Appends a b front
+Written a b name rest = (prefix : List ℕ) × (json_name name ≡ prefix ++ json_name rest) × Appends a b prefix
 
-module _ (name bytes valid invalid rest front : List ℕ) (is : json_name name ≡ front ++ json_name bytes) (parts : bytes ≡ valid ++ (invalid ++ rest))
+module _ (name bytes valid invalid rest prefix : List ℕ) (is : json_name name ≡ prefix ++ json_name bytes) (parts : bytes ≡ valid ++ (invalid ++ rest))
     (valid_len : length valid ≡ utf8_valid_len bytes) (invalid_len : length invalid ≡ utf8_invalid_len (drop (utf8_valid_len bytes) bytes))
     (last : length invalid ≡ 0 → length rest ≡ 0) where
-  further : json_name name ≡ (front ++ json_text (valid ++ replacement_of invalid)) ++ json_name rest
-  further = is ∙ ap (λ (t : List ℕ). front ++ json_text t) (chunk_at bytes valid invalid rest parts valid_len invalid_len last
+  further : json_name name ≡ (prefix ++ json_text (valid ++ replacement_of invalid)) ++ json_name rest
+  further = is ∙ ap (λ (t : List ℕ). prefix ++ json_text t) (chunk_at bytes valid invalid rest parts valid_len invalid_len last
       ∙ sym (append_assoc valid (replacement_of invalid) (utf8_lossy rest)))
-      ∙ ap (λ (t : List ℕ). front ++ t) (text_both (valid ++ replacement_of invalid) (utf8_lossy rest))
-      ∙ sym (append_assoc front (json_text (valid ++ replacement_of invalid)) (json_name rest))
+      ∙ ap (λ (t : List ℕ). prefix ++ t) (text_both (valid ++ replacement_of invalid) (utf8_lossy rest))
+      ∙ sym (append_assoc prefix (json_text (valid ++ replacement_of invalid)) (json_name rest))
 
-  pub written_further : (a b c : Option (List ℕ)) → Appends a b front → Appends b c (json_text (valid ++ replacement_of invalid)) → Written a c name rest
+  pub written_further : (a b c : Option (List ℕ)) → Appends a b prefix → Appends b c (json_text (valid ++ replacement_of invalid)) → Written a c name rest
   written_further a b c first second =
-      (front ++ json_text (valid ++ replacement_of invalid), further, Appends-trans a b c front (json_text (valid ++ replacement_of invalid)) first second)
+      (prefix ++ json_text (valid ++ replacement_of invalid), further, Appends-trans a b c prefix (json_text (valid ++ replacement_of invalid)) first second)
 
-  pub written_broken : (a b c : Option (List ℕ)) → Appends a b front → WritesPrefix b c (json_text (valid ++ replacement_of invalid))
+  pub written_broken : (a b c : Option (List ℕ)) → Appends a b prefix → WritesPrefix b c (json_text (valid ++ replacement_of invalid))
       → WritesPrefix a c (json_name name)
   written_broken a b c first broken = subst (WritesPrefix a c) (sym further)
-      (prefix-grows a c (front ++ json_text (valid ++ replacement_of invalid)) (json_name rest)
-      (prefix-after a b c front (json_text (valid ++ replacement_of invalid)) first broken))
+      (prefix-grows a c (prefix ++ json_text (valid ++ replacement_of invalid)) (json_name rest)
+      (prefix-after a b c prefix (json_text (valid ++ replacement_of invalid)) first broken))

@@ -55,14 +55,14 @@ pub comes_of_text : {A : Type 0} (items : A → List ℕ) (form : KeyForm) (sour
 comes_of_text items form source text key comes hashed = record {
   ok = key_of_text (IsHashedText form MAX_LEVEL) source (items text) key comes.ok hashed;
   err = tt;
-  told = λ failed. absurd (comes.told failed);
+  reported = λ failed. absurd (comes.reported failed);
 }
 
 -- and where there is no text there is no key
 pub no_text_no_key : {A : Type 0} (items : A → List ℕ) (form : KeyForm) (source : SourceRun) (fault : Fault)
     → ComesOf items (IsHashedText form MAX_LEVEL) (RefusesInForm form.form) source (Err fault)
     → ComesOf (λ (k : List ℕ). k) (IsKeyIn form MAX_LEVEL) (RefusesInForm form.form) source (Err fault)
-no_text_no_key items form source fault comes = record { ok = tt; err = comes.err; told = comes.told }
+no_text_no_key items form source fault comes = record { ok = tt; err = comes.err; reported = comes.reported }
 
 -- a run into a sink that never fails is refused by its input alone
 no_key : (source : SourceRun) (sink : SinkRun) (store : Nodes) (fault : Fault) → store.limit ≡ 2 ^ 31 → sink.failures ≡ 0 → sink.stalled ≡ false
@@ -80,15 +80,15 @@ pub placed_comes : (source : SourceRun) (text key : List ℕ) → HasText (IsTex
     → key ≡ sha256 text
     → ComesOf (λ (k : List ℕ). k) (IsKeyOf (IsTextIn Placed MAX_LEVEL)) (RefusesInForm Placed) source (Ok key)
 placed_comes source text key has whole hashed =
-    record { ok = key_of_text (IsTextIn Placed MAX_LEVEL) source text key has hashed; err = tt; told = λ failed. absurd (whole failed) }
+    record { ok = key_of_text (IsTextIn Placed MAX_LEVEL) source text key has hashed; err = tt; reported = λ failed. absurd (whole failed) }
 
 -- or is refused
 pub none_placed : (source : SourceRun) (sink : SinkRun) (store : Nodes) (fault : Fault) → store.limit ≡ 2 ^ 31 → sink.failures ≡ 0
     → sink.stalled ≡ false → RunRefuses MAX_LEVEL (2 ^ 30) store source sink fault
     → (fault ≡ fault_of kinds.Full → IsTooSmallFor [] source store) → (source.failures ≡ 1 → fault.kind ≡ kinds.ReadFault)
     → ComesOf (λ (k : List ℕ). k) (IsKeyOf (IsTextIn Placed MAX_LEVEL)) (RefusesInForm Placed) source (Err fault)
-none_placed source sink store fault limit works takes refuses lacks told =
-    record { ok = tt; err = no_key source sink store fault limit works takes refuses lacks; told = told }
+none_placed source sink store fault limit works takes refuses lacks reported =
+    record { ok = tt; err = no_key source sink store fault limit works takes refuses lacks; reported = reported }
 
 -- the status of a fault is one of the command
 pub kind_status : (kind : Kind) → IsStatus (status_of kind)

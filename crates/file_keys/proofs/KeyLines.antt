@@ -38,7 +38,7 @@ escaped_both : (xs ys : List ℕ) → escaped_name (xs ++ ys) ≡ escaped_name x
 escaped_both [] ys = refl
 escaped_both (x ∷ xs) ys = ap (λ l. escaped_byte x ++ l) (escaped_both xs ys) ∙ sym (append_assoc (escaped_byte x) (escaped_name xs) (escaped_name ys))
 
--- a name behind a front that is written as it is
+-- a name after a prefix that is written as it is
 pub escaped_behind : (name : List ℕ) (k : ℕ) → escaped_name (take k name) ≡ take k name → escaped_name name ≡ take k name ++ escaped_name (drop k name)
 escaped_behind name k plain =
     ap escaped_name (sym (take-append-drop k name)) ∙ escaped_both (take k name) (drop k name) ∙ ap (λ l. l ++ escaped_name (drop k name)) plain
@@ -77,15 +77,15 @@ then_text a b c xs ys (Err e) first second = prefix-after a b c xs ys first seco
 
 -- what was written of a name, before what is left of it
 abbrev pub Written : Option (List ℕ) → Option (List ℕ) → List ℕ → List ℕ → Type 0
-Written a b name rest = (front : List ℕ) × (escaped_name name ≡ front ++ escaped_name rest) × Appends a b front
+Written a b name rest = (prefix : List ℕ) × (escaped_name name ≡ prefix ++ escaped_name rest) × Appends a b prefix
 
 pub written_further : (a b c : Option (List ℕ)) (name rest piece behind : List ℕ) → Written a b name rest → escaped_name rest ≡ piece ++ escaped_name behind
     → Appends b c piece → Written a c name behind
-written_further a b c name rest piece behind (front, is, written) split more =
-    (front ++ piece, is ∙ ap (λ l. front ++ l) split ∙ sym (append_assoc front piece (escaped_name behind)), Appends-trans a b c front piece written more)
+written_further a b c name rest piece behind (prefix, is, written) split more =
+    (prefix ++ piece, is ∙ ap (λ l. prefix ++ l) split ∙ sym (append_assoc prefix piece (escaped_name behind)), Appends-trans a b c prefix piece written more)
 
 pub written_broken : (a b c : Option (List ℕ)) (name rest piece behind : List ℕ) → Written a b name rest → escaped_name rest ≡ piece ++ escaped_name behind
     → WritesPrefix b c piece → WritesPrefix a c (escaped_name name)
-written_broken a b c name rest piece behind (front, is, written) split broken =
-    let whole = is ∙ ap (λ l. front ++ l) split ∙ sym (append_assoc front piece (escaped_name behind)) in
-    subst (WritesPrefix a c) (sym whole) (prefix-grows a c (front ++ piece) (escaped_name behind) (prefix-after a b c front piece written broken))
+written_broken a b c name rest piece behind (prefix, is, written) split broken =
+    let whole = is ∙ ap (λ l. prefix ++ l) split ∙ sym (append_assoc prefix piece (escaped_name behind)) in
+    subst (WritesPrefix a c) (sym whole) (prefix-grows a c (prefix ++ piece) (escaped_name behind) (prefix-after a b c prefix piece written broken))

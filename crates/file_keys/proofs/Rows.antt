@@ -4,7 +4,7 @@ use Rattle.hex.specs.Hex.{encode_lower}
 use Rattle.std.specs.declared.io.ErrorKind.TheVariants as io
 use Rattle.life_base.specs.Refusal.{fault_of}
 use Rattle.life_base.specs.declared.kind.Kind.TheVariants.{Full}
-use Rattle.file_keys.specs.KeyRuns.{errors_of, greatest_status, Listed, names_among, output_of, reports_of, Taken, Word}
+use Rattle.file_keys.specs.KeyRuns.{errors_of, greatest_status, Listed, names_among, output_of, reports_of, Processed, Word}
 use Rattle.file_keys.specs.Keys.{escaped_name, name_mark, pieces_of, end_byte_of_name, without_advice}
 use Rattle.file_keys.specs.declared.keys.outcome.Outcome.TheVariants.{Key, Refused, Unopened}
 use Rattle.file_keys.specs.declared.keys.style.Style.TheVariants.{Lines, Zero, Json}
@@ -42,24 +42,24 @@ zeros = refl
 names : names_among false (codes "a" ∷ codes "-" ∷ []) (codes "\nb\n\nc") ≡ Word (codes "a") ∷ Word (codes "-") ∷ Listed (codes "b") ∷ Listed (codes "c") ∷ []
 names = refl
 
-abbrev taken : List Taken
-taken = record { name = Word (codes "a"); outcome = Key (1 ∷ 171 ∷ []) }
+abbrev processed : List Processed
+processed = record { name = Word (codes "a"); outcome = Key (1 ∷ 171 ∷ []) }
     ∷ record { name = Word (codes "b"); outcome = Refused (without_advice (fault_of Full)) }
     ∷ record { name = Listed (codes "c\nd"); outcome = Unopened io.NotFound } ∷ record { name = Listed (codes "e"); outcome = Key (16 ∷ []) } ∷ []
 
 -- their lines in their order, and the greatest status, which isn't the last one
-lines_out : output_of Lines taken ≡ (encode_lower (1 ∷ 171 ∷ []) ++ codes "  a\n") ++ ((encode_lower (16 ∷ []) ++ codes "  e\n") ++ [])
+lines_out : output_of Lines processed ≡ (encode_lower (1 ∷ 171 ∷ []) ++ codes "  a\n") ++ ((encode_lower (16 ∷ []) ++ codes "  e\n") ++ [])
 lines_out = refl
 
-lines_err : reports_of Zero taken ≡ codes "b: Full: The command needs more than 2^31 different squares, or a form has more than 2^21.\nc\\nd: no such file\n"
+lines_err : reports_of Zero processed ≡ codes "b: Full: The command needs more than 2^31 different squares, or a form has more than 2^21.\nc\\nd: no such file\n"
 lines_err = refl
 
 -- with --json standard error gets none of them
-silent : reports_of Json taken ≡ []
+silent : reports_of Json processed ≡ []
 silent = refl
 
-same_lines : errors_of taken ≡ reports_of Lines taken
+same_lines : errors_of processed ≡ reports_of Lines processed
 same_lines = refl
 
-greatest : greatest_status taken ≡ 4
+greatest : greatest_status processed ≡ 4
 greatest = refl

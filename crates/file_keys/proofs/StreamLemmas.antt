@@ -12,7 +12,7 @@ use Rattle.life_base.specs.declared.kind.Kind.{Kind}
 use Rattle.life_base.specs.declared.kind.Kind.TheVariants as kinds
 use Rattle.pattern_sources.specs.Sources.{by_input, by_length}
 use Rattle.command_line.specs.declared.plans.KeyForm.{KeyForm}
-use Rattle.file_keys.specs.KeyRuns.{IsOutcomeOf, IsToldAs, outcome_status, output_line, report_line, TellsOn, WritesFiles}
+use Rattle.file_keys.specs.KeyRuns.{IsOutcomeOf, IsReportedAs, outcome_status, output_line, report_line, TellsOn, WritesFiles}
 use Rattle.file_keys.specs.Stream.{HoldsPiece, IsOutcomeOfPiece, LacksNul, warning_line, warning_with, WritesEntry}
 use Rattle.file_keys.specs.declared.keys.outcome.Outcome.{Outcome}
 use Rattle.file_keys.specs.declared.keys.outcome.Outcome.TheVariants.{Key, Refused, Unopened}
@@ -23,7 +23,7 @@ use Rattle.file_keys.specs.declared.stream.held_piece.HeldPiece.{HeldPiece}
 
 -- ---- lists of bytes
 
--- the first bytes of two lists, one behind the other
+-- the first bytes of two lists, one after the other
 take_both : (n : ℕ) (xs ys : List ℕ) → take n (xs ++ ys) ≡ take n xs ++ take (n - length (take n xs)) ys
 take_both zero xs ys = refl
 take_both (suc n) [] ys = ap (λ k. take k ys) (all n)
@@ -82,18 +82,18 @@ holds_lacking old new piece more none some lacks holds = record {
     both has = let bad : true ≡ false = sym lacks ∙ has in absurd cc
 
 -- more bytes came, and those are held that there is space for
-module _ (old new : HeldPiece) (piece more : List ℕ) (room : ℕ) (none : LacksNul more) (some : 0 < length more) (had : old.lacks_memory ≡ false)
-    (has : new.lacks_memory ≡ false) (holds : HoldsPiece old piece) (is_room : room ≡ 2 ^ 30 - length old.bytes.items) where
-  room_is : room ≡ 2 ^ 30 - min (2 ^ 30) (length piece)
-  room_is = is_room ∙ ap (λ l. 2 ^ 30 - length l) (holds.bytes had) ∙ ap (λ n. 2 ^ 30 - n) (length-take (2 ^ 30) piece)
+module _ (old new : HeldPiece) (piece more : List ℕ) (space : ℕ) (none : LacksNul more) (some : 0 < length more) (had : old.lacks_memory ≡ false)
+    (has : new.lacks_memory ≡ false) (holds : HoldsPiece old piece) (is_space : space ≡ 2 ^ 30 - length old.bytes.items) where
+  space_is : space ≡ 2 ^ 30 - min (2 ^ 30) (length piece)
+  space_is = is_space ∙ ap (λ l. 2 ^ 30 - length l) (holds.bytes had) ∙ ap (λ n. 2 ^ 30 - n) (length-take (2 ^ 30) piece)
 
-  first_bytes : new.bytes.items ≡ old.bytes.items ++ take room more → new.bytes.items ≡ take (2 ^ 30) (piece ++ more)
+  first_bytes : new.bytes.items ≡ old.bytes.items ++ take space more → new.bytes.items ≡ take (2 ^ 30) (piece ++ more)
   first_bytes is =
-      is ∙ ap (λ l. l ++ take room more) (holds.bytes had)
-      ∙ ap (λ k. take (2 ^ 30) piece ++ take k more) (is_room ∙ ap (λ l. 2 ^ 30 - length l) (holds.bytes had))
+      is ∙ ap (λ l. l ++ take space more) (holds.bytes had)
+      ∙ ap (λ k. take (2 ^ 30) piece ++ take k more) (is_space ∙ ap (λ l. 2 ^ 30 - length l) (holds.bytes had))
       ∙ sym (take_both (2 ^ 30) piece more)
 
-  holds_more : new.bytes.items ≡ old.bytes.items ++ take room more → new.is_long ≡ nat_lt (2 ^ 30) (length (piece ++ more))
+  holds_more : new.bytes.items ≡ old.bytes.items ++ take space more → new.is_long ≡ nat_lt (2 ^ 30) (length (piece ++ more))
       → HoldsPiece new (piece ++ more)
   holds_more is long = record {
     no_end = lacks_both piece more holds.no_end none;
@@ -108,15 +108,15 @@ module _ (old new : HeldPiece) (piece more : List ℕ) (room : ℕ) (none : Lack
   short_at : (n m r : ℕ) → r ≡ 2 ^ 30 - min (2 ^ 30) n → m ≤ r → 0 < m → (n + m ≤ 2 ^ 30) × (n ≤ 2 ^ 30)
   short_at n m r is le lt = (omega (arith, is, le, lt), omega (arith, is, le, lt))
 
-  pub holds_long : room < length more → new.bytes.items ≡ old.bytes.items ++ take room more → new.is_long ≡ true → HoldsPiece new (piece ++ more)
+  pub holds_long : space < length more → new.bytes.items ≡ old.bytes.items ++ take space more → new.is_long ≡ true → HoldsPiece new (piece ++ more)
   holds_long lt is long =
-      let beyond = long_at (length piece) (length more) room room_is lt in
+      let beyond = long_at (length piece) (length more) space space_is lt in
       holds_more is (long ∙ sym (lt-ltb (2 ^ 30) (length (piece ++ more)) (subst (λ n. 2 ^ 30 < n) (sym (length-append piece more)) beyond)))
 
-  pub holds_all : length more ≤ room → new.bytes.items ≡ old.bytes.items ++ more → new.is_long ≡ old.is_long → HoldsPiece new (piece ++ more)
+  pub holds_all : length more ≤ space → new.bytes.items ≡ old.bytes.items ++ more → new.is_long ≡ old.is_long → HoldsPiece new (piece ++ more)
   holds_all le is same =
-      let within = short_at (length piece) (length more) room room_is le some in
-      holds_more (is ∙ ap (λ l. old.bytes.items ++ l) (sym (take_all room more le)))
+      let within = short_at (length piece) (length more) space space_is le some in
+      holds_more (is ∙ ap (λ l. old.bytes.items ++ l) (sym (take_all space more le)))
       (same ∙ holds.long had ∙ le-ltb (2 ^ 30) (length piece) within.1
       ∙ sym (le-ltb (2 ^ 30) (length (piece ++ more)) (subst (λ n. n ≤ 2 ^ 30) (sym (length-append piece more)) within.0)))
 
@@ -162,7 +162,7 @@ too_long_piece form held piece refusal holds has long is foreign = record {
   left = Some [];
   comes = record {
     comes = (
-      by_input (by_length is (record { bytes = piece; taken = sym (append-nil piece); long = beyond (sym (holds.long has) ∙ long) })),
+      by_input (by_length is (record { bytes = piece; consumed = sym (append-nil piece); long = beyond (sym (holds.long has) ∙ long) })),
       foreign ∙ ap (foreign_at_start false) (holds.bytes has) ∙ same_start piece
           ∙ sym (ap (λ (f : Fault). foreign_on f.kind (foreign_at_start false piece)) is),
     );
@@ -196,15 +196,16 @@ module _ {W E : Type 0} (held : W → Option (List ℕ)) (contents : E → Optio
   -- a warning, and then what the style has of a file
   pub entry_written : (u v : W) (x y z : E) (a b : Outputs) (t : Bool) (result : Result (Unit {0}) Kind) (name : List ℕ) (came : Outcome)
       (warning : Option Warning) → TellsOn contents failures stalled a.tells t x y (warning_line name warning)
-      → (told : Outcome) × IsToldAs came told × WritesFiles held contents failures stalled u v y z (record a { tells = t }) b result
-      (output_line a.style name told) (report_line a.style name told) (outcome_status told)
+      → (reported : Outcome) × IsReportedAs came reported × WritesFiles held contents failures stalled u v y z (record a { tells = t }) b result
+      (output_line a.style name reported) (report_line a.style name reported) (outcome_status reported)
       → WritesEntry held contents failures stalled u v x z a b result name came warning
-  entry_written u v x y z a b t result name came warning warned (told, how, writes) = record {
-    told = told;
+  entry_written u v x y z a b t result name came warning warned (reported, how, writes) = record {
+    reported = reported;
     how = how;
     writes = record {
       written = writes.written;
-      told = tells_then contents failures stalled a.tells t b.tells x y z (warning_line name warning) (report_line a.style name told) warned writes.told;
+      reported = tells_then contents failures stalled a.tells t b.tells x y z (warning_line name warning)
+          (report_line a.style name reported) warned writes.reported;
       status = writes.status;
     };
   }

@@ -22,7 +22,7 @@ use Rattle.command_line.specs.declared.origins.Origin.{Origin}
 use Rattle.command_line.specs.declared.plans.KeyForm.{KeyForm}
 use Rattle.command_line.specs.declared.plans.StreamPlan.{StreamPlan}
 use Rattle.file_keys.specs.Keys.{IsStatus, pieces_of}
-use Rattle.file_keys.specs.KeyRuns.{bytes_of_name, greatest_status, IsToldAs, Listed, outcome_status, output_line, output_of, report_line, style_by, Taken, TellsOn, Word, WritesFiles}
+use Rattle.file_keys.specs.KeyRuns.{bytes_of_name, greatest_status, IsReportedAs, Listed, outcome_status, output_line, output_of, report_line, style_by, Processed, TellsOn, Word, WritesFiles}
 use Rattle.file_keys.specs.Stream.{AreEntriesFrom, BeginsWith, BreaksStream, broken, broken_off, CanTakePieces, done, PatternEntry, entry_lines, entry_report, entry_reports, entry_status, fault_entry, IsEntryOf, IsOutcomeOfPiece, LacksNul, partly, patterns_of, StreamRan, TakesPieces, TellsStreamEnd, TellsGiven, TellsSource, TellsStream, through, unopened_entry, warning_line, warning_with, whole, WritesEntries, WritesEntry}
 use Rattle.file_keys.specs.declared.keys.outcome.Outcome.{Outcome}
 use Rattle.file_keys.specs.declared.keys.outcome.Outcome.TheVariants.{Key, Refused, Unopened}
@@ -71,12 +71,12 @@ piece_unended (b ∷ (c ∷ piece)) none some =
 behind_is : (rest : List ℕ) (k : ℕ) → take (length rest - (k + 1)) (drop (k + 1) rest) ≡ drop (suc k) rest
 behind_is rest k = all_behind rest (k + 1) ∙ ap (λ n. drop n rest) (add-one k)
 
-pub split_next : (chunk front rest : List ℕ) (k : ℕ) → chunk ≡ front ++ rest → rest ≡ take k rest ++ 0 ∷ drop (suc k) rest
-    → chunk ≡ (front ++ (take k rest ++ 0 ∷ [])) ++ take (length rest - (k + 1)) (drop (k + 1) rest)
-split_next chunk front rest k is split =
-    is ∙ ap (λ l. front ++ l) (split ∙ sym (append_assoc (take k rest) (0 ∷ []) (drop (suc k) rest)))
-    ∙ sym (append_assoc front (take k rest ++ 0 ∷ []) (drop (suc k) rest))
-    ∙ ap (λ l. (front ++ (take k rest ++ 0 ∷ [])) ++ l) (sym (behind_is rest k))
+pub split_next : (chunk prefix rest : List ℕ) (k : ℕ) → chunk ≡ prefix ++ rest → rest ≡ take k rest ++ 0 ∷ drop (suc k) rest
+    → chunk ≡ (prefix ++ (take k rest ++ 0 ∷ [])) ++ take (length rest - (k + 1)) (drop (k + 1) rest)
+split_next chunk prefix rest k is split =
+    is ∙ ap (λ l. prefix ++ l) (split ∙ sym (append_assoc (take k rest) (0 ∷ []) (drop (suc k) rest)))
+    ∙ sym (append_assoc prefix (take k rest ++ 0 ∷ []) (drop (suc k) rest))
+    ∙ ap (λ l. (prefix ++ (take k rest ++ 0 ∷ [])) ++ l) (sym (behind_is rest k))
 
 pub within_next : (rest : List ℕ) (k n m most : ℕ) → k < length rest → m ≡ n + 1 → n + length rest ≤ most
     → m + length (take (length rest - (k + 1)) (drop (k + 1) rest)) ≤ most
@@ -102,7 +102,7 @@ pub came_beyond : (a b c : Option (List ℕ)) (bytes more : List ℕ) (left : �
     → Consumes b c more → CameBeyond (2 ^ 64 - 2) a c
 came_beyond a b c bytes more left is lt p q = record {
   bytes = bytes ++ more;
-  taken = Consumes-trans a b c bytes more p q;
+  consumed = Consumes-trans a b c bytes more p q;
   long = subst (λ n. 2 ^ 64 - 2 < n) (sym (length-append bytes more)) (at (length bytes) (length more) is lt);
 }
   where
@@ -142,14 +142,14 @@ pub last_piece : (form : KeyForm) (n : ℕ) (begun : List ℕ) (e : PatternEntry
     → AreEntriesFrom form n (patterns_of begun) (e ∷ [])
 last_piece form n begun e none some is = subst (λ ps. AreEntriesFrom form n ps (e ∷ [])) (sym (piece_unended begun none some)) (is, tt)
 
--- and none where nothing is behind the last NUL
+-- and none where nothing is after the last NUL
 pub none_left : (form : KeyForm) (n : ℕ) (begun : List ℕ) → begun ≡ [] → AreEntriesFrom form n (patterns_of begun) []
 none_left form n begun is = subst (λ l. AreEntriesFrom form n (patterns_of l) []) (sym is) tt
 
 lines_then : (style : Style) (es fs : List PatternEntry) → entry_lines style (es ++ fs) ≡ entry_lines style es ++ entry_lines style fs
 lines_then style es fs =
     ap (output_of style) (map-append (λ (e : PatternEntry). e.file) es fs)
-    ∙ flat_map-append (λ (t : Taken). output_line style (bytes_of_name t.name) t.outcome) (map (λ (e : PatternEntry). e.file) es)
+    ∙ flat_map-append (λ (t : Processed). output_line style (bytes_of_name t.name) t.outcome) (map (λ (e : PatternEntry). e.file) es)
     (map (λ (e : PatternEntry). e.file) fs)
 
 status_then : (es fs : List PatternEntry) → entry_status (es ++ fs) ≡ max (entry_status es) (entry_status fs)
@@ -173,14 +173,14 @@ module _ {W E : Type 0} (held : W → Option (List ℕ)) (contents : E → Optio
   -- which error it is doesn't count
   pub written_err : (u v : W) (x y : E) (a b : Outputs) (k k' : Kind) (es : List PatternEntry)
       → WritesEntries held contents failures stalled u v x y a b (Err k) es → WritesEntries held contents failures stalled u v x y a b (Err k') es
-  written_err u v x y a b k k' es p = record { written = p.written; told = p.told; status = p.status }
+  written_err u v x y a b k k' es p = record { written = p.written; reported = p.reported; status = p.status }
 
   -- a flush hands on what was written, or fails, and then all of it was written
   pub written_flushed : (u v w : W) (x y : E) (a b : Outputs) (result : Result (Unit {0}) Kind) (es : List PatternEntry)
       → WritesEntries held contents failures stalled u v x y a b (Ok tt) es → Keeps (held v) (held w)
       → WritesEntries held contents failures stalled u w x y a b result es
   written_flushed u v w x y a b result es p keeps =
-      record { written = at _ result (appends_kept _ _ _ _ p.written keeps); told = p.told; status = p.status }
+      record { written = at _ result (appends_kept _ _ _ _ p.written keeps); reported = p.reported; status = p.status }
     where
       at : (s : List ℕ) (r : Result (Unit {0}) Kind) → Appends (held u) (held w) s → WritesText (held u) (held w) s r
       at s (Ok ended) all = all
@@ -190,7 +190,7 @@ module _ {W E : Type 0} (held : W → Option (List ℕ)) (contents : E → Optio
         written = subst (Appends (held u) (held w)) (sym (take_all (length s) s (omega arith))) all;
       }
 
-  -- what is told of one piece or of the stream
+  -- what is reported of one piece or of the stream
   pub one_written : (u v : W) (x z : E) (a b : Outputs) (result : Result (Unit {0}) Kind) (name : List ℕ) (e : PatternEntry) → name ≡ bytes_of_name e.file.name
       → WritesFiles held contents failures stalled u v x z a b result (output_line a.style name e.file.outcome)
       (warning_line name e.warning ++ report_line a.style name e.file.outcome) (outcome_status e.file.outcome)
@@ -199,7 +199,7 @@ module _ {W E : Type 0} (held : W → Option (List ℕ)) (contents : E → Optio
       let own = subst (λ n. WritesFiles held contents failures stalled u v x z a b result (output_line a.style n e.file.outcome)
       (warning_line n e.warning ++ report_line a.style n e.file.outcome) (outcome_status e.file.outcome)) is writes in record {
         written = subst (λ l. WritesText (held u) (held v) l result) (one_line (output_line a.style (bytes_of_name e.file.name) e.file.outcome)) own.written;
-        told = subst (TellsOn contents failures stalled a.tells b.tells x z) (one_line (entry_report a.style e)) own.told;
+        reported = subst (TellsOn contents failures stalled a.tells b.tells x z) (one_line (entry_report a.style e)) own.reported;
         status = at b.status a.status (outcome_status e.file.outcome) own.status;
       }
     where
@@ -211,13 +211,13 @@ module _ {W E : Type 0} (held : W → Option (List ℕ)) (contents : E → Optio
       → WritesEntry held contents failures stalled u v x z a b result name came warning
       → (e : PatternEntry) × IsEntryOf form number piece e × WritesEntries held contents failures stalled u v x z a b result (e ∷ [])
   entry_of u v x z a b result form number piece name came warning is comes warned wrote =
-      let e : PatternEntry = record { file = record { name = Listed (decimal number); outcome = wrote.told }; warning = warning } in (
+      let e : PatternEntry = record { file = record { name = Listed (decimal number); outcome = wrote.reported }; warning = warning } in (
         e,
-        record { name = refl; came = came; comes = comes; told = wrote.how; warning = warned },
+        record { name = refl; came = came; comes = comes; reported = wrote.how; warning = warned },
         one_written u v x z a b result name e is wrote.writes,
       )
 
-  -- ---- pieces that are taken
+  -- ---- pieces that are processed
 
   -- no byte came yet
   pub pieces_none : (form : KeyForm) (n : ℕ) (begun : List ℕ) (u : W) (x : E) (a : Outputs) → (a.tells ≡ true → failures x ≡ 0)
@@ -238,17 +238,17 @@ module _ {W E : Type 0} (held : W → Option (List ℕ)) (contents : E → Optio
       subst (λ k. TakesPieces held contents failures stalled form 0 k begun [] begun u u x x a a (Ok tt)) (sym none) (pieces_none form 0 begun u x a hears)
 
   -- further bytes, of the piece that is begun
-  pieces_rest : (form : KeyForm) (n m : ℕ) (begun front left bytes : List ℕ) (u v : W) (x y : E) (a b : Outputs) (result : Result (Unit {0}) Kind)
-      → TakesPieces held contents failures stalled form n m begun front left u v x y a b result
-      → TakesPieces held contents failures stalled form n m begun (front ++ bytes) (left ++ bytes) u v x y a b result
-  pieces_rest form n m begun front left bytes u v x y a b result p = record {
+  pieces_rest : (form : KeyForm) (n m : ℕ) (begun prefix left bytes : List ℕ) (u v : W) (x y : E) (a b : Outputs) (result : Result (Unit {0}) Kind)
+      → TakesPieces held contents failures stalled form n m begun prefix left u v x y a b result
+      → TakesPieces held contents failures stalled form n m begun (prefix ++ bytes) (left ++ bytes) u v x y a b result
+  pieces_rest form n m begun prefix left bytes u v x y a b result p = record {
     pieces = p.pieces;
     entries = p.entries;
-    split = λ more. ap (λ l. patterns_of (begun ++ l)) (append_assoc front bytes more) ∙ p.split (bytes ++ more)
+    split = λ more. ap (λ l. patterns_of (begun ++ l)) (append_assoc prefix bytes more) ∙ p.split (bytes ++ more)
         ∙ ap (λ l. p.pieces ++ patterns_of l) (sym (append_assoc left bytes more));
     are = p.are;
     count = p.count;
-    few = subst (λ k. length p.pieces ≤ k) (sym (length-append front bytes)) (at (length p.pieces) (length front) (length bytes) p.few);
+    few = subst (λ k. length p.pieces ≤ k) (sym (length-append prefix bytes)) (at (length p.pieces) (length prefix) (length bytes) p.few);
     writes = p.writes;
   }
     where
@@ -256,27 +256,27 @@ module _ {W E : Type 0} (held : W → Option (List ℕ)) (contents : E → Optio
       at i j k le = omega (arith, le)
 
   -- the same, where these are all bytes
-  pub pieces_all : (form : KeyForm) (n m : ℕ) (begun front left bytes chunk : List ℕ) (u v : W) (x y : E) (a b : Outputs) (result : Result (Unit {0}) Kind)
-      → chunk ≡ front ++ bytes → TakesPieces held contents failures stalled form n m begun front left u v x y a b result
+  pub pieces_all : (form : KeyForm) (n m : ℕ) (begun prefix left bytes chunk : List ℕ) (u v : W) (x y : E) (a b : Outputs) (result : Result (Unit {0}) Kind)
+      → chunk ≡ prefix ++ bytes → TakesPieces held contents failures stalled form n m begun prefix left u v x y a b result
       → TakesPieces held contents failures stalled form n m begun chunk (left ++ bytes) u v x y a b result
-  pieces_all form n m begun front left bytes chunk u v x y a b result is p =
+  pieces_all form n m begun prefix left bytes chunk u v x y a b result is p =
       subst (λ l. TakesPieces held contents failures stalled form n m begun l (left ++ bytes) u v x y a b result) (sym is)
-      (pieces_rest form n m begun front left bytes u v x y a b result p)
+      (pieces_rest form n m begun prefix left bytes u v x y a b result p)
 
   -- pieces, and then further ones of the bytes that follow
-  pieces_then : (form : KeyForm) (n m k : ℕ) (begun front back left last : List ℕ) (u v w : W) (x y z : E) (a b c : Outputs)
-      (result : Result (Unit {0}) Kind) → b.style ≡ a.style → TakesPieces held contents failures stalled form n m begun front left u v x y a b (Ok tt)
+  pieces_then : (form : KeyForm) (n m k : ℕ) (begun prefix back left last : List ℕ) (u v w : W) (x y z : E) (a b c : Outputs)
+      (result : Result (Unit {0}) Kind) → b.style ≡ a.style → TakesPieces held contents failures stalled form n m begun prefix left u v x y a b (Ok tt)
       → TakesPieces held contents failures stalled form m k left back last v w y z b c result
-      → TakesPieces held contents failures stalled form n k begun (front ++ back) last u w x z a c result
-  pieces_then form n m k begun front back left last u v w x y z a b c result same p q = record {
+      → TakesPieces held contents failures stalled form n k begun (prefix ++ back) last u w x z a c result
+  pieces_then form n m k begun prefix back left last u v w x y z a b c result same p q = record {
     pieces = p.pieces ++ q.pieces;
     entries = p.entries ++ q.entries;
-    split = λ more. ap (λ l. patterns_of (begun ++ l)) (append_assoc front back more) ∙ p.split (back ++ more)
+    split = λ more. ap (λ l. patterns_of (begun ++ l)) (append_assoc prefix back more) ∙ p.split (back ++ more)
         ∙ ap (λ l. p.pieces ++ l) (q.split more) ∙ sym (append_assoc p.pieces q.pieces (patterns_of (last ++ more)));
     are = entries_then form (n + 1) (m + 1) p.pieces q.pieces p.entries q.entries (next n m (length p.pieces) p.count) p.are q.are;
     count = subst (λ l. k ≡ n + l) (sym (length-append p.pieces q.pieces)) (sum n m k (length p.pieces) (length q.pieces) p.count q.count);
-    few = subst₂ (λ i j. i ≤ j) (sym (length-append p.pieces q.pieces)) (sym (length-append front back))
-        (both (length p.pieces) (length q.pieces) (length front) (length back) p.few q.few);
+    few = subst₂ (λ i j. i ≤ j) (sym (length-append p.pieces q.pieces)) (sym (length-append prefix back))
+        (both (length p.pieces) (length q.pieces) (length prefix) (length back) p.few q.few);
     writes = written_then u v w x y z a b c result p.entries q.entries same p.writes q.writes;
   }
     where
@@ -289,21 +289,21 @@ module _ {W E : Type 0} (held : W → Option (List ℕ)) (contents : E → Optio
       both : (i j f b : ℕ) → i ≤ f → j ≤ b → i + j ≤ f + b
       both i j f b p q = omega (arith, p, q)
 
-  pub pieces_on : (form form' : KeyForm) (n m k : ℕ) (begun front back left last : List ℕ) (u v w : W) (x y z : E) (a b c : Outputs)
+  pub pieces_on : (form form' : KeyForm) (n m k : ℕ) (begun prefix back left last : List ℕ) (u v w : W) (x y z : E) (a b c : Outputs)
       (result : Result (Unit {0}) Kind) → form' ≡ form → b.style ≡ a.style
-      → TakesPieces held contents failures stalled form n m begun front left u v x y a b (Ok tt)
+      → TakesPieces held contents failures stalled form n m begun prefix left u v x y a b (Ok tt)
       → TakesPieces held contents failures stalled form' m k left back last v w y z b c result
-      → TakesPieces held contents failures stalled form n k begun (front ++ back) last u w x z a c result
-  pieces_on form form' n m k begun front back left last u v w x y z a b c result is same p q =
-      pieces_then form n m k begun front back left last u v w x y z a b c result same p
+      → TakesPieces held contents failures stalled form n k begun (prefix ++ back) last u w x z a c result
+  pieces_on form form' n m k begun prefix back left last u v w x y z a b c result is same p q =
+      pieces_then form n m k begun prefix back left last u v w x y z a b c result same p
       (subst (λ f. TakesPieces held contents failures stalled f m k left back last v w y z b c result) is q)
 
   -- a piece that ends
-  piece_taken : (form : KeyForm) (n : ℕ) (begun bytes : List ℕ) (u v : W) (x y : E) (a b : Outputs) (result : Result (Unit {0}) Kind)
+  piece_processed : (form : KeyForm) (n : ℕ) (begun bytes : List ℕ) (u v : W) (x y : E) (a b : Outputs) (result : Result (Unit {0}) Kind)
       → LacksNul begun → LacksNul bytes
       → (e : PatternEntry) × IsEntryOf form (n + 1) (begun ++ bytes) e × WritesEntries held contents failures stalled u v x y a b result (e ∷ [])
       → TakesPieces held contents failures stalled form n (n + 1) begun (bytes ++ 0 ∷ []) [] u v x y a b result
-  piece_taken form n begun bytes u v x y a b result before none (e, is, writes) = record {
+  piece_processed form n begun bytes u v x y a b result before none (e, is, writes) = record {
     pieces = (begun ++ bytes) ∷ [];
     entries = e ∷ [];
     split = λ more. ap (λ l. patterns_of (begun ++ l)) (append_assoc bytes (0 ∷ []) more) ∙ ap patterns_of (sym (append_assoc begun bytes (0 ∷ more)))
@@ -315,23 +315,23 @@ module _ {W E : Type 0} (held : W → Option (List ℕ)) (contents : E → Optio
   }
 
   -- pieces, and then the one that ends
-  pub pieces_next : (form form' : KeyForm) (n m k : ℕ) (begun front left bytes back : List ℕ) (u v w : W) (x y z : E) (a b c : Outputs)
+  pub pieces_next : (form form' : KeyForm) (n m k : ℕ) (begun prefix left bytes back : List ℕ) (u v w : W) (x y z : E) (a b c : Outputs)
       (result : Result (Unit {0}) Kind) → form' ≡ form → k ≡ m + 1 → back ≡ bytes ++ 0 ∷ [] → b.style ≡ a.style → LacksNul left → LacksNul bytes
-      → TakesPieces held contents failures stalled form n m begun front left u v x y a b (Ok tt)
+      → TakesPieces held contents failures stalled form n m begun prefix left u v x y a b (Ok tt)
       → (e : PatternEntry) × IsEntryOf form' (m + 1) (left ++ bytes) e × WritesEntries held contents failures stalled v w y z b c result (e ∷ [])
-      → TakesPieces held contents failures stalled form n k begun (front ++ back) [] u w x z a c result
-  pieces_next form form' n m k begun front left bytes back u v w x y z a b c result is_form is_next is_back same before none p entry =
+      → TakesPieces held contents failures stalled form n k begun (prefix ++ back) [] u w x z a c result
+  pieces_next form form' n m k begun prefix left bytes back u v w x y z a b c result is_form is_next is_back same before none p entry =
       let one = subst (λ f. (e : PatternEntry) × IsEntryOf f (m + 1) (left ++ bytes) e
       × WritesEntries held contents failures stalled v w y z b c result (e ∷ [])) is_form entry in
-      let here = piece_taken form m left bytes v w y z b c result before none one in
-      pieces_then form n m k begun front back left [] u v w x y z a b c result same p
+      let here = piece_processed form m left bytes v w y z b c result before none one in
+      pieces_then form n m k begun prefix back left [] u v w x y z a b c result same p
       (subst₂ (λ j l. TakesPieces held contents failures stalled form m j left l [] v w y z b c result) (sym is_next) (sym is_back) here)
 
   -- which error it is doesn't count
-  pub pieces_err : (form : KeyForm) (n m : ℕ) (begun front left : List ℕ) (u v : W) (x y : E) (a b : Outputs) (k k' : Kind)
-      → TakesPieces held contents failures stalled form n m begun front left u v x y a b (Err k)
-      → TakesPieces held contents failures stalled form n m begun front left u v x y a b (Err k')
-  pieces_err form n m begun front left u v x y a b k k' p = record {
+  pub pieces_err : (form : KeyForm) (n m : ℕ) (begun prefix left : List ℕ) (u v : W) (x y : E) (a b : Outputs) (k k' : Kind)
+      → TakesPieces held contents failures stalled form n m begun prefix left u v x y a b (Err k)
+      → TakesPieces held contents failures stalled form n m begun prefix left u v x y a b (Err k')
+  pieces_err form n m begun prefix left u v x y a b k k' p = record {
     pieces = p.pieces;
     entries = p.entries;
     split = p.split;
@@ -348,11 +348,11 @@ module _ {W E : Type 0} (held : W → Option (List ℕ)) (contents : E → Optio
   first_pieces form count came left u v x y a b result p = λ more. (patterns_of (left ++ more), p.split more)
 
   -- a stream of which the output failed before its end
-  pub partly_told : (form : KeyForm) (source : SourceRun) (count : ℕ) (came left : List ℕ) (u v : W) (x y : E) (a b : Outputs) (k k' : Kind)
+  pub partly_reported : (form : KeyForm) (source : SourceRun) (count : ℕ) (came left : List ℕ) (u v : W) (x y : E) (a b : Outputs) (k k' : Kind)
       → Consumes source.before source.after came → TakesPieces held contents failures stalled form 0 count [] came left u v x y a b (Err k)
       → (entries : List PatternEntry) × (is_all : Bool) × Unit {0} × TellsSource form source entries is_all
       × WritesEntries held contents failures stalled u v x y a b (Err k') entries
-  partly_told form source count came left u v x y a b k k' consumes p = (
+  partly_reported form source count came left u v x y a b k k' consumes p = (
     p.entries,
     false,
     tt,
@@ -361,14 +361,14 @@ module _ {W E : Type 0} (held : W → Option (List ℕ)) (contents : E → Optio
   )
 
   -- one that was read as far as it can be read
-  pub stream_told : (form form' : KeyForm) (source : SourceRun) (count : ℕ) (came left : List ℕ) (stop : Option Kind) (u v w : W) (x y z : E)
+  pub stream_reported : (form form' : KeyForm) (source : SourceRun) (count : ℕ) (came left : List ℕ) (stop : Option Kind) (u v w : W) (x y z : E)
       (a b c : Outputs) (result : Result (Unit {0}) Kind) (entries : List PatternEntry) → form' ≡ form → b.style ≡ a.style
       → Consumes source.before source.after came → TakesPieces held contents failures stalled form 0 count [] came left u v x y a b (Ok tt)
       → MatchOption stop (IsAtEnd source.after × (source.failures ≡ 0)) (BreaksStream source) → TellsStreamEnd form' count stop left entries
       → WritesEntries held contents failures stalled v w y z b c result entries
       → (all : List PatternEntry) × (is_all : Bool) × OnOk result (is_all ≡ true) × TellsSource form source all is_all
       × WritesEntries held contents failures stalled u w x z a c result all
-  stream_told form form' source count came left None u v w x y z a b c result entries is same consumes p end tells writes =
+  stream_reported form form' source count came left None u v w x y z a b c result entries is same consumes p end tells writes =
       let all = sym (ap patterns_of (append-nil came)) ∙ p.split [] ∙ ap (λ l. p.pieces ++ patterns_of l) (append-nil left) in
       let are = entries_then form 1 (count + 1) p.pieces (patterns_of left) p.entries entries (at count (length p.pieces) p.count) p.are
       (subst (λ f. AreEntriesFrom f (count + 1) (patterns_of left) entries) is tells) in (
@@ -385,7 +385,7 @@ module _ {W E : Type 0} (held : W → Option (List ℕ)) (contents : E → Optio
       of_any : (r : Result (Unit {0}) Kind) → OnOk r (true ≡ true)
       of_any (Ok ended) = refl
       of_any (Err kind) = tt
-  stream_told form form' source count came left (Some kind) u v w x y z a b c result entries is same consumes p breaks tells writes = (
+  stream_reported form form' source count came left (Some kind) u v w x y z a b c result entries is same consumes p breaks tells writes = (
     p.entries ++ entries,
     true,
     of_any result,
@@ -401,24 +401,24 @@ module _ {W E : Type 0} (held : W → Option (List ℕ)) (contents : E → Optio
       of_any (Ok ended) = refl
       of_any (Err kind) = tt
 
-  told_unopened : (kind : _) (told : Outcome) → IsToldAs (Unopened kind) told → told ≡ Unopened kind
-  told_unopened kind told (inl is) = is
-  told_unopened kind told (inr (key, is, wants)) = absurd cc
+  reported_unopened : (kind : _) (reported : Outcome) → IsReportedAs (Unopened kind) reported → reported ≡ Unopened kind
+  reported_unopened kind reported (inl is) = is
+  reported_unopened kind reported (inr (key, is, wants)) = absurd cc
 
   -- one that can't be opened
-  pub unopened_told : (u v : W) (x y : E) (a b : Outputs) (result : Result (Unit {0}) Kind) (name : List ℕ) (error : IoError) (kind : _)
+  pub unopened_reported : (u v : W) (x y : E) (a b : Outputs) (result : Result (Unit {0}) Kind) (name : List ℕ) (error : IoError) (kind : _)
       → kind ≡ error_kind error → WritesEntry held contents failures stalled u v x y a b result name (Unopened kind) None
       → (entries : List PatternEntry) × (is_all : Bool) × OnOk result (is_all ≡ true) × (entries ≡ unopened_entry name error ∷ [])
       × WritesEntries held contents failures stalled u v x y a b result entries
-  unopened_told u v x y a b result name error kind is wrote =
-      let told = told_unopened kind wrote.told wrote.how ∙ ap Unopened is in (
+  unopened_reported u v x y a b result name error kind is wrote =
+      let reported = reported_unopened kind wrote.reported wrote.how ∙ ap Unopened is in (
         unopened_entry name error ∷ [],
         true,
         of_any result,
         refl,
         one_written u v x y a b result name (unopened_entry name error) refl
             (subst (λ o. WritesFiles held contents failures stalled u v x y a b result (output_line a.style name o)
-            (warning_line name None ++ report_line a.style name o) (outcome_status o)) told wrote.writes),
+            (warning_line name None ++ report_line a.style name o) (outcome_status o)) reported wrote.writes),
       )
     where
       of_any : (r : Result (Unit {0}) Kind) → OnOk r (true ≡ true)
@@ -428,7 +428,7 @@ module _ {W E : Type 0} (held : W → Option (List ℕ)) (contents : E → Optio
 module _ {F R W E : Type 0} (step : F → Origin → Result (OpenedFile R) IoError → F → Type 0) (remaining : R → Option (List ℕ)) (reads_failed : R → ℕ)
     (held : W → Option (List ℕ)) (w-failures : W → ℕ) (w-stalled : W → Bool)
     (contents : E → Option (List ℕ)) (failures : E → ℕ) (stalled : E → Bool) where
-  -- what is told of the stream that a plan names
+  -- what is reported of the stream that a plan names
   pub stream_tells : (plan : StreamPlan) (opener after : F) (given : Result (OpenedFile R) IoError) (name : List ℕ) (entries : List PatternEntry)
       (is_all : Bool) → OpenerGives step plan.stream.now opener given after → name ≡ plan.stream.now
       → TellsGiven remaining reads_failed plan.form name given entries is_all → TellsStream step remaining reads_failed plan opener entries is_all
@@ -450,7 +450,7 @@ module _ {F R W E : Type 0} (step : F → Origin → Result (OpenedFile R) IoErr
       (subst (λ s. Appends (held u) (held v) (entry_lines s entries)) is_style p.written) is_flushed
       (tells_all contents failures stalled b.tells x y (entry_reports (style_by plan.json plan.zero) entries)
       (subst (λ s. TellsOn contents failures stalled true b.tells x y (entry_reports s entries)) is_style
-      (subst (λ t. TellsOn contents failures stalled t b.tells x y (entry_reports a.style entries)) hears p.told)))
+      (subst (λ t. TellsOn contents failures stalled t b.tells x y (entry_reports a.style entries)) hears p.reported)))
       (from_none a.status b.status (entry_status entries) p.status none)
 
   -- a run that is broken off
@@ -462,13 +462,13 @@ module _ {F R W E : Type 0} (step : F → Origin → Result (OpenedFile R) IoErr
       → (b.tells ≡ true → Reports (sink_run contents failures stalled y z) (fault_line (refusal_of (fault_of kind)))) → (b.tells ≡ false → z ≡ y)
       → status ≡ status_of kind
       → StreamRan step remaining reads_failed plan opener (sink_run held w-failures w-stalled u v) (sink_run contents failures stalled x z) flushed status
-  stream_broken plan opener u v x y z a b flushed entries is_all kind status is_style hears tells p is cause told silent is_status =
+  stream_broken plan opener u v x y z a b flushed entries is_all kind status is_style hears tells p is cause reported silent is_status =
       broken_off entries is_all tells (subst (λ s. WritesPrefix (held u) (held v) (entry_lines s entries)) is_style p.written) cause
       (subst (λ k. Reports (sink_run contents failures stalled x z) (entry_reports (style_by plan.json plan.zero) entries
       ++ fault_line (refusal_of (fault_of k)))) is
       (broken_tells contents failures stalled b.tells x y z (entry_reports (style_by plan.json plan.zero) entries) _
       (subst (λ s. TellsOn contents failures stalled true b.tells x y (entry_reports s entries)) is_style
-      (subst (λ t. TellsOn contents failures stalled t b.tells x y (entry_reports a.style entries)) hears p.told)) told silent))
+      (subst (λ t. TellsOn contents failures stalled t b.tells x y (entry_reports a.style entries)) hears p.reported)) reported silent))
       (is_status ∙ ap status_of is)
 
   -- and the status of one that comes to its end

@@ -2,7 +2,7 @@
 use Rattle.std.specs.Prelude.{◌≡◌, ◌⊎◌, ◌↔◌, ◌<◌, ◌==◌, ℕ, Bool, true, false, not, nat_lt, List, [], ◌∷◌, ◌++◌, map, filter, flat_map, length, slice_get, Contains, Some, codes, if◌then◌else◌}
 use Rattle.std.specs.Str.{bytes_eq}
 use Rattle.life_base.specs.Text.{is_empty}
-use Rattle.file_keys.specs.KeyRuns.{bytes_of_name, greatest_status, Taken}
+use Rattle.file_keys.specs.KeyRuns.{bytes_of_name, greatest_status, Processed}
 use Rattle.file_keys.specs.Keys.{escaped_name, IsStatus}
 use Rattle.file_keys.specs.declared.keys.outcome.Outcome.{Outcome}
 use Rattle.file_keys.specs.declared.keys.outcome.Outcome.TheVariants.{Key, Refused, Unopened}
@@ -14,8 +14,8 @@ key_list (Refused fault) = []
 key_list (Unopened kind) = []
 
 -- the keys of the files that have one, in the order of the files
-abbrev pub keys_in : List Taken → List (List ℕ)
-keys_in taken = flat_map (λ (t : Taken). key_list t.outcome) taken
+abbrev pub keys_in : List Processed → List (List ℕ)
+keys_in processed = flat_map (λ (t : Processed). key_list t.outcome) processed
 
 -- whether a file has this key
 abbrev pub is_key : List ℕ → Outcome → Bool
@@ -23,12 +23,12 @@ is_key key (Key own) = bytes_eq key own
 is_key key (Refused fault) = false
 is_key key (Unopened kind) = false
 
-abbrev pub has_key : List ℕ → Taken → Bool
+abbrev pub has_key : List ℕ → Processed → Bool
 has_key key t = is_key key t.outcome
 
 -- the files with this key, in their order
-abbrev pub files_with : List ℕ → List Taken → List Taken
-files_with key taken = filter (has_key key) taken
+abbrev pub files_with : List ℕ → List Processed → List Processed
+files_with key processed = filter (has_key key) processed
 
 -- each of these keys once, in the order in which they come first
 abbrev pub distinct_keys : List (List ℕ) → List (List ℕ)
@@ -40,16 +40,16 @@ abbrev pub has_several : {X : Type 0} → List X → Bool
 has_several xs = nat_lt 1 (length xs)
 
 -- The groups: for each key that more than one file has, all files with it, in their order. They are in the order of their first files.
-abbrev pub groups_of : List Taken → List (List Taken)
-groups_of taken = filter has_several (map (λ (key : List ℕ). files_with key taken) (distinct_keys (keys_in taken)))
+abbrev pub groups_of : List Processed → List (List Processed)
+groups_of processed = filter has_several (map (λ (key : List ℕ). files_with key processed) (distinct_keys (keys_in processed)))
 
--- the name of a file that was taken
-abbrev pub name_bytes : Taken → List ℕ
+-- the name of a file that was processed
+abbrev pub name_bytes : Processed → List ℕ
 name_bytes t = bytes_of_name t.name
 
 -- the names in each group
-abbrev pub group_names : List Taken → List (List (List ℕ))
-group_names taken = map (map name_bytes) (groups_of taken)
+abbrev pub group_names : List Processed → List (List (List ℕ))
+group_names processed = map (map name_bytes) (groups_of processed)
 
 -- the names that are printed: those of each group, and an empty one between two groups
 abbrev pub printed_names : List (List (List ℕ)) → List (List ℕ)
@@ -74,34 +74,34 @@ abbrev pub status_by : ℕ → Bool → ℕ
 status_by greatest has_none = if greatest == 0 then (if has_none then 1 else 0) else greatest
 
 -- the status of a run whose groups were printed: the greatest one of a file, or else 0 if there is a group and 1 if there is none
-abbrev pub printed_status : List Taken → ℕ
-printed_status taken = status_by (greatest_status taken) (is_empty (groups_of taken))
+abbrev pub printed_status : List Processed → ℕ
+printed_status processed = status_by (greatest_status processed) (is_empty (groups_of processed))
 
 -- a status of the command: no two files have one key, or it is one of `keys`
 abbrev pub IsGroupStatus : ℕ → Type 0
 IsGroupStatus status = (status ≡ 1) ⊎ IsStatus status
 
 -- both files have a key, and it is the same
-abbrev pub HaveOneKey : Taken → Taken → Type 0
+abbrev pub HaveOneKey : Processed → Processed → Type 0
 HaveOneKey s t = (key : List ℕ) × (s.outcome ≡ Key key) × (t.outcome ≡ Key key)
 
 -- there is a group with both files
-abbrev pub AreInOneGroup : List Taken → Taken → Taken → Type 0
-AreInOneGroup taken s t = (group : List Taken) × Contains (groups_of taken) group × Contains group s × Contains group t
+abbrev pub AreInOneGroup : List Processed → Processed → Processed → Type 0
+AreInOneGroup processed s t = (group : List Processed) × Contains (groups_of processed) group × Contains group s × Contains group t
 
 -- what the groups of files are, by their keys alone
-pub record AreByKey (taken : List Taken) : Type 0 where
+pub record AreByKey (processed : List Processed) : Type 0 where
   -- two files of a run are in one group exactly if both have a key and the keys are equal
-  pub together : (i j : ℕ) (s t : Taken) → i < j → slice_get taken i ≡ Some s → slice_get taken j ≡ Some t
-      → AreInOneGroup taken s t ↔ HaveOneKey s t
+  pub together : (i j : ℕ) (s t : Processed) → i < j → slice_get processed i ≡ Some s → slice_get processed j ≡ Some t
+      → AreInOneGroup processed s t ↔ HaveOneKey s t
   -- a group has two files or more
-  pub several : (group : List Taken) → Contains (groups_of taken) group → 1 < length group
+  pub several : (group : List Processed) → Contains (groups_of processed) group → 1 < length group
   -- it is all files with some key, in their order
-  pub whole : (group : List Taken) → Contains (groups_of taken) group → (key : List ℕ) × (group ≡ files_with key taken)
+  pub whole : (group : List Processed) → Contains (groups_of processed) group → (key : List ℕ) × (group ≡ files_with key processed)
   -- no file is in two groups
-  pub apart : (a b : ℕ) (group other : List Taken) (t : Taken) → slice_get (groups_of taken) a ≡ Some group
-      → slice_get (groups_of taken) b ≡ Some other → Contains group t → Contains other t → a ≡ b
+  pub apart : (a b : ℕ) (group other : List Processed) (t : Processed) → slice_get (groups_of processed) a ≡ Some group
+      → slice_get (groups_of processed) b ≡ Some other → Contains group t → Contains other t → a ≡ b
 
 -- this holds of all files that a run can take
 abbrev pub GroupsAreByKey : Type 0
-GroupsAreByKey = (taken : List Taken) → AreByKey taken
+GroupsAreByKey = (processed : List Processed) → AreByKey processed

@@ -45,8 +45,8 @@ bytes_of_name (Listed name) = name
 abbrev pub names_in : ℕ → List ℕ → List (List ℕ)
 names_in end list = filter (λ (piece : List ℕ). not (is_empty piece)) (pieces_of end list)
 
--- a file that was taken: its name, and what it came to
-pub record Taken : Type 0 where
+-- a file that was processed: its name, and what it came to
+pub record Processed : Type 0 where
   pub name : Name
   pub outcome : Outcome
 
@@ -88,25 +88,25 @@ outcome_status (Refused refusal) = status_of refusal.fault.kind
 outcome_status (Unopened kind) = 3
 
 -- the lines of the files on standard output, in their order
-abbrev pub output_of : Style → List Taken → List ℕ
-output_of style taken = flat_map (λ (t : Taken). output_line style (bytes_of_name t.name) t.outcome) taken
+abbrev pub output_of : Style → List Processed → List ℕ
+output_of style processed = flat_map (λ (t : Processed). output_line style (bytes_of_name t.name) t.outcome) processed
 
 -- and on standard error
-abbrev pub reports_of : Style → List Taken → List ℕ
-reports_of style taken = flat_map (λ (t : Taken). report_line style (bytes_of_name t.name) t.outcome) taken
+abbrev pub reports_of : Style → List Processed → List ℕ
+reports_of style processed = flat_map (λ (t : Processed). report_line style (bytes_of_name t.name) t.outcome) processed
 
 -- the same of `duplicates`, which has no style
-abbrev pub errors_of : List Taken → List ℕ
-errors_of taken = flat_map (λ (t : Taken). error_line (bytes_of_name t.name) t.outcome) taken
+abbrev pub errors_of : List Processed → List ℕ
+errors_of processed = flat_map (λ (t : Processed). error_line (bytes_of_name t.name) t.outcome) processed
 
 -- the greatest status of the files, or 0
-abbrev pub greatest_status : List Taken → ℕ
+abbrev pub greatest_status : List Processed → ℕ
 greatest_status [] = 0
-greatest_status (t ∷ taken) = max (outcome_status t.outcome) (greatest_status taken)
+greatest_status (t ∷ processed) = max (outcome_status t.outcome) (greatest_status processed)
 
 -- the names of the files, in their order
-abbrev pub names_of : List Taken → List Name
-names_of taken = map (λ (t : Taken). t.name) taken
+abbrev pub names_of : List Processed → List Name
+names_of processed = map (λ (t : Processed). t.name) processed
 
 -- What is reported on a sink that goes from `old` to `new`. It takes texts before (`tells`) and after (`goes_on`), or not any more: where it fails or
 -- takes no bytes a prefix of the text is written, and from then on nothing.
@@ -122,12 +122,12 @@ TellsOn contents failures stalled false true old new text = ⊥
 pub record WritesFiles {W E : Type 0} (held : W → Option (List ℕ)) (contents : E → Option (List ℕ)) (failures : E → ℕ) (stalled : E → Bool)
     (out_old out_new : W) (err_old err_new : E) (old new : Outputs) (result : Result (Unit {0}) Kind) (keys faults : List ℕ) (greatest : ℕ) : Type 0 where
   pub written : WritesText (held out_old) (held out_new) keys result
-  pub told : TellsOn contents failures stalled old.tells new.tells err_old err_new faults
+  pub reported : TellsOn contents failures stalled old.tells new.tells err_old err_new faults
   pub status : new.status ≡ max old.status greatest
 
 -- what is reported of a file: what it came to, or that memory was refused for the line of its key
-abbrev pub IsToldAs : Outcome → Outcome → Type 0
-IsToldAs outcome told = (told ≡ outcome) ⊎ ((key : List ℕ) × (outcome ≡ Key key) × (told ≡ Refused (without_advice (fault_of kinds.Memory))))
+abbrev pub IsReportedAs : Outcome → Outcome → Type 0
+IsReportedAs outcome reported = (reported ≡ outcome) ⊎ ((key : List ℕ) × (outcome ≡ Key key) × (reported ≡ Refused (without_advice (fault_of kinds.Memory))))
 
 -- what a name names: of a list always a file, and nothing where it is no UTF-8 text
 abbrev pub NamesOrigin : Name → Origin → Type 0
@@ -136,8 +136,8 @@ NamesOrigin (Listed name) Standard = ⊥
 NamesOrigin (Listed name) (File text) = text.now ≡ name
 
 -- a name in a list that is no UTF-8 text can't be opened
-abbrev pub IsNoText : Taken → Type 0
-IsNoText taken = (bytes : List ℕ) × (taken.name ≡ Listed bytes) × (¬ IsUtf8 bytes) × (taken.outcome ≡ Unopened io.InvalidData)
+abbrev pub IsNoText : Processed → Type 0
+IsNoText processed = (bytes : List ℕ) × (processed.name ≡ Listed bytes) × (¬ IsUtf8 bytes) × (processed.outcome ≡ Unopened io.InvalidData)
 
 -- what comes of a source that was opened: its key in the form; or why it has none, with what the opener said of the file
 abbrev pub ComesOfSource : KeyForm → Option Foreign → SourceRun → Outcome → Type 0
@@ -165,15 +165,15 @@ module _ {F R : Type 0} (step : F → Origin → Result (OpenedFile R) IoError �
   Comes (Err error) (Unopened kind) = kind ≡ error_kind error
   Comes _ _ = ⊥
 
-  -- a file was taken: the opener was called for what the name names, and this came of it; or the name is no text, and it wasn't called
-  pub data Takes (before : F) (taken : Taken) (after : F) : Type 0 where
-    by_call : (origin : Origin) (given : Result (OpenedFile R) IoError) → NamesOrigin taken.name origin → step before origin given after
-        → Comes given taken.outcome → Takes before taken after
-    by_name : IsNoText taken → after ≡ before → Takes before taken after
+  -- a file was processed: the opener was called for what the name names, and this came of it; or the name is no text, and it wasn't called
+  pub data Takes (before : F) (processed : Processed) (after : F) : Type 0 where
+    by_call : (origin : Origin) (given : Result (OpenedFile R) IoError) → NamesOrigin processed.name origin → step before origin given after
+        → Comes given processed.outcome → Takes before processed after
+    by_name : IsNoText processed → after ≡ before → Takes before processed after
 
-  -- the files were taken one after another, in this order
-  abbrev pub TakesAll : F → List Taken → F → Type 0
-  TakesAll before taken after = FoldsTo Takes before taken after
+  -- the files were processed one after another, in this order
+  abbrev pub TakesAll : F → List Processed → F → Type 0
+  TakesAll before processed after = FoldsTo Takes before processed after
 
 -- a run can begin: its opener can be called, and neither output has failed, or has taken no bytes
 abbrev pub CanBegin : {F W E : Type 0} → (F → Type 0) → (W → ℕ) → (W → Bool) → (E → ℕ) → (E → Bool) → F → W → E → Type 0
@@ -215,41 +215,42 @@ module _ {F R : Type 0} (step : F → Origin → Result (OpenedFile R) IoError �
     by_reading : (opened : OpenedFile R) (after : F) (end : R) → OpenerGives step word before (Ok opened) after
         → LacksBytes (source_run remaining reads_failed opened.source end) kind → LacksList word before kind
 
-  -- After the list was read files were taken, one after another, in the order of the names, but for the last names, `rest`.
-  pub record Took (plan : KeysPlan) (opener : F) (taken : List Taken) (rest : List Name) : Type 0 where
+  -- After the list was read files were processed, one after another, in the order of the names, but for the last names, `rest`.
+  pub record Took (plan : KeysPlan) (opener : F) (processed : List Processed) (rest : List Name) : Type 0 where
     pub list : List ℕ
     pub ready : F
     pub last : F
     pub read : ReadsList (list_word plan) opener list ready
-    pub names : names_among plan.zero (words_of_plan plan) list ≡ names_of taken ++ rest
-    pub takes : TakesAll step remaining reads_failed plan.form ready taken last
+    pub names : names_among plan.zero (words_of_plan plan) list ≡ names_of processed ++ rest
+    pub takes : TakesAll step remaining reads_failed plan.form ready processed last
 
   -- What a run did with its files and outputs, and the status that it answered.
   pub data KeysRan (plan : KeysPlan) (opener : F) (output error : SinkRun) (flushed : Bool) (status : ℕ) : Type 0 where
-    -- All files were taken: their lines were written, or reported, and the greatest status is answered.
-    through : (taken : List Taken) → Took plan opener taken [] → Appends output.before output.after (output_of (style_of plan) taken) → flushed ≡ true
-        → Reports error (reports_of (style_of plan) taken) → status ≡ greatest_status taken → KeysRan plan opener output error flushed status
-    -- Standard output failed, or took no bytes: the first files were taken, and a prefix of their lines was written.
-    broken_off : (taken : List Taken) (rest : List Name) → Took plan opener taken rest
-        → WritesPrefix output.before output.after (output_of (style_of plan) taken) → (output.failures ≡ 1) ⊎ (output.stalled ≡ true)
-        → Reports error (reports_of (style_of plan) taken ++ fault_line (refusal_of (fault_of kinds.WriteFault)))
+    -- All files were processed: their lines were written, or reported, and the greatest status is answered.
+    through : (processed : List Processed) → Took plan opener processed [] → Appends output.before output.after (output_of (style_of plan) processed)
+        → flushed ≡ true
+        → Reports error (reports_of (style_of plan) processed) → status ≡ greatest_status processed → KeysRan plan opener output error flushed status
+    -- Standard output failed, or took no bytes: the first files were processed, and a prefix of their lines was written.
+    broken_off : (processed : List Processed) (rest : List Name) → Took plan opener processed rest
+        → WritesPrefix output.before output.after (output_of (style_of plan) processed) → (output.failures ≡ 1) ⊎ (output.stalled ≡ true)
+        → Reports error (reports_of (style_of plan) processed ++ fault_line (refusal_of (fault_of kinds.WriteFault)))
         → status ≡ status_of kinds.WriteFault
         → KeysRan plan opener output error flushed status
-    -- There is no list, and no file was taken.
+    -- There is no list, and no file was processed.
     without_list : (word : List ℕ) (kind : Kind) → list_word plan ≡ Some word → LacksList word opener kind
         → Reports error (fault_line (refusal_of (fault_of kind))) → status ≡ status_of kind → output.after ≡ output.before
         → KeysRan plan opener output error flushed status
 
 module _ {F R W E : Type 0} (step : F → Origin → Result (OpenedFile R) IoError → F → Type 0) (remaining : R → Option (List ℕ)) (reads_failed : R → ℕ)
     (held : W → Option (List ℕ)) (contents : E → Option (List ℕ)) (failures : E → ℕ) (stalled : E → Bool) where
-  -- Files were taken, one after another, in the order of these names, but for the last names, `rest`; and this was written of them.
+  -- Files were processed, one after another, in the order of these names, but for the last names, `rest`; and this was written of them.
   pub record TakesFiles (form : KeyForm) (names rest : List Name) (opener_old opener_new : F) (out_old out_new : W) (err_old err_new : E)
       (old new : Outputs) (result : Result (Unit {0}) Kind) : Type 0 where
-    pub taken : List Taken
-    pub split : names ≡ names_of taken ++ rest
-    pub takes : TakesAll step remaining reads_failed form opener_old taken opener_new
-    pub writes : WritesFiles held contents failures stalled out_old out_new err_old err_new old new result (output_of old.style taken)
-        (reports_of old.style taken) (greatest_status taken)
+    pub processed : List Processed
+    pub split : names ≡ names_of processed ++ rest
+    pub takes : TakesAll step remaining reads_failed form opener_old processed opener_new
+    pub writes : WritesFiles held contents failures stalled out_old out_new err_old err_new old new result (output_of old.style processed)
+        (reports_of old.style processed) (greatest_status processed)
 
   -- The same of all these names, or at a refusal of the first ones.
   abbrev pub TakesNames : KeyForm → List Name → (opener_old opener_new : F) (out_old out_new : W) (err_old err_new : E) (old new : Outputs)

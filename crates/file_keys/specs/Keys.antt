@@ -72,7 +72,7 @@ fault_text refusal =
     place_text false refusal.fault.place.line ++ (kind_name refusal.fault.kind ++ (codes ": " ++ (sentence_of refusal.fault.kind
     ++ (advice_lead refusal.foreign ++ (advice_words refusal.foreign ++ codes "\n")))))
 
--- the line of a file that is refused, or for which room or memory is wanted
+-- the line of a file that is refused, or that isn't read because the store is full or memory is refused
 abbrev pub refused_line : List ℕ → FileRefusal → List ℕ
 refused_line name refusal = escaped_name name ++ (codes ": " ++ fault_text refusal)
 
@@ -88,7 +88,7 @@ reason_of _ = codes "can't be opened"
 abbrev pub unopened_line : List ℕ → ErrorKind → List ℕ
 unopened_line name kind = escaped_name name ++ (codes ": " ++ (reason_of kind ++ codes "\n"))
 
--- the pieces of a list, each of which ends at this byte, which isn't of it; what is behind the last one is a piece if there is anything
+-- the pieces of a list, each of which ends at this byte, which isn't of it; what is after the last one is a piece if there is anything
 abbrev pub pieces_of : ℕ → List ℕ → List (List ℕ)
 pieces_of end [] = []
 pieces_of end (b ∷ list) = if b == end then [] ∷ pieces_of end list else onto_first b (pieces_of end list)
@@ -98,6 +98,6 @@ abbrev pub end_byte_of_name : Bool → ℕ
 end_byte_of_name false = byte "\n"
 end_byte_of_name true = 0
 
--- a status of the command: each file has its key, or one was refused, or could not be opened or read, or room or memory was wanted for one
+-- a status of the command: each file has its key, or one was refused, or could not be opened or read, or the store is full or memory is refused for one
 abbrev pub IsStatus : ℕ → Type 0
 IsStatus status = (status ≡ 0) ⊎ ((status ≡ 2) ⊎ ((status ≡ 3) ⊎ (status ≡ 4)))

@@ -19,7 +19,7 @@ use Rattle.command_line.specs.declared.origins.Origin.{Origin}
 use Rattle.command_line.specs.declared.plans.KeyForm.{KeyForm}
 use Rattle.command_line.specs.declared.plans.StreamPlan.{StreamPlan}
 use Rattle.file_keys.specs.Keys.{escaped_name, pieces_of, without_advice}
-use Rattle.file_keys.specs.KeyRuns.{bytes_of_name, greatest_status, IsOutcomeOf, IsToldAs, Listed, outcome_status, output_line, output_of, report_line, style_by, Taken, Word, WritesFiles}
+use Rattle.file_keys.specs.KeyRuns.{bytes_of_name, greatest_status, IsOutcomeOf, IsReportedAs, Listed, outcome_status, output_line, output_of, report_line, style_by, Processed, Word, WritesFiles}
 use Rattle.file_keys.specs.declared.keys.outcome.Outcome.{Outcome}
 use Rattle.file_keys.specs.declared.keys.outcome.Outcome.TheVariants.{Key, Refused, Unopened}
 use Rattle.file_keys.specs.declared.keys.outputs.Outputs.{Outputs}
@@ -28,7 +28,7 @@ use Rattle.file_keys.specs.declared.keys.style.Style.{Style}
 use Rattle.file_keys.specs.declared.stream.held_piece.HeldPiece.{HeldPiece}
 use Rattle.file_keys.specs.declared.stream.runs.StreamRun.{StreamRun}
 
--- The patterns of a stream: the pieces that end in NUL, which isn't of them. What is behind the last NUL is one too, unless it is empty.
+-- The patterns of a stream: the pieces that end in NUL, which isn't of them. What is after the last NUL is one too, unless it is empty.
 abbrev pub patterns_of : List ℕ → List (List ℕ)
 patterns_of bytes = pieces_of 0 bytes
 
@@ -48,9 +48,9 @@ abbrev pub warning_line : List ℕ → Option Warning → List ℕ
 warning_line name None = []
 warning_line name (Some warning) = escaped_name name ++ (codes ": warning: " ++ (warning_sentence warning ++ codes "\n"))
 
--- what is told of a pattern: what `keys` tells of a file, and a warning
+-- what is reported of a pattern: what `keys` reports of a file, and a warning
 pub record PatternEntry : Type 0 where
-  pub file : Taken
+  pub file : Processed
   pub warning : Option Warning
 
 -- what standard output gets of them: what it gets of files
@@ -69,12 +69,12 @@ entry_reports style entries = flat_map (entry_report style) entries
 abbrev pub entry_status : List PatternEntry → ℕ
 entry_status entries = greatest_status (map (λ e. e.file) entries)
 
--- what is told of the pattern with this number: what is told of a file with its bytes whose name is the number
+-- what is reported of the pattern with this number: what is reported of a file with its bytes whose name is the number
 pub record IsEntryOf (form : KeyForm) (number : ℕ) (piece : List ℕ) (e : PatternEntry) : Type 0 where
   pub name : e.file.name ≡ Listed (decimal number)
   pub came : Outcome
   pub comes : IsOutcomeOfPiece form piece came
-  pub told : IsToldAs came e.file.outcome
+  pub reported : IsReportedAs came e.file.outcome
   pub warning : e.warning ≡ warning_with came piece
 
 -- the same of each of these, which have the numbers from this one on
@@ -93,7 +93,7 @@ abbrev pub BreaksStream : SourceRun → Kind → Type 0
 BreaksStream source kind = ((kind ≡ kinds.ReadFault) × (source.failures ≡ 1))
     ⊎ ((kind ≡ kinds.InputTooLong) × CameBeyond (2 ^ 64 - 2) source.before source.after)
 
--- what is told of that, under the number of the pattern that the reading stopped in
+-- what is reported of that, under the number of the pattern that the reading stopped in
 abbrev pub fault_entry : ℕ → Kind → PatternEntry
 fault_entry number kind =
     record { file = record { name = Listed (decimal number); outcome = Refused (without_advice (fault_of kind)) }; warning = None }
@@ -102,16 +102,16 @@ fault_entry number kind =
 abbrev pub unopened_entry : List ℕ → IoError → PatternEntry
 unopened_entry name error = record { file = record { name = Word name; outcome = Unopened (error_kind error) }; warning = None }
 
--- What is told of a stream that was opened, and whether that is all.
+-- What is reported of a stream that was opened, and whether that is all.
 pub data TellsSource (form : KeyForm) (source : SourceRun) (entries : List PatternEntry) (is_all : Bool) : Type 0 where
-  -- It was read to its end: this is told of its patterns.
+  -- It was read to its end: this is reported of its patterns.
   whole : (came : List ℕ) → Consumes source.before source.after came → IsAtEnd source.after → source.failures ≡ 0
       → AreEntriesFrom form 1 (patterns_of came) entries → TellsSource form source entries is_all
-  -- It isn't read to its end: this is told of its first patterns, and of the next one why.
+  -- It isn't read to its end: this is reported of its first patterns, and of the next one why.
   broken : (came : List ℕ) (pieces : List (List ℕ)) (first : List PatternEntry) (kind : Kind) → Consumes source.before source.after came
       → BeginsWith came pieces → AreEntriesFrom form 1 pieces first → BreaksStream source kind
       → entries ≡ first ++ (fault_entry (length pieces + 1) kind ∷ []) → TellsSource form source entries is_all
-  -- This was told of its first patterns, and then the output failed.
+  -- This was reported of its first patterns, and then the output failed.
   partly : (came : List ℕ) (pieces : List (List ℕ)) → Consumes source.before source.after came → BeginsWith came pieces
       → AreEntriesFrom form 1 pieces entries → is_all ≡ false → TellsSource form source entries is_all
 
@@ -132,12 +132,12 @@ module _ {F R : Type 0} (step : F → Origin → Result (OpenedFile R) IoError �
 
   -- What a run over a stream did with its outputs, and the status that it answered.
   pub data StreamRan (plan : StreamPlan) (opener : F) (output error : SinkRun) (flushed : Bool) (status : ℕ) : Type 0 where
-    -- All was told, and the greatest status is answered.
+    -- All was reported, and the greatest status is answered.
     through : (entries : List PatternEntry) → TellsStream plan opener entries true
         → Appends output.before output.after (entry_lines (style_by plan.json plan.zero) entries) → flushed ≡ true
         → Reports error (entry_reports (style_by plan.json plan.zero) entries) → status ≡ entry_status entries
         → StreamRan plan opener output error flushed status
-    -- Standard output failed, or took no bytes: a prefix was written of what is told of the first patterns.
+    -- Standard output failed, or took no bytes: a prefix was written of what is reported of the first patterns.
     broken_off : (entries : List PatternEntry) (is_all : Bool) → TellsStream plan opener entries is_all
         → WritesPrefix output.before output.after (entry_lines (style_by plan.json plan.zero) entries)
         → (output.failures ≡ 1) ⊎ (output.stalled ≡ true)
@@ -167,7 +167,7 @@ pub record CanTakePieces (run : StreamRun) (out_failures err_failures : ℕ) : T
   pub works : out_failures ≡ 0
   pub hears : run.outputs.tells ≡ true → err_failures ≡ 0
 
--- what is told where a stream ends, of the piece that was begun, or that the stream isn't read to its end
+-- what is reported where a stream ends, of the piece that was begun, or that the stream isn't read to its end
 abbrev pub TellsStreamEnd : KeyForm → ℕ → Option Kind → List ℕ → List PatternEntry → Type 0
 TellsStreamEnd form count None begun entries = AreEntriesFrom form (count + 1) (patterns_of begun) entries
 TellsStreamEnd form count (Some kind) begun entries = entries ≡ fault_entry (count + 1) kind ∷ []
@@ -182,10 +182,10 @@ module _ {W E : Type 0} (held : W → Option (List ℕ)) (contents : E → Optio
   -- One was written, of this name and with this warning; it says what came, or that memory was refused for its line.
   pub record WritesEntry (out_old out_new : W) (err_old err_new : E) (old new : Outputs) (result : Result (Unit {0}) Kind) (name : List ℕ)
       (came : Outcome) (warning : Option Warning) : Type 0 where
-    pub told : Outcome
-    pub how : IsToldAs came told
-    pub writes : WritesFiles held contents failures stalled out_old out_new err_old err_new old new result (output_line old.style name told)
-        (warning_line name warning ++ report_line old.style name told) (outcome_status told)
+    pub reported : Outcome
+    pub how : IsReportedAs came reported
+    pub writes : WritesFiles held contents failures stalled out_old out_new err_old err_new old new result (output_line old.style name reported)
+        (warning_line name warning ++ report_line old.style name reported) (outcome_status reported)
 
   -- Of a stream whose last bytes had begun a piece, more bytes came: pieces of it have ended, and were written, and another one is begun.
   pub record TakesPieces (form : KeyForm) (count_old count_new : ℕ) (begun bytes left : List ℕ) (out_old out_new : W) (err_old err_new : E)

@@ -7,8 +7,8 @@ fn laws_are_called() {
     laws::grammars_agree();
     laws::files_are_unique();
     laws::faults_are_unique();
-    laws::fronts_are_unbroken();
-    laws::fronts_are_files();
+    laws::prefixes_are_unbroken();
+    laws::prefixes_are_files();
     laws::long_lines_break();
     laws::lines_break_by_kinds();
     laws::refusals_have_kinds();

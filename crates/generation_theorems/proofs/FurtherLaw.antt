@@ -30,7 +30,7 @@ use Rattle.theorems.proofs.RefusalLaw.{refuses_agree, want_as}
 use Rattle.theorems.proofs.TextLaw.{text_of_pattern}
 use Rattle.step_theorems.proofs.NextLaw.{next_is}
 use Rattle.step_theorems.proofs.StepLaw.{none_some, some_of}
-use Rattle.generation_theorems.specs.ManyGenerations.{claimed_life_after, IsClaimedStateAfter, LeavesClaimedPlaneWithin, IsFirstReasonWithin, no_table_for, beyond_last_generation, leaves_plane_within, IsClaimedTextLater, IsNotTakenFurther}
+use Rattle.generation_theorems.specs.ManyGenerations.{claimed_life_after, IsClaimedStateAfter, LeavesClaimedPlaneWithin, IsFirstReasonWithin, no_table_for, beyond_last_generation, leaves_plane_within, IsClaimedTextLater, IsNotAdvanced}
 
 -- ---- states
 
@@ -184,19 +184,19 @@ later-is on_plane n bytes text h =
 
 -- the first reason why what a file says isn't taken further is one in the words of the formats
 pub reason-of : FilesAreOnPlane 62 → (n : ℕ) (bytes : List ℕ) (u : Universe) (fault : Fault) → Reads 62 bytes u → LaterRefusal n u (Some fault)
-    → IsNotTakenFurther n bytes fault
+    → IsNotAdvanced n bytes fault
 reason-of on_plane n bytes u fault reads why =
     let p = files_agree bytes u reads in
     let cells : p.pattern.cell ≡ u.cell = λ i x y. p.cells x y i in
     (p.pattern, p.is, reason-is n u p.pattern p.rule p.generation cells (on_plane bytes u reads).rule fault why)
 
 -- why a file isn't taken further
-pub not-taken_as : FilesAreOnPlane 62 → (n : ℕ) (bytes : List ℕ) (store : Nodes) (fault : Fault)
+pub not-consumed_as : FilesAreOnPlane 62 → (n : ℕ) (bytes : List ℕ) (store : Nodes) (fault : Fault)
     → Refuses 62 bytes fault ⊎ (IsShortageOf store fault ⊎ ((u : Universe) × Reads 62 bytes u × LaterRefusal n u (Some fault)))
-    → (pattern_of bytes ≡ Err fault) ⊎ (IsUnmet fault ⊎ IsNotTakenFurther n bytes fault)
-not-taken_as on_plane n bytes store fault (inl r) = inl (refuses_agree bytes fault r)
-not-taken_as on_plane n bytes store fault (inr (inl w)) = inr (inl (want_as store fault w))
-not-taken_as on_plane n bytes store fault (inr (inr h)) = inr (inr (reason-of on_plane n bytes h.0 fault h.1 h.2))
+    → (pattern_of bytes ≡ Err fault) ⊎ (IsUnmet fault ⊎ IsNotAdvanced n bytes fault)
+not-consumed_as on_plane n bytes store fault (inl r) = inl (refuses_agree bytes fault r)
+not-consumed_as on_plane n bytes store fault (inr (inl w)) = inr (inl (want_as store fault w))
+not-consumed_as on_plane n bytes store fault (inr (inr h)) = inr (inr (reason-of on_plane n bytes h.0 fault h.1 h.2))
 
 -- the canonical text of a later generation's text is that text
 pub later-is_fixed : FilesAreUnique 62 → (n : ℕ) (bytes text again : List ℕ) → IsTextLater n bytes text → IsCanonical 62 text again → text ≡ again

@@ -25,7 +25,7 @@ abbrev pub IsClaimedStateAfter : ℕ → Rule → (ℤ → ℤ → ℕ) → ℤ 
 IsClaimedStateAfter n (counting neighbours births survivals) cell x y state = state ≡ claimed_life_after neighbours births survivals n cell x y
 IsClaimedStateAfter n (named name) cell x y state = (n ≡ 0) × (state ≡ cell x y)
 
--- why a pattern isn't taken n generations further under its rule without a table: the first of three reasons that holds, which is the fault of no line
+-- why a pattern isn't advanced by n generations under its rule without a table: the first of three reasons that holds, which is the fault of no line
 pub data IsFirstReasonWithin (n : ℕ) (now : Pattern) : Fault → Type 0 where
   no_table_for : (name : List ℕ) → now.rule ≡ named name → n ≢ 0 → IsFirstReasonWithin n now (claimed_fault_of NeedsTable)
   beyond_last_generation : (neighbours : ℕ) (births survivals : List ℕ) → now.rule ≡ counting neighbours births survivals → 2 ^ 64 ≤ now.generation + n
@@ -33,7 +33,7 @@ pub data IsFirstReasonWithin (n : ℕ) (now : Pattern) : Fault → Type 0 where
   leaves_plane_within : (neighbours : ℕ) (births survivals : List ℕ) → now.rule ≡ counting neighbours births survivals → now.generation + n < 2 ^ 64
       → LeavesClaimedPlaneWithin neighbours births survivals n now.cell → IsFirstReasonWithin n now (claimed_fault_of OutOfPlane)
 
--- a pattern can be taken n generations further under its rule: none of the reasons against it holds, and each cell of the plane and outside it has its state
+-- a pattern can be advanced by n generations under its rule: none of the reasons against it holds, and each cell of the plane and outside it has its state
 -- of that generation
 pub record IsClaimedLater (n : ℕ) (now later : Pattern) : Type 0 where
   pub same_rule : later.rule ≡ now.rule
@@ -41,7 +41,7 @@ pub record IsClaimedLater (n : ℕ) (now later : Pattern) : Type 0 where
   pub cells : (x y : ℤ) → IsClaimedStateAfter n now.rule now.cell x y (later.cell x y)
   pub no_reason : (fault : Fault) → IsFirstReasonWithin n now fault → ⊥
 
--- the bytes are a file whose pattern can be taken n generations further under its B/S rule, and the text is a file of that generation, and its canonical text
+-- the bytes are a file whose pattern can be advanced by n generations under its B/S rule, and the text is a file of that generation, and its canonical text
 pub record IsClaimedTextLater (n : ℕ) (bytes text : List ℕ) : Type 0 where
   pub now : Pattern
   pub later : Pattern
@@ -50,6 +50,6 @@ pub record IsClaimedTextLater (n : ℕ) (bytes text : List ℕ) : Type 0 where
   pub is : IsClaimedLater n now later
   pub canonical : IsTextOfPattern later text
 
--- the bytes are a file of a pattern that isn't taken n generations further under its rule without a table, for this reason
-abbrev pub IsNotTakenFurther : ℕ → List ℕ → Fault → Type 0
-IsNotTakenFurther n bytes fault = (now : Pattern) × (pattern_of bytes ≡ Ok now) × IsFirstReasonWithin n now fault
+-- the bytes are a file of a pattern that isn't advanced by n generations under its rule without a table, for this reason
+abbrev pub IsNotAdvanced : ℕ → List ℕ → Fault → Type 0
+IsNotAdvanced n bytes fault = (now : Pattern) × (pattern_of bytes ≡ Ok now) × IsFirstReasonWithin n now fault

@@ -1,7 +1,7 @@
 //! A file so many generations further.
 
 ghost use Rattle.std.specs.Prelude.{◌≡◌, ◌⊎◌, Err, IfOk, IfErr, IsTrue};
-ghost use Rattle.generation_theorems.specs.Words.{IsClaimedTextLater, IsNotTakenFurther, IsShortage, pattern_of};
+ghost use Rattle.generation_theorems.specs.Words.{IsClaimedTextLater, IsNotAdvanced, IsShortage, pattern_of};
 
 use life_base::Fault;
 use life_canon::canon;
@@ -25,14 +25,14 @@ pub fn later_generation(
     alloc: Global,
     file: &[u8],
     generations: u64,
-    room: StoreOptions,
+    space: StoreOptions,
 ) -> Result<Vec<u8>, Fault>
     ensures later { IfOk result (λ text. IsClaimedTextLater generations file.now text.items) }
     ensures refused { IfErr result (λ fault. (pattern_of file.now ≡ Err fault)
-        ⊎ (IsShortage fault ⊎ IsNotTakenFurther generations file.now fault)) }
+        ⊎ (IsShortage fault ⊎ IsNotAdvanced generations file.now fault)) }
 {
     files_are_on_plane();
-    step_later(alloc, &mut room.new_store(alloc), file, generations)
+    step_later(alloc, &mut space.new_store(alloc), file, generations)
 }
 
 /// The text of a file so many generations later is its own canonical text.

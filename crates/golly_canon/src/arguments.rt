@@ -108,7 +108,7 @@ pub(crate) fn read_arguments(rt: &HostRuntime) -> Result<Arguments, AllocError> 
 /// Writes the line that says that this argument isn't UTF-8 text, and returns the status.
 fn report_no_text<E: Sink>(err: &mut E, argument: &[u8]) -> u8
     requires { E.failures err.old ≡ 0 }
-    ensures told { Reports (sink_run E.contents E.failures E.stalled err.old err.new)
+    ensures reported { Reports (sink_run E.contents E.failures E.stalled err.old err.new)
         (unreadable_line Unreadable.NoText argument.now) }
     ensures status { result ≡ unreadable_status Unreadable.NoText }
 {
@@ -122,7 +122,7 @@ fn report_no_text<E: Sink>(err: &mut E, argument: &[u8]) -> u8
 /// Writes the line that says why the arguments can't be read, and returns the status that the program ends with. `argument` is the one that isn't text.
 pub(crate) fn report_unreadable<E: Sink>(err: &mut E, why: Unreadable, argument: &[u8]) -> u8
     requires { E.failures err.old ≡ 0 }
-    ensures told { Reports (sink_run E.contents E.failures E.stalled err.old err.new)
+    ensures reported { Reports (sink_run E.contents E.failures E.stalled err.old err.new)
         (unreadable_line why argument.now) }
     ensures status { result ≡ unreadable_status why }
 {

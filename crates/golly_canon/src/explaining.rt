@@ -199,22 +199,22 @@ fn push_place(
 /// The part of a line that is shown: not the carriage return at its end.
 fn without_return(line: &[u8]) -> &[u8] {
     match line {
-        [front @ .., b'\r'] => front,
+        [prefix @ .., b'\r'] => prefix,
         _ => line,
     }
 }
 
 /// Adds the text of a line, on a line of its own, and three dots where it goes on.
 fn push_line(text: &mut Vec<u8>, line: &[u8]) -> Result<(), AllocError> {
-    let (front, end): (&[u8], &[u8]) = match line.get(..SHOWN) {
-        Some(front) if line.len() > SHOWN => (front, b" ...\n"),
+    let (prefix, end): (&[u8], &[u8]) = match line.get(..SHOWN) {
+        Some(prefix) if line.len() > SHOWN => (prefix, b" ...\n"),
         _ => (without_return(line), b"\n"),
     };
-    if front.is_empty() {
+    if prefix.is_empty() {
         return Ok(());
     }
     text.extend_from_slice(b"    ")?;
-    push_visible(text, front)?;
+    push_visible(text, prefix)?;
     text.extend_from_slice(end)
 }
 

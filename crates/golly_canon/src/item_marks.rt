@@ -57,11 +57,11 @@ fn before_bad_item(line: &[u8]) -> Option<&[u8]> {
 
 /// Adds a line with a `^` under the first thing that isn't an item, where that is shown.
 pub(crate) fn push_item_mark(text: &mut Vec<u8>, line: &[u8]) -> Result<(), AllocError> {
-    let Some(front) = before_bad_item(line) else {
+    let Some(prefix) = before_bad_item(line) else {
         return Ok(());
     };
     text.extend_from_slice(b"    ")?;
-    for byte in front {
+    for byte in prefix {
         let space: &[u8] = match byte {
             b'\t' => b"    ",
             b'\r' => b"  ",

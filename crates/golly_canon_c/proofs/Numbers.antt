@@ -13,11 +13,11 @@ none_found number (kind ∷ kinds) differs = grind (arith, common_steps, differs
 
 -- such a number has no name
 pub unnamed : (number : ℕ) → number ≢ 0 → number ≢ 64 → number ≢ 65 → ((kind : Kind) → number ≢ kind_number kind) → status_name number ≡ []
-unnamed number not_ok not_room not_form differs = grind (arith, common_steps, none_found number KINDS differs)
+unnamed number not_ok not_space not_form differs = grind (arith, common_steps, none_found number KINDS differs)
 
 -- nor a sentence
 pub unsaid : (number : ℕ) → number ≢ 64 → number ≢ 65 → ((kind : Kind) → number ≢ kind_number kind) → status_sentence number ≡ []
-unsaid number not_room not_form differs = grind (arith, common_steps, none_found number KINDS differs)
+unsaid number not_space not_form differs = grind (arith, common_steps, none_found number KINDS differs)
 
 -- and a file that is refused with it has no advice
 pub unadvised : (number : ℕ) (is_table : Bool) (bytes : List ℕ) → ((kind : Kind) → number ≢ kind_number kind) → status_advice number is_table bytes ≡ []

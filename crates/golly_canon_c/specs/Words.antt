@@ -11,7 +11,7 @@ pub use Rattle.life_generations.specs.Later.{IsTextLater}
 pub use Rattle.library_calls.specs.Stepping.{RefusesLater, RefusesStepWithin, StepsByTable}
 pub use Rattle.fault_sentences.specs.Sentences.{sentence_of}
 pub use Rattle.library_calls.specs.Streams.{Feeds, Finishes, IsSpent, OpensStream, sentence_of_stream, sentence_of_warning, session_of, TellsEnd, TellsKey, TellsNothing, TellsPiece}
-pub use Rattle.library_calls.specs.Told.{Returns, ReturnsText, reply}
+pub use Rattle.library_calls.specs.Reported.{Returns, ReturnsText, reply}
 pub use Rattle.library_calls.specs.declared.texts.Output.{Output as OutputValue}
 pub use Rattle.life_base.specs.Kinds.{kind_name, kind_number}
 pub use Rattle.life_base.specs.declared.kind.Kind.{Kind as KindValue}

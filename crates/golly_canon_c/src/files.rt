@@ -3,7 +3,7 @@
 ghost use Rattle.std.specs.Prelude.{◌≡◌, MatchOption};
 ghost use Rattle.golly_canon_c.specs.Words.{IsLeastCanonicalText, IsRleText, RefusesWithin, RefusesRleWithin, Returns, Fits, SomeToRead, SomeToReadBoth, TellsText, reply, IsShownText, RefusesStepWithin, StepsByTable, IsStepped, IsTextLater, RefusesLater, comparison_of, ComparesInForm, ComparesInNone, form_numbered, IsKeyInForm, IsTextInForm, AnswersInForm, ComparesWithin};
 
-use crate::told::{tell, tell_compared};
+use crate::reported::{tell, tell_compared};
 use library_calls::{
     Options, canon, canon_form, key, same, same_form, show, step, step_by_table, step_generations,
     to_rle,

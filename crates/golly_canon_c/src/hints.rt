@@ -4,7 +4,7 @@ ghost use Rattle.std.specs.Prelude.{◌≡◌, ◌≢◌, ◌==◌, not, []};
 ghost use Rattle.golly_canon_c.specs.Words.{advice_on, KindValue, kind_number, ReturnsText, reply, sentence_of_stream, sentence_of_warning, session_of, status_advice, warning_of};
 
 use crate::names::{kind_of, tell_name};
-use crate::told::tell_sentence;
+use crate::reported::tell_sentence;
 use file_hints::advice_on;
 use library_calls::{Stream, stream_warning, warning};
 use std::alloc::Global;

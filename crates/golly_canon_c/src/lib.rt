@@ -29,5 +29,5 @@
 mod files;
 mod hints;
 mod names;
+mod reported;
 mod streams;
-mod told;

@@ -3,7 +3,7 @@
 ghost use Rattle.std.specs.Prelude.{◌≡◌, None, IfSome, MatchOption};
 ghost use Rattle.golly_canon_c.specs.Words.{text_in, form_numbered, session_of, OpensStream, Feeds, Finishes, IsSpent, TellsPiece, TellsNothing, TellsEnd, TellsKey, TellsText, reply, OutputValue};
 
-use crate::told::tell;
+use crate::reported::tell;
 use library_calls::{
     Options, Output, Stream, close, feed, finish, finish_key, open, open_canon_form,
 };

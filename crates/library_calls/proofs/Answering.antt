@@ -7,8 +7,8 @@ use Rattle.life_base.specs.declared.kind.Kind.TheVariants.{Full, Memory}
 use Rattle.life_base.specs.Tree.{Tree}
 use Rattle.life_quad.specs.Store.{Nodes, stored_squares}
 use Rattle.life_canon.specs.Store.{IsShortageOf}
-use Rattle.library_calls.specs.Told.{Told, ReturnsText, ReturnsFault, Returns, by_text, by_fault}
-use Rattle.library_calls.specs.Texts.{TellsText, IsLimitShortage, room_of}
+use Rattle.library_calls.specs.Reported.{Reported, ReturnsText, ReturnsFault, Returns, by_text, by_fault}
+use Rattle.library_calls.specs.Texts.{TellsText, IsLimitShortage, squares_of_limit}
 use Rattle.library_calls.specs.Comparing.{Compared, ComparesWithin, comparison_of}
 use Rattle.library_calls.specs.Comparing as placed
 use Rattle.library_calls.specs.ComparingInForm.{ComparesInForm}
@@ -16,8 +16,8 @@ use Rattle.library_calls.specs.ComparingInForm as in_form
 use Rattle.library_calls.specs.declared.pattern_form.PatternForm.TheVariants.{Placed}
 use Rattle.library_calls.proofs.Numbered.{no_text}
 
--- a text or a fault, told
-pub answered : {X : Type 0} (items : X → List ℕ) (IsText : List ℕ → Type 0) (IsFault : Fault → Type 0) (before after : List ℕ) (it : Told)
+-- a text or a fault, reported
+pub answered : {X : Type 0} (items : X → List ℕ) (IsText : List ℕ → Type 0) (IsFault : Fault → Type 0) (before after : List ℕ) (it : Reported)
     (r : Result X Fault) → IfOk r (λ x. IsText (items x)) → IfErr r IsFault → IfOk r (λ x. ReturnsText (items x) before after it) → IfOk r (λ _. it.line ≡ 0)
     → IfErr r (λ fault. ReturnsFault fault before after it) → Returns IsText IsFault before after it
 answered items IsText IsFault before after it (Ok x) is why gives no_line tells = by_text (items x) is gives no_line
@@ -33,38 +33,39 @@ pub of-any : {X : Type 0} (P : Type 0) (r : Result X Fault) → P → IfOk r (λ
 of-any P (Ok x) p = p
 of-any P (Err fault) p = tt
 
--- why a call is refused, and what its store lacks where it has no room
+-- why a call is refused, and what its store lacks where it has no space
 pub and-lacks : {X Lack : Type 0} (P : Fault → Type 0) (r : Result X Fault) → IfErr r P → (r ≡ Err (fault_of Full) → Lack)
     → IfErr r (λ fault. P fault × (fault ≡ fault_of Full → Lack))
 and-lacks P (Ok x) p lacks = tt
 and-lacks P (Err fault) p lacks = (p, λ full. lacks (ap (λ (f : Fault). Err f) full))
 
--- refused memory is no want of room
+-- refused memory is no full store
 pub not-full : {P : Type 0} (fault : Fault) → fault ≡ fault_of Memory → fault ≡ fault_of Full → P
 not-full fault memory full = let e : Memory ≡ Full = ap (λ (f : Fault). f.kind) (sym memory ∙ full) in absurd cc
 
--- a store that was empty, and had no room besides what it held, is tight
-pub tight : (room : ℕ) (old new : Nodes) → stored_squares old ≡ [] → new.limit ≡ old.limit → old.limit < length (stored_squares old) + room → new.limit < room
-tight room old new empty same low = let none : length (stored_squares old)
+-- a store that was empty, and had no space besides what it held, is tight
+pub tight : (space : ℕ) (old new : Nodes) → stored_squares old ≡ [] → new.limit ≡ old.limit → old.limit < length (stored_squares old) + space
+    → new.limit < space
+tight space old new empty same low = let none : length (stored_squares old)
     ≡ 0 = ap (λ (squares : List Tree). length squares) empty in omega (arith, none, same, low)
 
--- so is one that has no room for squares that it held
-pub tight-alone : (room : ℕ) (old new : Nodes) → new.limit ≡ old.limit → old.limit < 0 + room → new.limit < room
-tight-alone room old new same low = omega (arith, same, low)
+-- so is one that has no space for squares that it held
+pub tight-alone : (space : ℕ) (old new : Nodes) → new.limit ≡ old.limit → old.limit < 0 + space → new.limit < space
+tight-alone space old new same low = omega (arith, same, low)
 
 -- memory is wanted, or the store is full and its limit too low
-pub wanted : (IsTooLow : ℕ → Type 0) (limit : ℕ) (store : Nodes) (fault : Fault) → store.limit ≡ room_of limit → IsShortageOf store fault
+pub wanted : (IsTooLow : ℕ → Type 0) (limit : ℕ) (store : Nodes) (fault : Fault) → store.limit ≡ squares_of_limit limit → IsShortageOf store fault
     → (fault ≡ fault_of Full → length (stored_squares store) ≡ store.limit → IsTooLow store.limit) → IsLimitShortage IsTooLow limit fault
 wanted IsTooLow limit store fault is (inl memory) low = inl memory
 wanted IsTooLow limit store fault is (inr (full, at)) low = inr (full, subst IsTooLow is (low full at))
 
--- what holds where a call succeeds, holds where a text is told
-pub where-told : {X Holds : Type 0} (it : Told) (r : Result X Fault) → OnOk r Holds → OnErr r (¬ TellsText it) → TellsText it → Holds
-where-told it (Ok x) holds none text = holds
-where-told it (Err fault) holds none text = absurd (none text)
+-- what holds where a call succeeds, holds where a text is reported
+pub where-reported : {X Holds : Type 0} (it : Reported) (r : Result X Fault) → OnOk r Holds → OnErr r (¬ TellsText it) → TellsText it → Holds
+where-reported it (Ok x) holds none text = holds
+where-reported it (Err fault) holds none text = absurd (none text)
 
--- no text is told with the number of a fault
-pub no-text : {P : Type 0} (it : Told) (fault : Fault) → it.status ≡ kind_number fault.kind → TellsText it → P
+-- no text is reported with the number of a fault
+pub no-text : {P : Type 0} (it : Reported) (fault : Fault) → it.status ≡ kind_number fault.kind → TellsText it → P
 no-text it fault is text = no_text it.status fault.kind is text
 
 -- what holds of any answer that is an error
@@ -76,7 +77,7 @@ where-err (Err fault) holds = holds
 pub not-compared : {P : Type 0} (it : Compared) (fault : Fault) → it ≡ comparison_of (kind_number fault.kind) 0 fault.place.line → it.status ≡ 0 → P
 not-compared it fault is zero = no_text it.status fault.kind (ap (λ (c : Compared). c.status) is) (inl zero)
 
--- 1 is told where the answer is yes, and 0 where it is no
+-- 1 is reported where the answer is yes, and 0 where it is no
 abbrev number : Bool → ℕ
 number answer = if answer then 1 else 0
 

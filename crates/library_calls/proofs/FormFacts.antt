@@ -12,21 +12,21 @@ use Rattle.life_canon.specs.Files.{Accepted, Reads, Refuses}
 use Rattle.life_canon.specs.Laws.{FilesAreUnique, PatternsFit, RefusalsHaveKinds}
 use Rattle.life_canon.specs.Listing.{canon_text}
 use Rattle.life_canon.specs.Needs.{IsNew, LacksFor}
-use Rattle.life_canon.specs.Room.{AddsFile, FewSquares, HoldsFile, HoldsOnly, RoomSuffices, room_for}
+use Rattle.life_canon.specs.Space.{AddsFile, FewSquares, HoldsFile, HoldsOnly, LimitSuffices, sufficient_for}
 use Rattle.life_canon.specs.Store.{IsRead, IsShortageOf, RefusesIn, universe_in}
 use Rattle.life_canon.specs.Universe.{Universe}
 use Rattle.life_canon.specs.declared.pattern.Pattern.{Pattern}
-use Rattle.life_canon.proofs.RoomCount.{found-as, find-file}
+use Rattle.life_canon.proofs.SpaceCount.{found-as, find-file}
 use Rattle.life_canon.proofs.Sameness.{same-is_one}
 use Rattle.life_forms.specs.Forms.{IsMoved}
 use Rattle.life_forms.specs.Images.{IsTurnedText}
 use Rattle.life_forms.specs.Needed.{HasLargerForm}
 use Rattle.life_forms.specs.Needed as layer
 use Rattle.life_forms.specs.Turns.{image}
-use Rattle.library_calls.specs.Texts.{NeedsMore, SomeToRead, room_of}
+use Rattle.library_calls.specs.Texts.{NeedsMore, SomeToRead, squares_of_limit}
 use Rattle.library_calls.specs.Comparing.{IsTooLowForBoth, SomeToReadBoth}
 use Rattle.library_calls.specs.ComparingInForm.{AreOfOneGeneration, OneHasFormLargerThan, AreRelatedFiles, RefusesEitherInForm}
-use Rattle.library_calls.specs.InForm.{form_room, HasFormLargerThan, IsTextMoved, IsTextTurned, RefusesFormWithin}
+use Rattle.library_calls.specs.InForm.{squares_of_form, HasFormLargerThan, IsTextMoved, IsTextTurned, RefusesFormWithin}
 use Rattle.library_calls.specs.declared.pattern_form.PatternForm.{PatternForm}
 use Rattle.library_calls.specs.declared.pattern_form.PatternForm.TheVariants.{Placed, Moved, Turned}
 use Rattle.library_calls.proofs.Answering.{not-full, tight, wanted}
@@ -45,87 +45,89 @@ accepted-it bytes store pattern read = (read.universe, read.reads)
 
 -- the text of a moved form is that of the file
 pub moved-text : PatternsFit MAX_LEVEL → (limit : ℕ) (bytes : List ℕ) (store form : Nodes) (pattern moved : Pattern) (text : List ℕ)
-    → store.limit ≡ room_of limit → IsRead MAX_LEVEL bytes store pattern → ¬ layer.HasLargeForm store pattern
+    → store.limit ≡ squares_of_limit limit → IsRead MAX_LEVEL bytes store pattern → ¬ layer.HasLargeForm store pattern
     → IsMoved MAX_LEVEL (universe_in store pattern) (universe_in form moved) → text ≡ canon_text MAX_LEVEL (universe_in form moved)
     → IsTextMoved limit bytes text
-moved-text fit limit bytes store form pattern moved text room read small is_moved is = record {
+moved-text fit limit bytes store form pattern moved text space read small is_moved is = record {
   universe = universe_in store pattern;
   reads = reads-it fit bytes store pattern read;
-  small = subst (λ (n : ℕ). ¬ HasLargerForm (min (2 ^ 21) n) (universe_in store pattern)) room small;
+  small = subst (λ (n : ℕ). ¬ HasLargerForm (min (2 ^ 21) n) (universe_in store pattern)) space small;
   form = universe_in form moved;
   moved = is_moved;
   is = is;
 }
 
 pub turned-text : PatternsFit MAX_LEVEL → (limit : ℕ) (bytes : List ℕ) (store : Nodes) (pattern : Pattern) (text : List ℕ)
-    → store.limit ≡ room_of limit → IsRead MAX_LEVEL bytes store pattern → ¬ layer.HasLargeImage store pattern
+    → store.limit ≡ squares_of_limit limit → IsRead MAX_LEVEL bytes store pattern → ¬ layer.HasLargeImage store pattern
     → IsTurnedText MAX_LEVEL (universe_in store pattern) text → IsTextTurned limit bytes text
-turned-text fit limit bytes store pattern text room read small turned = record {
+turned-text fit limit bytes store pattern text space read small turned = record {
   universe = universe_in store pattern;
   reads = reads-it fit bytes store pattern read;
-  small = λ turn large. small (turn, subst (λ (n : ℕ). HasLargerForm (min (2 ^ 21) n) (image turn (universe_in store pattern))) (sym room) large);
+  small = λ turn large. small (turn, subst (λ (n : ℕ). HasLargerForm (min (2 ^ 21) n) (image turn (universe_in store pattern))) (sym space) large);
   turned = turned;
 }
 
 -- ---- why there is none
 
 -- a pattern with a large form is that of a file with one
-large-file : PatternsFit MAX_LEVEL → (limit : ℕ) (bytes : List ℕ) (store : Nodes) (pattern : Pattern) → store.limit ≡ room_of limit
-    → IsRead MAX_LEVEL bytes store pattern → layer.HasLargeForm store pattern → HasFormLargerThan Moved (form_room limit) bytes
-large-file fit limit bytes store pattern room read large =
+large-file : PatternsFit MAX_LEVEL → (limit : ℕ) (bytes : List ℕ) (store : Nodes) (pattern : Pattern) → store.limit ≡ squares_of_limit limit
+    → IsRead MAX_LEVEL bytes store pattern → layer.HasLargeForm store pattern → HasFormLargerThan Moved (squares_of_form limit) bytes
+large-file fit limit bytes store pattern space read large =
     let u = universe_in store pattern in
-    (u, reads-it fit bytes store pattern read, subst (λ (n : ℕ). HasLargerForm (min (2 ^ 21) n) u) room large)
+    (u, reads-it fit bytes store pattern read, subst (λ (n : ℕ). HasLargerForm (min (2 ^ 21) n) u) space large)
 
-large-image : PatternsFit MAX_LEVEL → (limit : ℕ) (bytes : List ℕ) (store : Nodes) (pattern : Pattern) → store.limit ≡ room_of limit
-    → IsRead MAX_LEVEL bytes store pattern → layer.HasLargeImage store pattern → HasFormLargerThan Turned (form_room limit) bytes
-large-image fit limit bytes store pattern room read large =
+large-image : PatternsFit MAX_LEVEL → (limit : ℕ) (bytes : List ℕ) (store : Nodes) (pattern : Pattern) → store.limit ≡ squares_of_limit limit
+    → IsRead MAX_LEVEL bytes store pattern → layer.HasLargeImage store pattern → HasFormLargerThan Turned (squares_of_form limit) bytes
+large-image fit limit bytes store pattern space read large =
     let u = universe_in store pattern in (
       u,
       reads-it fit bytes store pattern read,
-      (large.0, subst (λ (n : ℕ). HasLargerForm (min (2 ^ 21) n) (image large.0 u)) room large.1),
+      (large.0, subst (λ (n : ℕ). HasLargerForm (min (2 ^ 21) n) (image large.0 u)) space large.1),
     )
 
 -- where the file of a pattern has one, the pattern has one
 file-large : FilesAreUnique MAX_LEVEL → PatternsFit MAX_LEVEL → (limit : ℕ) (bytes : List ℕ) (store : Nodes) (pattern : Pattern)
-    → store.limit ≡ room_of limit → IsRead MAX_LEVEL bytes store pattern → HasFormLargerThan Moved (form_room limit) bytes → layer.HasLargeForm store pattern
-file-large unique fit limit bytes store pattern room read large =
+    → store.limit ≡ squares_of_limit limit → IsRead MAX_LEVEL bytes store pattern → HasFormLargerThan Moved (squares_of_form limit) bytes
+    → layer.HasLargeForm store pattern
+file-large unique fit limit bytes store pattern space read large =
     let u = universe_in store pattern in
     let same = unique _ large.0 u large.1 (reads-it fit bytes store pattern read) in
-    subst (λ (n : ℕ). HasLargerForm (min (2 ^ 21) n) u) (sym room) (subst (λ (v : Universe). HasLargerForm (form_room limit) v) same large.2)
+    subst (λ (n : ℕ). HasLargerForm (min (2 ^ 21) n) u) (sym space) (subst (λ (v : Universe). HasLargerForm (squares_of_form limit) v) same large.2)
 
 image-large : FilesAreUnique MAX_LEVEL → PatternsFit MAX_LEVEL → (limit : ℕ) (bytes : List ℕ) (store : Nodes) (pattern : Pattern)
-    → store.limit ≡ room_of limit → IsRead MAX_LEVEL bytes store pattern → HasFormLargerThan Turned (form_room limit) bytes → layer.HasLargeImage store pattern
-image-large unique fit limit bytes store pattern room read large =
+    → store.limit ≡ squares_of_limit limit → IsRead MAX_LEVEL bytes store pattern → HasFormLargerThan Turned (squares_of_form limit) bytes
+    → layer.HasLargeImage store pattern
+image-large unique fit limit bytes store pattern space read large =
     let u = universe_in store pattern in
     let turn = large.2.0 in
     let same = unique _ large.0 u large.1 (reads-it fit bytes store pattern read) in (
       turn,
-      subst (λ (n : ℕ). HasLargerForm (min (2 ^ 21) n) (image turn u)) (sym room)
-          (subst (λ (v : Universe). HasLargerForm (form_room limit) (image turn v)) same large.2.1),
+      subst (λ (n : ℕ). HasLargerForm (min (2 ^ 21) n) (image turn u)) (sym space)
+          (subst (λ (v : Universe). HasLargerForm (squares_of_form limit) (image turn v)) same large.2.1),
     )
 
 -- a pattern that isn't moved
-pub unmoved : PatternsFit MAX_LEVEL → (limit : ℕ) (bytes : List ℕ) (store : Nodes) (pattern : Pattern) (fault : Fault) → store.limit ≡ room_of limit
+pub unmoved : PatternsFit MAX_LEVEL → (limit : ℕ) (bytes : List ℕ) (store : Nodes) (pattern : Pattern) (fault : Fault) → store.limit ≡ squares_of_limit limit
     → IsRead MAX_LEVEL bytes store pattern → OrMemory fault ((fault ≡ fault_of Full) × layer.HasLargeForm store pattern)
     → RefusesFormWithin Moved limit bytes fault
-unmoved fit limit bytes store pattern fault room read (inl memory) = inl (inr (inl memory))
-unmoved fit limit bytes store pattern fault room read (inr large) = inr (large.0, large-file fit limit bytes store pattern room read large.1)
+unmoved fit limit bytes store pattern fault space read (inl memory) = inl (inr (inl memory))
+unmoved fit limit bytes store pattern fault space read (inr large) = inr (large.0, large-file fit limit bytes store pattern space read large.1)
 
 -- one that isn't turned
-pub unturned : PatternsFit MAX_LEVEL → (limit : ℕ) (bytes : List ℕ) (store : Nodes) (pattern : Pattern) (fault : Fault) → store.limit ≡ room_of limit
+pub unturned : PatternsFit MAX_LEVEL → (limit : ℕ) (bytes : List ℕ) (store : Nodes) (pattern : Pattern) (fault : Fault) → store.limit ≡ squares_of_limit limit
     → IsRead MAX_LEVEL bytes store pattern → OrMemory fault ((fault ≡ fault_of Full) × layer.HasLargeImage store pattern)
     → RefusesFormWithin Turned limit bytes fault
-unturned fit limit bytes store pattern fault room read (inl memory) = inl (inr (inl memory))
-unturned fit limit bytes store pattern fault room read (inr large) = inr (large.0, large-image fit limit bytes store pattern room read large.1)
+unturned fit limit bytes store pattern fault space read (inl memory) = inl (inr (inl memory))
+unturned fit limit bytes store pattern fault space read (inr large) = inr (large.0, large-image fit limit bytes store pattern space read large.1)
 
 -- ---- two files
 
 -- what holds of two patterns in a store exactly if a test says so holds of their files
-pub files-told : FilesAreUnique MAX_LEVEL → (IsRelated : Universe → Universe → Type 0) (first second : List ℕ) (u v : Universe) (answer : Bool)
+pub files-reported : FilesAreUnique MAX_LEVEL → (IsRelated : Universe → Universe → Type 0) (first second : List ℕ) (u v : Universe) (answer : Bool)
     → Reads MAX_LEVEL first u → Reads MAX_LEVEL second v → IsTrue answer ↔ IsRelated u v → IsTrue answer ↔ AreRelatedFiles IsRelated first second
-files-told unique IsRelated first second u v answer one_reads other_reads told = (
-  λ t. record { first = u; second = v; reads_first = one_reads; reads_second = other_reads; related = told.0 t },
-  λ are. told.1
+files-reported unique IsRelated first second u v answer one_reads other_reads reported = (
+  λ t. record { first = u; second = v; reads_first = one_reads; reads_second = other_reads; related = reported.0 t },
+  λ are. reported.1
       (subst (λ (w : Universe). IsRelated w v) (unique _ are.first u are.reads_first one_reads)
       (subst (λ (w : Universe). IsRelated are.first w) (unique _ are.second v are.reads_second other_reads) are.related)),
 )
@@ -142,10 +144,10 @@ full-has kinds bytes store fault (inr (inr stored)) full = stored.1
 
 -- the first of two files needs more than a store that was empty may hold
 pub first-low : RefusalsHaveKinds MAX_LEVEL → (first second : List ℕ) (old new : Nodes) (fault : Fault) → stored_squares old ≡ [] → HoldsOnce new
-    → AddsFile first old new → new.limit ≡ old.limit → LacksFor MAX_LEVEL first new → old.limit < length (stored_squares old) + room_for (length first)
+    → AddsFile first old new → new.limit ≡ old.limit → LacksFor MAX_LEVEL first new → old.limit < length (stored_squares old) + sufficient_for (length first)
     → RefusesIn MAX_LEVEL first new fault → fault ≡ fault_of Full → IsTooLowForBoth first second new.limit
 first-low kinds first second old new fault empty once adds same lacks low why full =
-    let alone = tight (room_for (length first)) old new empty same low in
+    let alone = tight (sufficient_for (length first)) old new empty same low in
     let at = full-has kinds first new fault why full in (
       inl (too-low first new once (from-empty (SomeToRead first) old new empty adds) lacks alone at).0,
       omega
@@ -169,7 +171,7 @@ read-both first second old mid new one other =
     }
 
 -- so may the second, with the first
-pub second-low : RefusalsHaveKinds MAX_LEVEL → FewSquares → RoomSuffices → (first second : List ℕ) (old mid new : Nodes) (fault : Fault) → stored_squares old
+pub second-low : RefusalsHaveKinds MAX_LEVEL → FewSquares → LimitSuffices → (first second : List ℕ) (old mid new : Nodes) (fault : Fault) → stored_squares old
     ≡ []
     → HoldsOnce new → Accepted MAX_LEVEL first → AddsFile first old mid → AddsFile second mid new
     → LacksFor MAX_LEVEL second new → RefusesIn MAX_LEVEL second new fault → fault ≡ fault_of Full → IsTooLowForBoth first second new.limit
@@ -194,22 +196,22 @@ both-fit first second mid new pattern read one stay other =
     enough (SomeToReadBoth first second) new read.is.known.1
     (λ t live needed. elim needed [ inl s ↦ stay t (one t live s) | inr s ↦ other t live s ])
 
--- one of two files isn't read, or room or memory is wanted for it
-pub either-unread : (form : PatternForm) (limit : ℕ) (first second : List ℕ) (store : Nodes) (fault : Fault) → store.limit ≡ room_of limit
+-- one of two files isn't read, or the store is full or memory is refused for it
+pub either-unread : (form : PatternForm) (limit : ℕ) (first second : List ℕ) (store : Nodes) (fault : Fault) → store.limit ≡ squares_of_limit limit
     → Refuses MAX_LEVEL first fault ⊎ (Accepted MAX_LEVEL first × Refuses MAX_LEVEL second fault) ⊎ IsShortageOf store fault
     → (fault ≡ fault_of Full → IsTooLowForBoth first second store.limit) → RefusesEitherInForm form limit first second fault
-either-unread Placed limit first second store fault room (inl refuses) low = inl refuses
-either-unread Placed limit first second store fault room (inr (inl refuses)) low = inr (inl refuses)
-either-unread Placed limit first second store fault room (inr (inr want)) low =
-    inr (inr (wanted (IsTooLowForBoth first second) limit store fault room want (λ full at. low full)))
-either-unread Moved limit first second store fault room (inl refuses) low = inl (inl refuses)
-either-unread Moved limit first second store fault room (inr (inl refuses)) low = inl (inr (inl refuses))
-either-unread Moved limit first second store fault room (inr (inr want)) low =
-    inl (inr (inr (wanted (IsTooLowForBoth first second) limit store fault room want (λ full at. low full))))
-either-unread Turned limit first second store fault room (inl refuses) low = inl (inl refuses)
-either-unread Turned limit first second store fault room (inr (inl refuses)) low = inl (inr (inl refuses))
-either-unread Turned limit first second store fault room (inr (inr want)) low =
-    inl (inr (inr (wanted (IsTooLowForBoth first second) limit store fault room want (λ full at. low full))))
+either-unread Placed limit first second store fault space (inl refuses) low = inl refuses
+either-unread Placed limit first second store fault space (inr (inl refuses)) low = inr (inl refuses)
+either-unread Placed limit first second store fault space (inr (inr want)) low =
+    inr (inr (wanted (IsTooLowForBoth first second) limit store fault space want (λ full at. low full)))
+either-unread Moved limit first second store fault space (inl refuses) low = inl (inl refuses)
+either-unread Moved limit first second store fault space (inr (inl refuses)) low = inl (inr (inl refuses))
+either-unread Moved limit first second store fault space (inr (inr want)) low =
+    inl (inr (inr (wanted (IsTooLowForBoth first second) limit store fault space want (λ full at. low full))))
+either-unread Turned limit first second store fault space (inl refuses) low = inl (inl refuses)
+either-unread Turned limit first second store fault space (inr (inl refuses)) low = inl (inr (inl refuses))
+either-unread Turned limit first second store fault space (inr (inr want)) low =
+    inl (inr (inr (wanted (IsTooLowForBoth first second) limit store fault space want (λ full at. low full))))
 
 -- two files are of one generation exactly if their patterns are
 of-one-generation : PatternsFit MAX_LEVEL → (first second : List ℕ) (store : Nodes) (a b : Pattern) → IsRead MAX_LEVEL first store a
@@ -231,60 +233,60 @@ one-generation unique fit first second store a b read other are =
 
 -- two patterns that were compared, moved, have forms that aren't too large
 pub small-moved : FilesAreUnique MAX_LEVEL → PatternsFit MAX_LEVEL → (limit : ℕ) (first second : List ℕ) (store : Nodes) (a b : Pattern)
-    → store.limit ≡ room_of limit → IsRead MAX_LEVEL first store a → IsRead MAX_LEVEL second store b
-    → (¬ layer.HasLargeForm store a) × (¬ layer.HasLargeForm store b) → ¬ OneHasFormLargerThan Moved (form_room limit) first second
-small-moved unique fit limit first second store a b room read other small = λ large. elim large.2 [
-  | inl it ↦ small.0 (file-large unique fit limit first store a room read it)
-  | inr it ↦ small.1 (file-large unique fit limit second store b room other it)
+    → store.limit ≡ squares_of_limit limit → IsRead MAX_LEVEL first store a → IsRead MAX_LEVEL second store b
+    → (¬ layer.HasLargeForm store a) × (¬ layer.HasLargeForm store b) → ¬ OneHasFormLargerThan Moved (squares_of_form limit) first second
+small-moved unique fit limit first second store a b space read other small = λ large. elim large.2 [
+  | inl it ↦ small.0 (file-large unique fit limit first store a space read it)
+  | inr it ↦ small.1 (file-large unique fit limit second store b space other it)
 ]
 
 -- two that were compared, turned
 pub small-turned : FilesAreUnique MAX_LEVEL → PatternsFit MAX_LEVEL → (limit : ℕ) (first second : List ℕ) (store : Nodes) (a b : Pattern)
-    → store.limit ≡ room_of limit → IsRead MAX_LEVEL first store a → IsRead MAX_LEVEL second store b
+    → store.limit ≡ squares_of_limit limit → IsRead MAX_LEVEL first store a → IsRead MAX_LEVEL second store b
     → (a.generation ≡ b.generation → (¬ layer.HasLargeImage store a) × (¬ layer.HasLargeImage store b))
-    → ¬ OneHasFormLargerThan Turned (form_room limit) first second
-small-turned unique fit limit first second store a b room read other small = λ large.
+    → ¬ OneHasFormLargerThan Turned (squares_of_form limit) first second
+small-turned unique fit limit first second store a b space read other small = λ large.
     let both = small (one-generation unique fit first second store a b read other large.0) in
     elim large.1 [
-      | inl it ↦ both.0 (image-large unique fit limit first store a room read it)
-      | inr it ↦ both.1 (image-large unique fit limit second store b room other it)
+      | inl it ↦ both.0 (image-large unique fit limit first store a space read it)
+      | inr it ↦ both.1 (image-large unique fit limit second store b space other it)
     ]
 
 -- two patterns that aren't moved
 pub either-unmoved : PatternsFit MAX_LEVEL → (limit : ℕ) (first second : List ℕ) (store : Nodes) (a b : Pattern) (fault : Fault)
-    → store.limit ≡ room_of limit → IsRead MAX_LEVEL first store a → IsRead MAX_LEVEL second store b
+    → store.limit ≡ squares_of_limit limit → IsRead MAX_LEVEL first store a → IsRead MAX_LEVEL second store b
     → OrMemory fault ((fault ≡ fault_of Full) × (layer.HasLargeForm store a ⊎ layer.HasLargeForm store b))
     → RefusesEitherInForm Moved limit first second fault
-either-unmoved fit limit first second store a b fault room read other (inl memory) =
-    either-unread Moved limit first second store fault room (inr (inr (inl memory))) (not-full fault memory)
-either-unmoved fit limit first second store a b fault room read other (inr large) =
+either-unmoved fit limit first second store a b fault space read other (inl memory) =
+    either-unread Moved limit first second store fault space (inr (inr (inl memory))) (not-full fault memory)
+either-unmoved fit limit first second store a b fault space read other (inr large) =
     inr (
       large.0,
       (
         accepted-it first store a read,
         accepted-it second store b other,
         elim large.1 [
-          | inl it ↦ inl (large-file fit limit first store a room read it)
-          | inr it ↦ inr (large-file fit limit second store b room other it)
+          | inl it ↦ inl (large-file fit limit first store a space read it)
+          | inr it ↦ inr (large-file fit limit second store b space other it)
         ],
       ),
     )
 
 -- two that aren't turned
 pub either-unturned : PatternsFit MAX_LEVEL → (limit : ℕ) (first second : List ℕ) (store : Nodes) (a b : Pattern) (fault : Fault)
-    → store.limit ≡ room_of limit → IsRead MAX_LEVEL first store a → IsRead MAX_LEVEL second store b
+    → store.limit ≡ squares_of_limit limit → IsRead MAX_LEVEL first store a → IsRead MAX_LEVEL second store b
     → OrMemory fault ((fault ≡ fault_of Full) × (a.generation ≡ b.generation) × (layer.HasLargeImage store a ⊎ layer.HasLargeImage store b))
     → RefusesEitherInForm Turned limit first second fault
-either-unturned fit limit first second store a b fault room read other (inl memory) =
-    either-unread Turned limit first second store fault room (inr (inr (inl memory))) (not-full fault memory)
-either-unturned fit limit first second store a b fault room read other (inr large) =
+either-unturned fit limit first second store a b fault space read other (inl memory) =
+    either-unread Turned limit first second store fault space (inr (inr (inl memory))) (not-full fault memory)
+either-unturned fit limit first second store a b fault space read other (inr large) =
     inr (
       large.0,
       (
         of-one-generation fit first second store a b read other large.1,
         elim large.2 [
-          | inl it ↦ inl (large-image fit limit first store a room read it)
-          | inr it ↦ inr (large-image fit limit second store b room other it)
+          | inl it ↦ inl (large-image fit limit first store a space read it)
+          | inr it ↦ inr (large-image fit limit second store b space other it)
         ],
       ),
     )

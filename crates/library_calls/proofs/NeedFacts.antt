@@ -16,14 +16,14 @@ use Rattle.life_quad.specs.Keeping.{AddsOnly}
 use Rattle.life_quad.specs.Store.{Nodes, IsShared, content, stored_squares, id_of}
 use Rattle.life_canon.specs.Calls.{EndsInto, FeedsInto, ReadsInto}
 use Rattle.life_canon.specs.Needs.{IsNew, LacksFor}
-use Rattle.life_canon.specs.Room.{HoldsFile, AddsFile, HoldsFront, HoldsOnly, room_for}
+use Rattle.life_canon.specs.Space.{HoldsFile, AddsFile, HoldsPrefix, HoldsOnly, sufficient_for}
 use Rattle.life_canon.specs.Store.{IsRead}
 use Rattle.life_canon.specs.declared.pattern.Pattern.{Pattern}
-use Rattle.life_canon.proofs.RoomCount.{Found, find-file, find-lines}
-use Rattle.life_canon.proofs.RoomLists.{Among, among-contains, contains-among, distinct-pairs, pigeons}
+use Rattle.life_canon.proofs.SpaceCount.{Found, find-file, find-lines}
+use Rattle.life_canon.proofs.SpaceLists.{Among, among-contains, contains-among, distinct-pairs, pigeons}
 pub use Rattle.life_forms.proofs.SizeFacts.{HoldsOnce, HoldsNeeded, no-square, all-cons, more-than-held, needs-more, within, longer, enough, from-empty}
-use Rattle.library_calls.specs.Outputs.{IsTooLowForFront, SomeOfFront}
-use Rattle.library_calls.specs.Texts.{Fits, IsTooLowFor, NeedsMore, SomeToRead, room_of}
+use Rattle.library_calls.specs.Outputs.{IsTooLowForPrefix, SomeOfPrefix}
+use Rattle.library_calls.specs.Texts.{Fits, IsTooLowFor, NeedsMore, SomeToRead, squares_of_limit}
 use Rattle.library_calls.proofs.Answering.{tight, tight-alone}
 
 -- ---- what a store holds
@@ -66,7 +66,7 @@ where-ok (Err fault) p = tt
 
 -- where a file is read
 pub too-low : (bytes : List ℕ) (store : Nodes) → HoldsOnce store → HoldsNeeded (SomeToRead bytes) store → LacksFor MAX_LEVEL bytes store
-    → store.limit < room_for (length bytes) → length (stored_squares store) ≡ store.limit → IsTooLowFor bytes store.limit
+    → store.limit < sufficient_for (length bytes) → length (stored_squares store) ≡ store.limit → IsTooLowFor bytes store.limit
 too-low bytes store once needed lacks low full =
     (more-than-held (SomeToRead bytes) store once needed (find-file (IsNew store) (lines_of bytes) lacks) full, low)
 
@@ -75,7 +75,7 @@ pub file-low : {A : Type 0} (bytes : List ℕ) (old new : Nodes) (result : Resul
 file-low {A} bytes old new result fault was empty once reads full at =
     let is : result ≡ Err (fault_of Full) = was ∙ ap (λ (f : Fault). Err f) full in
     too-low bytes new once (from-empty (SomeToRead bytes) old new empty reads.adds) (reads.needed is)
-    (tight (room_for (length bytes)) old new empty reads.keeps.limit (reads.room is)) at
+    (tight (sufficient_for (length bytes)) old new empty reads.keeps.limit (reads.space is)) at
 
 -- at the end of one that came in pieces
 pub end-low : {A : Type 0} (bytes : List ℕ) (old new : Nodes) (result : Result A Fault) (fault : Fault) → result ≡ Err fault → HoldsOnly [] bytes old
@@ -83,24 +83,24 @@ pub end-low : {A : Type 0} (bytes : List ℕ) (old new : Nodes) (result : Result
 end-low {A} bytes old new result fault was only once ends full at =
     let is : result ≡ Err (fault_of Full) = was ∙ ap (λ (f : Fault). Err f) full in
     too-low bytes new once (only-needed bytes new (only-more bytes old new only ends.adds)) (ends.needed is)
-    (tight-alone (room_for (length bytes)) old new ends.keeps.limit (ends.room is [] only)) at
+    (tight-alone (sufficient_for (length bytes)) old new ends.keeps.limit (ends.space is [] only)) at
 
 -- with a piece
 pub piece-low : {A : Type 0} (before piece : List ℕ) (old new : Nodes) (result : Result A Fault) (fault : Fault) → result ≡ Err fault
-    → HoldsFront [] before old → HoldsFront [] (before ++ piece) new → HoldsOnce new → FeedsInto before piece old new result
-    → fault ≡ fault_of Full → length (stored_squares new) ≡ new.limit → IsTooLowForFront (before ++ piece) new.limit
-piece-low {A} before piece old new result fault was front only once feeds full at =
+    → HoldsPrefix [] before old → HoldsPrefix [] (before ++ piece) new → HoldsOnce new → FeedsInto before piece old new result
+    → fault ≡ fault_of Full → length (stored_squares new) ≡ new.limit → IsTooLowForPrefix (before ++ piece) new.limit
+piece-low {A} before piece old new result fault was prefix only once feeds full at =
     let is : result ≡ Err (fault_of Full) = was ∙ ap (λ (f : Fault). Err f) full in
     let bytes = before ++ piece in
-    let needed : HoldsNeeded (SomeOfFront bytes) new = λ t there. elim (only t there) [ inl none ↦ no-square t none | inr it ↦ it ] in (
-      more-than-held (SomeOfFront bytes) new once needed (find-lines (IsNew new) (whole_lines bytes) (feeds.needed is)) at,
+    let needed : HoldsNeeded (SomeOfPrefix bytes) new = λ t there. elim (only t there) [ inl none ↦ no-square t none | inr it ↦ it ] in (
+      more-than-held (SomeOfPrefix bytes) new once needed (find-lines (IsNew new) (whole_lines bytes) (feeds.needed is)) at,
       tight-alone
-          (room_for (length bytes)) old new feeds.keeps.limit (feeds.room is [] front),
+          (sufficient_for (length bytes)) old new feeds.keeps.limit (feeds.space is [] prefix),
     )
 
 -- ---- a file that was read
 
 pub file-fits : (bytes : List ℕ) (limit : ℕ) (store : Nodes) (pattern : Pattern) → IsRead MAX_LEVEL bytes store pattern → HoldsFile bytes (stored_squares store)
-    → store.limit ≡ room_of limit → Fits (SomeToRead bytes) limit
+    → store.limit ≡ squares_of_limit limit → Fits (SomeToRead bytes) limit
 file-fits bytes limit store pattern read all is =
     subst (λ (most : ℕ). ¬ NeedsMore (SomeToRead bytes) most) is (enough (SomeToRead bytes) store read.is.known.1 all)

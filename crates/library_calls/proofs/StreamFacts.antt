@@ -6,12 +6,12 @@ use Rattle.life_base.specs.declared.cell.TheConstants.{MAX_LEVEL}
 use Rattle.life_base.specs.declared.fault.Fault.{Fault}
 use Rattle.life_base.specs.declared.kind.Kind.TheVariants.{Full}
 use Rattle.life_quad.specs.Store.{Nodes, stored_squares}
-use Rattle.life_canon.specs.Feeding.{RefusesFront}
+use Rattle.life_canon.specs.Feeding.{RefusesPrefix}
 use Rattle.life_canon.specs.Store.{IsShortageOf}
 use Rattle.file_hints.specs.Damage.{warning_of}
 use Rattle.file_hints.specs.declared.warnings.Warning.{Warning}
-use Rattle.library_calls.specs.Texts.{Fits, SomeToRead, room_of}
-use Rattle.library_calls.specs.Outputs.{Piecewise, IsOutputText, IsTooLowForFront, RefusesTextOf, RefusesPiece}
+use Rattle.library_calls.specs.Texts.{Fits, SomeToRead, squares_of_limit}
+use Rattle.library_calls.specs.Outputs.{Piecewise, IsOutputText, IsTooLowForPrefix, RefusesTextOf, RefusesPiece}
 use Rattle.library_calls.specs.Streams.{IsFed, SessionHasText, SessionHasWarning, HasFault, by_piece, by_text, StaysEnded, Feeds, Finishes}
 use Rattle.library_calls.specs.Streams as streams
 use Rattle.library_calls.specs.declared.texts.Output.{Output}
@@ -20,11 +20,11 @@ use Rattle.library_calls.specs.declared.session.Session.TheVariants.{Reading, Wr
 use Rattle.library_calls.proofs.Answering.{wanted}
 
 -- why a piece is refused
-pub piece-fault : (limit : ℕ) (bytes : List ℕ) (store : Nodes) (fault : Fault) → store.limit ≡ room_of limit
-    → IsShortageOf store fault ⊎ RefusesFront MAX_LEVEL bytes fault
-    → (fault ≡ fault_of Full → length (stored_squares store) ≡ store.limit → IsTooLowForFront bytes store.limit) → RefusesPiece limit bytes fault
-piece-fault limit bytes store fault is (inl want) low = inr (wanted (IsTooLowForFront bytes) limit store fault is want low)
-piece-fault limit bytes store fault is (inr front) low = inl front
+pub piece-fault : (limit : ℕ) (bytes : List ℕ) (store : Nodes) (fault : Fault) → store.limit ≡ squares_of_limit limit
+    → IsShortageOf store fault ⊎ RefusesPrefix MAX_LEVEL bytes fault
+    → (fault ≡ fault_of Full → length (stored_squares store) ≡ store.limit → IsTooLowForPrefix bytes store.limit) → RefusesPiece limit bytes fault
+piece-fault limit bytes store fault is (inl want) low = inr (wanted (IsTooLowForPrefix bytes) limit store fault is want low)
+piece-fault limit bytes store fault is (inr prefix) low = inl prefix
 
 -- ---- sessions
 
@@ -39,21 +39,22 @@ none-yet session feeding new is =
 
 -- a piece that is taken
 pub feeds-piece : (piece : List ℕ) (session : Session) (feeding next : Piecewise) → session ≡ Reading feeding
-    → next ≡ record { output = feeding.output; room = feeding.room; bytes = feeding.bytes ++ piece }
-    → ((fault : Fault) → ¬ RefusesFront MAX_LEVEL (feeding.bytes ++ piece) fault) → Feeds piece (Some session) (Some (Reading next))
-feeds-piece piece session feeding next is after front = record {
+    → next ≡ record { output = feeding.output; space = feeding.space; bytes = feeding.bytes ++ piece }
+    → ((fault : Fault) → ¬ RefusesPrefix MAX_LEVEL (feeding.bytes ++ piece) fault) → Feeds piece (Some session) (Some (Reading next))
+feeds-piece piece session feeding next is after prefix = record {
   takes = λ output limit bytes fed. let f = subst (IsFed output limit bytes) is fed in by_piece (
     ap (λ (v : Piecewise). v.output) after ∙ f.0,
-    ap (λ (v : Piecewise). v.room) after ∙ f.1,
+    ap (λ (v : Piecewise). v.space) after ∙ f.1,
     ap (λ (v : Piecewise). v.bytes) after ∙ ap (λ b. b ++ piece) f.2,
   )
-      (subst (λ b. (fault : Fault) → ¬ RefusesFront MAX_LEVEL (b ++ piece) fault) f.2 front);
+      (subst (λ b. (fault : Fault) → ¬ RefusesPrefix MAX_LEVEL (b ++ piece) fault) f.2 prefix);
   stays = none-yet session feeding _ is;
 }
 
 -- one that is refused
 pub feeds-fault : (piece : List ℕ) (session : Session) (feeding : Piecewise) (fault : Fault) → session ≡ Reading feeding
-    → ((limit : ℕ) → feeding.room ≡ room_of limit → RefusesPiece limit (feeding.bytes ++ piece) fault) → Feeds piece (Some session) (Some (Refused fault))
+    → ((limit : ℕ) → feeding.space ≡ squares_of_limit limit → RefusesPiece limit (feeding.bytes ++ piece) fault)
+    → Feeds piece (Some session) (Some (Refused fault))
 feeds-fault piece session feeding fault is why = record {
   takes = λ output limit bytes fed. let f = subst (IsFed output limit bytes) is fed in
       streams.by_fault fault refl (subst (λ b. RefusesPiece limit (b ++ piece) fault) f.2 (why limit f.1));
@@ -63,8 +64,8 @@ feeds-fault piece session feeding fault is why = record {
 -- the text of the end
 pub ends-text : (session : Session) (feeding : Piecewise) (text : Vec ℕ) (warning : Option Warning) → session ≡ Reading feeding
     → warning ≡ warning_of feeding.bytes
-    → ((limit : ℕ) → feeding.room ≡ room_of limit → IsOutputText feeding.output limit feeding.bytes text.items)
-    → ((limit : ℕ) → feeding.room ≡ room_of limit → Fits (SomeToRead feeding.bytes) limit)
+    → ((limit : ℕ) → feeding.space ≡ squares_of_limit limit → IsOutputText feeding.output limit feeding.bytes text.items)
+    → ((limit : ℕ) → feeding.space ≡ squares_of_limit limit → Fits (SomeToRead feeding.bytes) limit)
     → Finishes (Some session) (Some (Written (record { text = text; warning = warning })))
 ends-text session feeding text warning is warns good fits = record {
   ends = λ output limit bytes fed. let f = subst (IsFed output limit bytes) is fed in
@@ -77,7 +78,7 @@ ends-text session feeding text warning is warns good fits = record {
 
 -- its fault
 pub ends-fault : (session : Session) (feeding : Piecewise) (fault : Fault) → session ≡ Reading feeding
-    → ((limit : ℕ) → feeding.room ≡ room_of limit → RefusesTextOf feeding.output limit feeding.bytes fault)
+    → ((limit : ℕ) → feeding.space ≡ squares_of_limit limit → RefusesTextOf feeding.output limit feeding.bytes fault)
     → Finishes (Some session) (Some (Refused fault))
 ends-fault session feeding fault is why = record {
   ends = λ output limit bytes fed. let f = subst (IsFed output limit bytes) is fed in streams.by_fault fault refl

@@ -15,20 +15,20 @@ use Rattle.life_canon.specs.Files.{Reads}
 use Rattle.life_canon.specs.Laws.{PatternsFit, FilesAreOnPlane, TextsTellUniverses, TextsAreFiles, CanonicalIsLeast}
 use Rattle.life_canon.specs.Listing.{canonical_file, canon_text}
 use Rattle.life_canon.specs.Needs.{IsNew}
-use Rattle.life_canon.specs.Room.{HoldsOnly}
+use Rattle.life_canon.specs.Space.{HoldsOnly}
 use Rattle.life_canon.specs.Store.{IsRead, IsShortageOf, RefusesIn, content, universe_in}
 use Rattle.life_canon.specs.Texts.{FileHasMoreCells}
 use Rattle.life_canon.specs.Universe.{Universe, IsSame, IsOnPlane, whole}
 use Rattle.life_canon.specs.declared.pattern.Pattern.{Pattern}
-use Rattle.life_canon.proofs.RoomCount.{Found, found-as}
+use Rattle.life_canon.proofs.SpaceCount.{Found, found-as}
 use Rattle.life_table.specs.declared.table.Table.{Table}
 use Rattle.life_step.specs.Refusals.{LacksForLife, LacksForTable, LifeRefusal, SomeByRule, SomeByTable, SomeOfStep, SomeOfStepBy, TableRefusal}
 use Rattle.life_generations.specs.Later.{LaterRefusal}
-use Rattle.library_calls.specs.Texts.{IsLeastCanonicalText, IsTooLowFor, NeedsMore, SomeToRead, room_of}
+use Rattle.library_calls.specs.Texts.{IsLeastCanonicalText, IsTooLowFor, NeedsMore, SomeToRead, squares_of_limit}
 use Rattle.library_calls.specs.Outputs.{IsOutputText, IsTextOfRead, RefusesTextOf, RefusesTextOfRead, text_in}
 use Rattle.library_calls.specs.InForm.{IsTextInForm, RefusesFormWithin}
 use Rattle.library_calls.specs.Stepping.{RefusesStepByWithin}
-use Rattle.library_calls.specs.Told.{Told, Returns}
+use Rattle.library_calls.specs.Reported.{Reported, Returns}
 use Rattle.library_calls.specs.declared.texts.Output.{Output}
 use Rattle.library_calls.specs.declared.texts.Output.TheVariants.{Canonical, Rle, Lines, Next, Later, Moved, Turned}
 use Rattle.library_calls.specs.declared.pattern_form.PatternForm.{PatternForm}
@@ -70,13 +70,13 @@ canonical fit plane tell files least bytes store pattern text is read =
       },
     )
 
--- room or memory is wanted
+-- the store is full or memory is refused
 short : (store : Nodes) (fault : Fault) → IsShortageOf store fault → (fault ≡ fault_of Full) ⊎ (fault ≡ fault_of Memory)
 short store fault (inl memory) = inr memory
 short store fault (inr (full, at)) = inl full
 
--- why a file is refused at its end, or room or memory wanted
-pub text-fault : (output : Output) (limit : ℕ) (bytes : List ℕ) (store : Nodes) (fault : Fault) → store.limit ≡ room_of limit
+-- why a file is refused at its end, or space or memory wanted
+pub text-fault : (output : Output) (limit : ℕ) (bytes : List ℕ) (store : Nodes) (fault : Fault) → store.limit ≡ squares_of_limit limit
     → RefusesIn MAX_LEVEL bytes store fault → (fault ≡ fault_of Full → length (stored_squares store) ≡ store.limit → IsTooLowFor bytes store.limit)
     → RefusesTextOf output limit bytes fault
 text-fault Canonical limit bytes store fault is (inl refuses) low = inl refuses
@@ -125,7 +125,7 @@ refused-in-form forms.Placed limit bytes fault why = why
 refused-in-form forms.Moved limit bytes fault why = why
 refused-in-form forms.Turned limit bytes fault why = why
 
-pub answers-in-form : (output : PatternForm) (limit : ℕ) (bytes before after : List ℕ) (it : Told)
+pub answers-in-form : (output : PatternForm) (limit : ℕ) (bytes before after : List ℕ) (it : Reported)
     → Returns (IsOutputText (text_in output) limit bytes) (RefusesTextOf (text_in output) limit bytes) before after it
     → Returns (IsTextInForm output limit bytes) (RefusesFormWithin output limit bytes) before after it
 answers-in-form forms.Placed limit bytes before after it answers = answers
@@ -155,7 +155,7 @@ step-low Of bytes old store pattern read only once adds lack at =
     (from-needed (SomeToRead bytes) Added Needs old store (λ P s. inl s) (λ P s. inr (of P s)) (only-needed bytes old only) adds)
     (found-as (λ Q k. inr (of Q k)) lack) at
 
-pub next-fault : (limit : ℕ) (bytes : List ℕ) (old store : Nodes) (pattern : Pattern) (fault : Fault) → store.limit ≡ room_of limit
+pub next-fault : (limit : ℕ) (bytes : List ℕ) (old store : Nodes) (pattern : Pattern) (fault : Fault) → store.limit ≡ squares_of_limit limit
     → IsRead MAX_LEVEL bytes old pattern → HoldsOnly [] bytes old → HoldsOnce store
     → AddsOnly stored_squares (λ P. SomeByRule P pattern.rule (content old pattern.root)) old store
     → IsShortageOf store fault ⊎ ((bytes : List ℕ) → IsRead MAX_LEVEL bytes old pattern → (u : Universe) × Reads MAX_LEVEL bytes u
@@ -174,7 +174,7 @@ pub later-fault : (n limit : ℕ) (bytes : List ℕ) (old store : Nodes) (patter
 later-fault n limit bytes old store pattern fault read (inl want) = inr (inl (short store fault want))
 later-fault n limit bytes old store pattern fault read (inr why) = inr (inr (why bytes read))
 
-pub next-by-fault : (table : Table) (limit : ℕ) (bytes : List ℕ) (old store : Nodes) (pattern : Pattern) (fault : Fault) → store.limit ≡ room_of limit
+pub next-by-fault : (table : Table) (limit : ℕ) (bytes : List ℕ) (old store : Nodes) (pattern : Pattern) (fault : Fault) → store.limit ≡ squares_of_limit limit
     → IsRead MAX_LEVEL bytes old pattern → HoldsOnly [] bytes old → HoldsOnce store
     → AddsOnly stored_squares (λ P. SomeByTable P table pattern.rule (content old pattern.root)) old store
     → IsShortageOf store fault ⊎ ((bytes : List ℕ) → IsRead MAX_LEVEL bytes old pattern → (u : Universe) × Reads MAX_LEVEL bytes u
@@ -186,7 +186,7 @@ next-by-fault table limit bytes old store pattern fault is read only once adds (
 next-by-fault table limit bytes old store pattern fault is read only once adds (inr step) lacks = inr (inr (step bytes read))
 
 -- why a file isn't read that is to be stepped by a table
-pub unread-by : (table : Table) (limit : ℕ) (bytes : List ℕ) (store : Nodes) (fault : Fault) → store.limit ≡ room_of limit
+pub unread-by : (table : Table) (limit : ℕ) (bytes : List ℕ) (store : Nodes) (fault : Fault) → store.limit ≡ squares_of_limit limit
     → RefusesIn MAX_LEVEL bytes store fault → (fault ≡ fault_of Full → length (stored_squares store) ≡ store.limit → IsTooLowFor bytes store.limit)
     → RefusesStepByWithin table limit bytes fault
 unread-by table limit bytes store fault is (inl refuses) low = inl refuses

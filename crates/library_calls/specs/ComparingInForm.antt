@@ -9,7 +9,7 @@ use Rattle.life_canon.specs.Files.{Accepted, Reads, Same}
 use Rattle.life_canon.specs.Universe.{Universe}
 use Rattle.life_forms.specs.Forms.{IsShift, IsTurnedShift}
 use Rattle.library_calls.specs.Comparing.{Compared, RefusesEither}
-use Rattle.library_calls.specs.InForm.{form_room, HasFormLargerThan}
+use Rattle.library_calls.specs.InForm.{squares_of_form, HasFormLargerThan}
 use Rattle.library_calls.specs.declared.pattern_form.PatternForm.{PatternForm}
 use Rattle.library_calls.specs.declared.pattern_form.PatternForm.TheVariants.{Placed, Moved, Turned}
 pub use Rattle.life_canon.specs.Universe.{AreOfOneGeneration}
@@ -22,7 +22,7 @@ pub record AreRelatedFiles (IsRelated : Universe → Universe → Type 0) (a b :
   pub reads_second : Reads MAX_LEVEL b second
   pub related : IsRelated first second
 
--- both are files of one pattern in this form: the same; a shift of each other; or a shift behind one of the eight turns and reflections
+-- both are files of one pattern in this form: the same; a shift of each other; or a shift after one of the eight turns and reflections
 abbrev pub AreOneInForm : PatternForm → List ℕ → List ℕ → Type 0
 AreOneInForm Placed = Same MAX_LEVEL
 AreOneInForm Moved = AreRelatedFiles IsShift
@@ -40,21 +40,21 @@ OneHasFormLargerThan Turned most first second =
 abbrev pub RefusesEitherInForm : PatternForm → ℕ → List ℕ → List ℕ → Fault → Type 0
 RefusesEitherInForm Placed limit first second fault = RefusesEither limit first second fault
 RefusesEitherInForm Moved limit first second fault =
-    RefusesEither limit first second fault ⊎ ((fault ≡ fault_of Full) × OneHasFormLargerThan Moved (form_room limit) first second)
+    RefusesEither limit first second fault ⊎ ((fault ≡ fault_of Full) × OneHasFormLargerThan Moved (squares_of_form limit) first second)
 RefusesEitherInForm Turned limit first second fault =
-    RefusesEither limit first second fault ⊎ ((fault ≡ fault_of Full) × OneHasFormLargerThan Turned (form_room limit) first second)
+    RefusesEither limit first second fault ⊎ ((fault ≡ fault_of Full) × OneHasFormLargerThan Turned (squares_of_form limit) first second)
 
--- both are files with forms that aren't too large, and the answer is told, 1 or 0; or the fault that keeps it from being found
-pub data ComparesInForm (form : PatternForm) (limit : ℕ) (first second : List ℕ) (told : Compared) : Type 0 where
-  by_answer : told.status ≡ 0 → told.line ≡ 0 → Accepted MAX_LEVEL first → Accepted MAX_LEVEL second
-      → ¬ OneHasFormLargerThan form (form_room limit) first second
-      → ((told.is_same ≡ 1) × AreOneInForm form first second) ⊎ ((told.is_same ≡ 0) × (¬ AreOneInForm form first second))
-      → ComparesInForm form limit first second told
-  by_fault : (fault : Fault) → told.status ≡ kind_number fault.kind → told.line ≡ fault.place.line → told.is_same ≡ 0
-      → RefusesEitherInForm form limit first second fault → ComparesInForm form limit first second told
+-- both are files with forms that aren't too large, and the answer is reported, 1 or 0; or the fault that keeps it from being found
+pub data ComparesInForm (form : PatternForm) (limit : ℕ) (first second : List ℕ) (reported : Compared) : Type 0 where
+  by_answer : reported.status ≡ 0 → reported.line ≡ 0 → Accepted MAX_LEVEL first → Accepted MAX_LEVEL second
+      → ¬ OneHasFormLargerThan form (squares_of_form limit) first second
+      → ((reported.is_same ≡ 1) × AreOneInForm form first second) ⊎ ((reported.is_same ≡ 0) × (¬ AreOneInForm form first second))
+      → ComparesInForm form limit first second reported
+  by_fault : (fault : Fault) → reported.status ≡ kind_number fault.kind → reported.line ≡ fault.place.line → reported.is_same ≡ 0
+      → RefusesEitherInForm form limit first second fault → ComparesInForm form limit first second reported
 
--- no form has the number, which is told
-pub record ComparesInNone (told : Compared) : Type 0 where
-  pub status : told.status ≡ 65
-  pub line : told.line ≡ 0
-  pub is_same : told.is_same ≡ 0
+-- no form has the number, which is reported
+pub record ComparesInNone (reported : Compared) : Type 0 where
+  pub status : reported.status ≡ 65
+  pub line : reported.line ≡ 0
+  pub is_same : reported.is_same ≡ 0

@@ -1,4 +1,4 @@
-pub mod Told
+pub mod Reported
 pub mod Texts
 pub mod Comparing
 pub mod Stepping

@@ -4,14 +4,14 @@ use Rattle.life_base.specs.Lines.{whole_lines}
 use Rattle.life_base.specs.Tree.{Tree}
 use Rattle.life_base.specs.declared.cell.TheConstants.{MAX_LEVEL}
 use Rattle.life_base.specs.declared.fault.Fault.{Fault}
-use Rattle.life_canon.specs.Feeding.{RefusesFront}
+use Rattle.life_canon.specs.Feeding.{RefusesPrefix}
 use Rattle.life_canon.specs.Needs.{SomeOfLines}
-use Rattle.life_canon.specs.Room.{HoldsOnly, room_for}
+use Rattle.life_canon.specs.Space.{HoldsOnly, sufficient_for}
 use Rattle.life_canon.specs.Store.{IsRead}
 use Rattle.life_canon.specs.Texts.{IsShownText}
 use Rattle.life_canon.specs.declared.pattern.Pattern.{Pattern}
 use Rattle.life_quad.specs.Store.{Nodes}
-use Rattle.library_calls.specs.Texts.{IsLeastCanonicalText, IsRleText, NeedsMore, room_of, RefusesWithin, RefusesRleWithin, IsLimitShortage}
+use Rattle.library_calls.specs.Texts.{IsLeastCanonicalText, IsRleText, NeedsMore, squares_of_limit, RefusesWithin, RefusesRleWithin, IsLimitShortage}
 use Rattle.life_step.specs.Stepped.{IsStepped}
 use Rattle.life_generations.specs.Later.{IsTextLater}
 use Rattle.library_calls.specs.Stepping.{RefusesLater, RefusesStepWithin}
@@ -44,12 +44,12 @@ RefusesTextOf Turned = RefusesFormWithin forms.Turned
 -- the text is this output of each file that was read as this pattern of the store, within its limit
 abbrev pub IsTextOfRead : Output → Nodes → Pattern → List ℕ → Type 0
 IsTextOfRead output store pattern text =
-    (limit : ℕ) (bytes : List ℕ) → store.limit ≡ room_of limit → IsRead MAX_LEVEL bytes store pattern → IsOutputText output limit bytes text
+    (limit : ℕ) (bytes : List ℕ) → store.limit ≡ squares_of_limit limit → IsRead MAX_LEVEL bytes store pattern → IsOutputText output limit bytes text
 
 -- why those files have none whose squares alone the store holds, within its limit
 abbrev pub RefusesTextOfRead : Output → Nodes → Pattern → Fault → Type 0
 RefusesTextOfRead output store pattern fault =
-    (limit : ℕ) (bytes : List ℕ) → store.limit ≡ room_of limit → IsRead MAX_LEVEL bytes store pattern → HoldsOnly [] bytes store
+    (limit : ℕ) (bytes : List ℕ) → store.limit ≡ squares_of_limit limit → IsRead MAX_LEVEL bytes store pattern → HoldsOnly [] bytes store
     → RefusesTextOf output limit bytes fault
 
 -- the output with the text of a pattern in this form
@@ -59,19 +59,19 @@ text_in forms.Moved = Moved
 text_in forms.Turned = Turned
 
 -- a square that the lines of these bytes need which have ended has a property
-abbrev pub SomeOfFront : List ℕ → (Tree → Type 0) → Type 0
-SomeOfFront bytes P = SomeOfLines MAX_LEVEL P (whole_lines bytes)
+abbrev pub SomeOfPrefix : List ℕ → (Tree → Type 0) → Type 0
+SomeOfPrefix bytes P = SomeOfLines MAX_LEVEL P (whole_lines bytes)
 
--- the limit is too low for these lines, and below the room for the bytes
-abbrev pub IsTooLowForFront : List ℕ → ℕ → Type 0
-IsTooLowForFront bytes most = NeedsMore (SomeOfFront bytes) most × (most < room_for (length bytes))
+-- the limit is too low for these lines, and below the squares for the bytes
+abbrev pub IsTooLowForPrefix : List ℕ → ℕ → Type 0
+IsTooLowForPrefix bytes most = NeedsMore (SomeOfPrefix bytes) most × (most < sufficient_for (length bytes))
 
--- no file goes on from these bytes, or room or memory is wanted for their lines that have ended
+-- no file goes on from these bytes, or the store is full or memory is refused for their lines that have ended
 abbrev pub RefusesPiece : ℕ → List ℕ → Fault → Type 0
-RefusesPiece limit bytes fault = RefusesFront MAX_LEVEL bytes fault ⊎ IsLimitShortage (IsTooLowForFront bytes) limit fault
+RefusesPiece limit bytes fault = RefusesPrefix MAX_LEVEL bytes fault ⊎ IsLimitShortage (IsTooLowForPrefix bytes) limit fault
 
 -- What contracts see of a file that comes in pieces: which text its end gives, how many squares its store may hold, and the bytes that came.
 pub record Piecewise : Type 0 where
   pub output : Output
-  pub room : ℕ
+  pub space : ℕ
   pub bytes : List ℕ

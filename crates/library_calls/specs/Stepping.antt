@@ -13,10 +13,11 @@ use Rattle.life_table.specs.declared.table.Table.{Table}
 use Rattle.life_step.specs.Refusals.{LifeRefusal, SomeOfStep, SomeOfStepBy, TableRefusal}
 use Rattle.life_step.specs.Stepped.{IsSteppedBy}
 use Rattle.life_generations.specs.Later.{LaterRefusal}
-use Rattle.library_calls.specs.Told.{Told, ReturnsFault, Returns}
+use Rattle.library_calls.specs.Reported.{Reported, ReturnsFault, Returns}
 use Rattle.library_calls.specs.Texts.{NeedsMore, IsLimitShortage}
 
--- Why bytes aren't stepped under their own rule: they are no file, or room or memory is wanted, or their pattern has no next generation. The squares
+-- Why bytes aren't stepped under their own rule: they are no file, or the store is full or memory is refused, or their pattern has no next generation. The
+-- squares
 -- of that generation are bounded by no length of a file, and so the limit isn't either.
 abbrev pub RefusesStepWithin : ℕ → List ℕ → Fault → Type 0
 RefusesStepWithin limit bytes fault =
@@ -30,15 +31,16 @@ RefusesStepByWithin table limit bytes fault =
     ⊎ (IsLimitShortage (NeedsMore (λ P. SomeOfStepBy P table bytes)) limit fault ⊎
     ((u : Universe) × Reads MAX_LEVEL bytes u × TableRefusal MAX_LEVEL table u (Some fault)))
 
--- Why bytes aren't taken n generations further under their own rule: they are no file, or room or memory is wanted, or their pattern has no such generation.
--- (No length of a file bounds how many squares are stored on the way, and so room may be wanted with any limit.)
+-- Why bytes aren't advanced by n generations under their own rule: they are no file, or the store is full or memory is refused, or their pattern has no such
+-- generation.
+-- (No length of a file bounds how many squares are stored on the way, and so the store may be full with any limit.)
 abbrev pub RefusesLater : ℕ → List ℕ → Fault → Type 0
 RefusesLater n bytes fault =
     Refuses MAX_LEVEL bytes fault
     ⊎ (((fault ≡ fault_of Full) ⊎ (fault ≡ fault_of Memory)) ⊎ ((u : Universe) × Reads MAX_LEVEL bytes u × LaterRefusal n u (Some fault)))
 
--- The file of the table is one, and the step by it is told; or the fault of the table's file is told.
-pub data StepsByTable (limit : ℕ) (bytes table_bytes : List ℕ) (in_table : ℕ) (before after : List ℕ) (it : Told) : Type 0 where
+-- The file of the table is one, and the step by it is reported; or the fault of the table's file is reported.
+pub data StepsByTable (limit : ℕ) (bytes table_bytes : List ℕ) (in_table : ℕ) (before after : List ℕ) (it : Reported) : Type 0 where
   by_table : (table : Table) → IsPlainTable (lines_of table_bytes) table → in_table ≡ 0
       → Returns (IsSteppedBy table bytes) (RefusesStepByWithin table limit bytes) before after it
       → StepsByTable limit bytes table_bytes in_table before after it

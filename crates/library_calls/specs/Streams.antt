@@ -6,12 +6,12 @@ use Rattle.life_base.specs.Kinds.{kind_number}
 use Rattle.life_base.specs.declared.cell.TheConstants.{MAX_LEVEL}
 use Rattle.life_base.specs.declared.fault.Fault.{Fault}
 use Rattle.life_base.specs.declared.kind.Kind.TheVariants.{Memory, Spent}
-use Rattle.life_canon.specs.Feeding.{RefusesFront}
+use Rattle.life_canon.specs.Feeding.{RefusesPrefix}
 use Rattle.file_hints.specs.Damage.{warning_of}
 use Rattle.file_hints.specs.Warnings.{warning_sentence}
 use Rattle.file_hints.specs.declared.warnings.Warning.{Warning}
-use Rattle.library_calls.specs.Told.{Told, ReturnsText, ReturnsFault}
-use Rattle.library_calls.specs.Texts.{Fits, room_of, SomeToRead}
+use Rattle.library_calls.specs.Reported.{Reported, ReturnsText, ReturnsFault}
+use Rattle.library_calls.specs.Texts.{Fits, squares_of_limit, SomeToRead}
 use Rattle.library_calls.specs.Outputs.{IsOutputText, RefusesTextOf, RefusesPiece}
 use Rattle.library_calls.specs.declared.texts.Output.{Output}
 use Rattle.library_calls.specs.declared.session.Session.{Session}
@@ -27,9 +27,9 @@ abbrev pub IsOpenStream : (Session → Type 0) → Option Session → Type 0
 IsOpenStream Holds None = ⊥
 IsOpenStream Holds (Some session) = Holds session
 
--- the bytes were fed to the session, whose end gives this output, and whose store has the room of this limit
+-- the bytes were fed to the session, whose end gives this output, and whose store has this limit
 abbrev pub IsFed : Output → ℕ → List ℕ → Session → Type 0
-IsFed output limit bytes (Reading feeding) = (feeding.output ≡ output) × (feeding.room ≡ room_of limit) × (feeding.bytes ≡ bytes)
+IsFed output limit bytes (Reading feeding) = (feeding.output ≡ output) × (feeding.space ≡ squares_of_limit limit) × (feeding.bytes ≡ bytes)
 IsFed output limit bytes (Written finished) = ⊥
 IsFed output limit bytes (Refused fault) = ⊥
 
@@ -55,9 +55,9 @@ HasFault fault (Refused refused) = refused ≡ fault
 abbrev pub OpensStream : Output → ℕ → ℕ → Option Session → Type 0
 OpensStream output limit status session = ((status ≡ 0) × IsOpenStream (IsFed output limit []) session) ⊎ ((status ≡ kind_number Memory) × (session ≡ None))
 
--- What a piece makes of a session, with which the bytes are these: they were fed, and have no fault that can be told; or their fault.
+-- What a piece makes of a session, with which the bytes are these: they were fed, and have no fault that can be reported; or their fault.
 pub data TakesPiece (output : Output) (limit : ℕ) (bytes : List ℕ) (session : Session) : Type 0 where
-  by_piece : IsFed output limit bytes session → ((fault : Fault) → ¬ RefusesFront MAX_LEVEL bytes fault) → TakesPiece output limit bytes session
+  by_piece : IsFed output limit bytes session → ((fault : Fault) → ¬ RefusesPrefix MAX_LEVEL bytes fault) → TakesPiece output limit bytes session
   by_fault : (fault : Fault) → HasFault fault session → RefusesPiece limit bytes fault → TakesPiece output limit bytes session
 
 -- what the end makes of it: the text of the bytes, which need no more squares than the limit; or their fault
@@ -101,11 +101,11 @@ TellsPiece status line (Written finished) = IsSpent status line
 TellsPiece status line (Refused fault) = (status ≡ kind_number fault.kind) × (line ≡ fault.place.line)
 
 -- no text is given, as the call doesn't fit the stream
-abbrev pub TellsNothing : (before after : List ℕ) → Told → Type 0
+abbrev pub TellsNothing : (before after : List ℕ) → Reported → Type 0
 TellsNothing before after it = IsSpent it.status it.line × (it.needed ≡ 0) × (after ≡ before)
 
 -- what `finish` tells of the session: its text or its fault
-abbrev pub TellsEnd : (before after : List ℕ) → Told → Session → Type 0
+abbrev pub TellsEnd : (before after : List ℕ) → Reported → Session → Type 0
 TellsEnd before after it (Reading feeding) = TellsNothing before after it
 TellsEnd before after it (Written finished) = ReturnsText finished.text.items before after it × (it.line ≡ 0)
 TellsEnd before after it (Refused fault) = ReturnsFault fault before after it
@@ -115,7 +115,7 @@ abbrev pub key_digits : List ℕ → List ℕ
 key_digits text = encode_lower (sha256 text)
 
 -- what `finish_key` reports of the session: the key of the text that `finish` gives, or its fault
-abbrev pub TellsKey : (before after : List ℕ) → Told → Session → Type 0
+abbrev pub TellsKey : (before after : List ℕ) → Reported → Session → Type 0
 TellsKey before after it (Reading feeding) = TellsNothing before after it
 TellsKey before after it (Written finished) = ReturnsText (key_digits finished.text.items) before after it × (it.line ≡ 0)
 TellsKey before after it (Refused fault) = ReturnsFault fault before after it

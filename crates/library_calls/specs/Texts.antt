@@ -10,38 +10,38 @@ use Rattle.life_quad.specs.Store.{Nodes, stored_squares}
 use Rattle.life_canon.specs.Files.{Same, Refuses}
 use Rattle.life_canon.specs.Least.{IsLeastText}
 use Rattle.life_canon.specs.Needs.{SomeOfFile}
-use Rattle.life_canon.specs.Room.{room_for}
+use Rattle.life_canon.specs.Space.{sufficient_for}
 use Rattle.life_canon.specs.Texts.{IsCanonical, IsRleOf, FileHasMoreCells}
 pub use Rattle.life_forms.specs.Needed.{NeedsMore}
-use Rattle.library_calls.specs.Told.{Told}
+use Rattle.library_calls.specs.Reported.{Reported}
 
 -- how many squares the store of a call holds at most, by the limit that is asked for
-abbrev pub room_of : ℕ → ℕ
-room_of limit = min limit (2 ^ 62)
+abbrev pub squares_of_limit : ℕ → ℕ
+squares_of_limit limit = min limit (2 ^ 62)
 
--- the store of a call when it begins: it holds no square, and has the room of this limit
+-- the store of a call when it begins: it holds no square, and has this limit
 pub record IsFreshStore (limit : ℕ) (store : Nodes) : Type 0 where
   pub empty : stored_squares store ≡ []
-  pub most : store.limit ≡ room_of limit
+  pub most : store.limit ≡ squares_of_limit limit
 
 -- no more are needed than the limit
 abbrev pub Fits : ((Tree → Type 0) → Type 0) → ℕ → Type 0
-Fits Needs limit = ¬ NeedsMore Needs (room_of limit)
+Fits Needs limit = ¬ NeedsMore Needs (squares_of_limit limit)
 
 -- memory was refused; or the store was full, and its limit is too low
 abbrev pub IsLimitShortage : (ℕ → Type 0) → ℕ → Fault → Type 0
-IsLimitShortage IsTooLow limit fault = OrMemory fault ((fault ≡ fault_of Full) × IsTooLow (room_of limit))
+IsLimitShortage IsTooLow limit fault = OrMemory fault ((fault ≡ fault_of Full) × IsTooLow (squares_of_limit limit))
 
 -- a square that is needed to read the file has a property
 abbrev pub SomeToRead : List ℕ → (Tree → Type 0) → Type 0
 SomeToRead bytes P = SomeOfFile MAX_LEVEL P (lines_of bytes)
 
--- the limit is too low to read the file, and below the room for a file of these bytes
+-- the limit is too low to read the file, and below the squares for a file of these bytes
 abbrev pub IsTooLowFor : List ℕ → ℕ → Type 0
-IsTooLowFor bytes most = NeedsMore (SomeToRead bytes) most × (most < room_for (length bytes))
+IsTooLowFor bytes most = NeedsMore (SomeToRead bytes) most × (most < sufficient_for (length bytes))
 
--- a text is told: it is copied, or longer than the memory
-abbrev pub TellsText : Told → Type 0
+-- a text is reported: it is copied, or longer than the memory
+abbrev pub TellsText : Reported → Type 0
 TellsText it = (it.status ≡ 0) ⊎ (it.status ≡ 64)
 
 -- why a call on these bytes is refused

@@ -1,7 +1,7 @@
 //! The call that compares two files in a form.
 
 ghost use Rattle.std.specs.Prelude.{◌≡◌, ◌↔◌, ◌⊎◌, ℕ, [], Err, IfOk, IfErr, OnOk, IsTrue, MatchOption};
-ghost use Rattle.library_calls.specs.Words.{fault_of, MAX_LEVEL, Full, stored_squares, Accepted, Refuses, IsRead, IsShortageOf, IsFreshStore, AddsOnly, Fits, IsTooLowForBoth, NeedsMore, SomeToReadBoth, form_numbered, form_room, AreOneInForm, OneHasFormLargerThan, RefusesEitherInForm, ComparesInForm, ComparesInNone};
+ghost use Rattle.library_calls.specs.Words.{fault_of, MAX_LEVEL, Full, stored_squares, Accepted, Refuses, IsRead, IsShortageOf, IsFreshStore, AddsOnly, Fits, IsTooLowForBoth, NeedsMore, SomeToReadBoth, form_numbered, squares_of_form, AreOneInForm, OneHasFormLargerThan, RefusesEitherInForm, ComparesInForm, ComparesInNone};
 
 use crate::compared::Compared;
 use crate::in_form::{NO_FORM, form_of};
@@ -9,8 +9,8 @@ use crate::options::Options;
 use crate::pattern_form::PatternForm;
 use life_base::Fault;
 use life_canon::laws::{
-    few_squares, files_are_on_plane, files_are_unique, patterns_fit, patterns_stay,
-    patterns_tell_files, refusals_have_kinds, room_suffices,
+    few_squares, files_are_on_plane, files_are_unique, limit_suffices, patterns_fit, patterns_stay,
+    patterns_tell_files, refusals_have_kinds,
 };
 use life_canon::{Pattern, are_same, read};
 use life_forms::{are_shifts, are_turns};
@@ -40,7 +40,7 @@ fn read_both(
     patterns_stay();
     refusals_have_kinds();
     few_squares();
-    room_suffices();
+    limit_suffices();
     let found = read(alloc, store, first);
     // Its contract says that a store holds each square once, and none that is blank. The proof counts them.
     let _ = store.len();
@@ -64,7 +64,7 @@ fn are_one(
     ensures answer { IfOk result
         (λ answer. IsTrue answer ↔ AreOneInForm form first.now second.now) }
     ensures small { OnOk result ((limit : ℕ) → IsFreshStore limit store.old
-        → ¬ OneHasFormLargerThan form (form_room limit) first.now second.now) }
+        → ¬ OneHasFormLargerThan form (squares_of_form limit) first.now second.now) }
     ensures fits { OnOk result ((limit : ℕ) → IsFreshStore limit store.old
         → Fits (SomeToReadBoth first.now second.now) limit) }
     ensures fault { IfErr result (λ fault. (limit : ℕ) → IsFreshStore limit store.old

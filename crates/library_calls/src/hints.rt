@@ -3,7 +3,7 @@
 ghost use Rattle.std.specs.Prelude.{◌≡◌};
 ghost use Rattle.library_calls.specs.Words.{ReturnsText, sentence_of_warning, warning_of};
 
-use crate::told::{Told, give};
+use crate::reported::{Reported, give};
 use file_hints::Warning;
 
 /// The sentence of a warning, and no byte for none.
@@ -17,7 +17,7 @@ pub(crate) fn sentence_of_warning(warning: Option<Warning>) -> &'static [u8]
 }
 
 /// The sentence of the warning of a file with these bytes, if it is accepted, and no byte for a file without a warning.
-pub fn warning(bytes: &[u8], out: &mut [u8]) -> Told
+pub fn warning(bytes: &[u8], out: &mut [u8]) -> Reported
     ensures text { ReturnsText (sentence_of_warning (warning_of bytes.now)) out.old out.new
         result }
     ensures line { result.line ≡ 0 }

@@ -5,8 +5,8 @@ ghost use Rattle.library_calls.specs.Words.{AnswersInForm, Fits, SomeToRead, Tel
 
 use crate::options::Options;
 use crate::pattern_form::PatternForm;
+use crate::reported::{Reported, give, refuse};
 use crate::texts::{Output, answer, text_of_file};
-use crate::told::{Told, give, refuse};
 use sha2::{Digest, Sha256};
 use std::alloc::Global;
 
@@ -37,10 +37,10 @@ pub(crate) fn text_in(form: PatternForm) -> Output
 }
 
 /// The result if no form has the number.
-fn no_form() -> Told
+fn no_form() -> Reported
     ensures { result ≡ reply 65 0 0 }
 {
-    Told {
+    Reported {
         status: NO_FORM,
         needed: 0,
         line: 0,
@@ -48,7 +48,13 @@ fn no_form() -> Told
 }
 
 /// The canonical text of the pattern of a file of either format, in the form with this number.
-pub fn canon_form(alloc: Global, bytes: &[u8], form: u32, options: Options, out: &mut [u8]) -> Told
+pub fn canon_form(
+    alloc: Global,
+    bytes: &[u8],
+    form: u32,
+    options: Options,
+    out: &mut [u8],
+) -> Reported
     ensures answers { AnswersInForm IsTextInForm form options.limit bytes.now out.old out.new
         result }
     ensures fits { TellsText result → Fits (SomeToRead bytes.now) options.limit }
@@ -60,7 +66,7 @@ pub fn canon_form(alloc: Global, bytes: &[u8], form: u32, options: Options, out:
 }
 
 /// The key of the pattern of a file of either format, in the form with this number: the SHA-256 of the text that `canon_form` gives, 32 bytes.
-pub fn key(alloc: Global, bytes: &[u8], form: u32, options: Options, out: &mut [u8]) -> Told
+pub fn key(alloc: Global, bytes: &[u8], form: u32, options: Options, out: &mut [u8]) -> Reported
     ensures answers { AnswersInForm IsKeyInForm form options.limit bytes.now out.old out.new
         result }
     ensures fits { TellsText result → Fits (SomeToRead bytes.now) options.limit }

@@ -4,9 +4,9 @@ ghost use Rattle.std.specs.Prelude.{IfOk, IfErr, OnOk};
 ghost use Rattle.library_calls.specs.Words.{Returns, Fits, SomeToRead, TellsText, IsStepped, IsSteppedBy, IsTextLater, RefusesLater, RefusesStepByWithin, RefusesStepWithin, StepsByTable};
 
 use crate::options::Options;
+use crate::reported::{Reported, refuse, tell};
 use crate::seeds::seed_of_names;
 use crate::texts::{Output, answer};
-use crate::told::{Told, refuse, tell};
 use life_base::Fault;
 use life_canon::read;
 use life_step::next_by_table;
@@ -14,7 +14,7 @@ use life_table::{Table, read_table_seeded};
 use std::alloc::Global;
 
 /// The canonical text of the next generation of the pattern of a file, under its B/S rule.
-pub fn step(alloc: Global, bytes: &[u8], options: Options, out: &mut [u8]) -> Told
+pub fn step(alloc: Global, bytes: &[u8], options: Options, out: &mut [u8]) -> Reported
     ensures answers { Returns (IsStepped bytes.now) (RefusesStepWithin options.limit bytes.now)
         out.old out.new result }
     ensures fits { TellsText result → Fits (SomeToRead bytes.now) options.limit }
@@ -30,7 +30,7 @@ pub fn step_generations(
     generations: u64,
     options: Options,
     out: &mut [u8],
-) -> Told
+) -> Reported
     ensures answers { Returns (IsTextLater generations bytes.now)
         (RefusesLater generations bytes.now) out.old out.new result }
     ensures fits { TellsText result → Fits (SomeToRead bytes.now) options.limit }
@@ -61,7 +61,7 @@ fn next_of_file(
 }
 
 /// `step` by a table that is read.
-fn step_by(alloc: Global, bytes: &[u8], table: &Table, options: Options, out: &mut [u8]) -> Told
+fn step_by(alloc: Global, bytes: &[u8], table: &Table, options: Options, out: &mut [u8]) -> Reported
     ensures answers { Returns (IsSteppedBy table.now bytes.now)
         (RefusesStepByWithin table.now options.limit bytes.now) out.old out.new result }
     ensures fits { TellsText result → Fits (SomeToRead bytes.now) options.limit }
@@ -77,7 +77,7 @@ pub fn step_by_table(
     table: &[u8],
     options: Options,
     out: &mut [u8],
-) -> (Told, u32)
+) -> (Reported, u32)
     ensures steps { StepsByTable options.limit bytes.now table.now result.1 out.old out.new
         result.0 }
     ensures fits { TellsText result.0 → Fits (SomeToRead bytes.now) options.limit }

@@ -39,7 +39,7 @@ impl Stream {
 
 /// Takes the session out of a stream, if it is open, which leaves it closed.
 pub(crate) fn take(alloc: Global, stream: &mut Stream) -> Option<Box<Session>>
-    ensures taken { MatchOption result (stream.old.held.session ≡ None)
+    ensures consumed { MatchOption result (stream.old.held.session ≡ None)
         (λ session. stream.old.held.session ≡ Some session.value) }
     ensures closed { stream.new.held.session ≡ None }
 {

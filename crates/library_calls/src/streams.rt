@@ -7,10 +7,10 @@ use crate::feeding::Feeding;
 use crate::hints::sentence_of_warning;
 use crate::in_form::{NO_FORM, form_of, text_in};
 use crate::options::Options;
+use crate::reported::{Reported, give, refuse};
 use crate::session::{Session, after_end, after_piece};
 use crate::stream::{Stream, put, take};
 use crate::texts::Output;
-use crate::told::{Told, give, refuse};
 use life_base::{Fault, Kind};
 use sha2::{Digest, Sha256};
 use std::alloc::Global;
@@ -45,7 +45,7 @@ pub fn open_canon_form(alloc: Global, stream: &mut Stream, form: u32, options: O
 }
 
 /// Reports that the call doesn't fit its stream.
-fn spent() -> Told
+fn spent() -> Reported
     ensures spent { IsSpent result.status result.line }
     ensures needed { result.needed ≡ 0 }
 {
@@ -53,12 +53,12 @@ fn spent() -> Told
 }
 
 /// Reports what a piece made of the session.
-fn tell_piece(session: &Session) -> Told
+fn tell_piece(session: &Session) -> Reported
     ensures tells { TellsPiece result.status result.line session.now }
     ensures needed { result.needed ≡ 0 }
 {
     match session {
-        Session::Reading(_) => Told {
+        Session::Reading(_) => Reported {
             status: 0,
             needed: 0,
             line: 0,
@@ -69,7 +69,7 @@ fn tell_piece(session: &Session) -> Told
 }
 
 /// Reports what the end made of the session.
-fn tell_end(session: &Session, out: &mut [u8]) -> Told
+fn tell_end(session: &Session, out: &mut [u8]) -> Reported
     ensures { TellsEnd out.old out.new result session.now }
 {
     match session {
@@ -80,7 +80,7 @@ fn tell_end(session: &Session, out: &mut [u8]) -> Told
 }
 
 /// Gives the key of a text.
-fn give_key(text: &[u8], out: &mut [u8]) -> Told
+fn give_key(text: &[u8], out: &mut [u8]) -> Reported
     ensures gives { ReturnsText (key_digits text.now) out.old out.new result }
     ensures line { result.line ≡ 0 }
     ensures digits { result.needed ≡ 64 }
@@ -91,7 +91,7 @@ fn give_key(text: &[u8], out: &mut [u8]) -> Told
 }
 
 /// Reports the key of the text that the end made of the session, or its fault.
-fn tell_key(session: &Session, out: &mut [u8]) -> Told
+fn tell_key(session: &Session, out: &mut [u8]) -> Reported
     ensures tells { TellsKey out.old out.new result session.now }
     ensures digits { TellsText result → result.needed ≡ 64 }
 {
@@ -104,7 +104,7 @@ fn tell_key(session: &Session, out: &mut [u8]) -> Told
 
 /// Takes the next piece of the file. The fault of a line that it reports is that of the whole file, whatever bytes follow (`faults_stay` of
 /// `life_canon`).
-pub fn feed(alloc: Global, stream: &mut Stream, piece: &[u8]) -> Told
+pub fn feed(alloc: Global, stream: &mut Stream, piece: &[u8]) -> Reported
     ensures closed { session_of stream.old ≡ None
         → (session_of stream.new ≡ None) × IsSpent result.status result.line }
     ensures feeds { Feeds piece.now (session_of stream.old) (session_of stream.new) }
@@ -116,9 +116,9 @@ pub fn feed(alloc: Global, stream: &mut Stream, piece: &[u8]) -> Told
     };
     let before = mem::replace(&mut *session, Session::Refused(Fault::of(Kind::Spent)));
     *session = after_piece(before, piece);
-    let told = tell_piece(&session);
+    let reported = tell_piece(&session);
     put(stream, session);
-    told
+    reported
 }
 
 /// Ends the file of a session.
@@ -130,7 +130,7 @@ fn end(alloc: Global, session: &mut Session)
 }
 
 /// Ends the file, and gives its text or its fault, as often as it is called.
-pub fn finish(alloc: Global, stream: &mut Stream, out: &mut [u8]) -> Told
+pub fn finish(alloc: Global, stream: &mut Stream, out: &mut [u8]) -> Reported
     ensures closed { session_of stream.old ≡ None
         → (session_of stream.new ≡ None) × TellsNothing out.old out.new result }
     ensures finishes { Finishes (session_of stream.old) (session_of stream.new) }
@@ -140,14 +140,14 @@ pub fn finish(alloc: Global, stream: &mut Stream, out: &mut [u8]) -> Told
         return spent();
     };
     end(alloc, &mut session);
-    let told = tell_end(&session, out);
+    let reported = tell_end(&session, out);
     put(stream, session);
-    told
+    reported
 }
 
 /// Ends the file, and gives the key of the text that `finish` gives, or its fault, as often as it is called: the SHA-256 of the text, in 64 hex
 /// digits. Whichever of the two ended the file, both can be called after it, and `feed` is refused.
-pub fn finish_key(alloc: Global, stream: &mut Stream, out: &mut [u8]) -> Told
+pub fn finish_key(alloc: Global, stream: &mut Stream, out: &mut [u8]) -> Reported
     ensures closed { session_of stream.old ≡ None
         → (session_of stream.new ≡ None) × TellsNothing out.old out.new result }
     ensures finishes { Finishes (session_of stream.old) (session_of stream.new) }
@@ -158,9 +158,9 @@ pub fn finish_key(alloc: Global, stream: &mut Stream, out: &mut [u8]) -> Told
         return spent();
     };
     end(alloc, &mut session);
-    let told = tell_key(&session, out);
+    let reported = tell_key(&session, out);
     put(stream, session);
-    told
+    reported
 }
 
 /// The sentence of the warning of a file that was read to its end, and no byte for one without a warning, or that was refused, or has not ended.
@@ -175,7 +175,7 @@ fn sentence_of_session(session: &Session) -> &'static [u8]
 
 /// The sentence of the warning of the file that a stream has read to its end, and no byte for a file without a warning, and for a stream that has not
 /// ended, or has refused its file, or is closed.
-pub fn stream_warning(alloc: Global, stream: &mut Stream, out: &mut [u8]) -> Told
+pub fn stream_warning(alloc: Global, stream: &mut Stream, out: &mut [u8]) -> Reported
     ensures stream { session_of stream.new ≡ session_of stream.old }
     ensures text { ReturnsText (sentence_of_stream (session_of stream.old)) out.old out.new
         result }
@@ -184,9 +184,9 @@ pub fn stream_warning(alloc: Global, stream: &mut Stream, out: &mut [u8]) -> Tol
     let Some(session) = take(alloc, stream) else {
         return give(b"", out);
     };
-    let told = give(sentence_of_session(&session), out);
+    let reported = give(sentence_of_session(&session), out);
     put(stream, session);
-    told
+    reported
 }
 
 /// Closes a stream.

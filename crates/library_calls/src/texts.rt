@@ -4,7 +4,7 @@ ghost use Rattle.std.specs.Prelude.{IfOk, IfErr, OnOk};
 ghost use Rattle.library_calls.specs.Words.{Returns, Fits, SomeToRead, TellsText, IsLeastCanonicalText, IsRleText, RefusesWithin, RefusesRleWithin, IsOutputText, IsTextOfRead, RefusesTextOf, RefusesTextOfRead, IsOfFile, IsShownText};
 
 use crate::options::Options;
-use crate::told::{Told, tell};
+use crate::reported::{Reported, tell};
 use life_base::{Fault, MAX_LEVEL};
 use life_canon::laws::{
     canonical_is_least, files_are_on_plane, patterns_fit, texts_are_files, texts_tell_universes,
@@ -97,7 +97,7 @@ pub(crate) fn answer(
     output: Output,
     options: Options,
     out: &mut [u8],
-) -> Told
+) -> Reported
     ensures answers { Returns (IsOutputText output options.limit bytes.now)
         (RefusesTextOf output options.limit bytes.now) out.old out.new result }
     ensures fits { TellsText result → Fits (SomeToRead bytes.now) options.limit }
@@ -106,7 +106,7 @@ pub(crate) fn answer(
 }
 
 /// The canonical text of the pattern of a file of either format.
-pub fn canon(alloc: Global, bytes: &[u8], options: Options, out: &mut [u8]) -> Told
+pub fn canon(alloc: Global, bytes: &[u8], options: Options, out: &mut [u8]) -> Reported
     ensures answers { Returns (IsLeastCanonicalText bytes.now)
         (RefusesWithin options.limit bytes.now) out.old out.new result }
     ensures fits { TellsText result → Fits (SomeToRead bytes.now) options.limit }
@@ -115,7 +115,7 @@ pub fn canon(alloc: Global, bytes: &[u8], options: Options, out: &mut [u8]) -> T
 }
 
 /// The text in extended RLE of the pattern of a file of either format.
-pub fn to_rle(alloc: Global, bytes: &[u8], options: Options, out: &mut [u8]) -> Told
+pub fn to_rle(alloc: Global, bytes: &[u8], options: Options, out: &mut [u8]) -> Reported
     ensures answers { Returns (IsRleText bytes.now) (RefusesRleWithin options.limit bytes.now)
         out.old out.new result }
     ensures fits { TellsText result → Fits (SomeToRead bytes.now) options.limit }
@@ -124,7 +124,7 @@ pub fn to_rle(alloc: Global, bytes: &[u8], options: Options, out: &mut [u8]) -> 
 }
 
 /// Five lines on the pattern of a file of either format.
-pub fn show(alloc: Global, bytes: &[u8], options: Options, out: &mut [u8]) -> Told
+pub fn show(alloc: Global, bytes: &[u8], options: Options, out: &mut [u8]) -> Reported
     ensures answers { Returns (IsShownText MAX_LEVEL bytes.now)
         (RefusesWithin options.limit bytes.now) out.old out.new result }
     ensures fits { TellsText result → Fits (SomeToRead bytes.now) options.limit }

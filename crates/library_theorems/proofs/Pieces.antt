@@ -8,11 +8,11 @@ use Rattle.life_canon.specs.Laws.{FaultsStay}
 use Rattle.theorems.specs.Joined.{all_bytes}
 use Rattle.theorems.proofs.PieceLaw.{joined_all, joined_split}
 use Rattle.theorems.proofs.RefusalLaw.{refuses_agree}
-use Rattle.library_calls.specs.Outputs.{IsOutputText, IsTooLowForFront, RefusesTextOf, RefusesPiece}
+use Rattle.library_calls.specs.Outputs.{IsOutputText, IsTooLowForPrefix, RefusesTextOf, RefusesPiece}
 use Rattle.library_calls.specs.Streams.{IsOpenStream, IsFed, HasFault, OpensStream, TakesPiece, by_piece, Ends, TellsEnd}
 use Rattle.library_calls.specs.Streams as streams
-use Rattle.library_calls.specs.declared.told.Told.{Told}
-use Rattle.library_calls.specs.Told.{Returns, by_text, by_fault}
+use Rattle.library_calls.specs.declared.reported.Reported.{Reported}
+use Rattle.library_calls.specs.Reported.{Returns, by_text, by_fault}
 use Rattle.library_calls.specs.declared.texts.Output.{Output}
 use Rattle.library_calls.specs.declared.session.Session.{Session}
 use Rattle.library_calls.specs.declared.session.Session.TheVariants.{Reading, Written, Refused}
@@ -36,7 +36,7 @@ took_more output limit pieces n piece old new more takes stays (fed whole) = by 
   where
     by : (it : Option Session) → IsOpenStream (TakesPiece output limit (all_bytes (take n pieces) ++ piece)) it → Took output limit pieces (n + 1) it
     by None h = absurd h
-    by (Some session) (by_piece is front) = fed (subst (λ (bytes : List ℕ). IsFed output limit bytes session) more is)
+    by (Some session) (by_piece is prefix) = fed (subst (λ (bytes : List ℕ). IsFed output limit bytes session) more is)
     by (Some session) (streams.by_fault fault has why) =
         refused (n + 1) fault has (subst (λ (bytes : List ℕ). RefusesPiece limit bytes fault) more why)
 took_more output limit pieces n piece old new more takes stays (refused k fault has why) = refused k fault (stays fault has) why
@@ -44,11 +44,11 @@ took_more output limit pieces n piece old new more takes stays (refused k fault 
 -- the fault of the pieces so far is that of all
 of_all : FaultsStay 62 → (limit : ℕ) (pieces : List (Vec ℕ)) (k : ℕ) (fault : Fault) → RefusesPiece limit (all_bytes (take k pieces)) fault
     → IsUnreadWithin limit (all_bytes pieces) fault
-of_all stay limit pieces k fault (inl front) =
+of_all stay limit pieces k fault (inl prefix) =
     let whole = refuses_agree (all_bytes (take k pieces) ++ all_bytes (drop k pieces)) fault
-    (stay (all_bytes (take k pieces)) (all_bytes (drop k pieces)) fault front).refuses in
+    (stay (all_bytes (take k pieces)) (all_bytes (drop k pieces)) fault prefix).refuses in
     subst (λ (bytes : List ℕ). IsUnreadWithin limit bytes fault) (sym (joined_split pieces k)) (inl whole)
-of_all stay limit pieces k fault (inr w) = inr (want_below (IsTooLowForFront (all_bytes (take k pieces))) (squares_for (all_bytes pieces)) limit fault
+of_all stay limit pieces k fault (inr w) = inr (want_below (IsTooLowForPrefix (all_bytes (take k pieces))) (squares_for (all_bytes pieces)) limit fault
     (λ most low. below most low.1) w)
   where
     below : (most : ℕ) → most < squares_for (all_bytes (take k pieces)) → most < squares_for (all_bytes pieces)
@@ -57,43 +57,44 @@ of_all stay limit pieces k fault (inr w) = inr (want_below (IsTooLowForFront (al
         let all = ap (λ (bytes : List ℕ). length bytes) (joined_split pieces k) in
         omega (arith, low, both, all)
 
-module _ (output : Output) (limit : ℕ) (bytes : List ℕ) (before after : List ℕ) (told : Told) where
-  end_told : (session : Session) → Ends output limit bytes session → TellsEnd before after told session
-      → Returns (IsOutputText output limit bytes) (IsEndFault output limit bytes) before after told
-  end_told (Reading feeding) (streams.by_text text has good fits) tells = absurd has
-  end_told (Reading feeding) (streams.by_fault fault has why) tells = absurd has
-  end_told (Written written) (streams.by_text text has good fits) tells =
+module _ (output : Output) (limit : ℕ) (bytes : List ℕ) (before after : List ℕ) (reported : Reported) where
+  end_reported : (session : Session) → Ends output limit bytes session → TellsEnd before after reported session
+      → Returns (IsOutputText output limit bytes) (IsEndFault output limit bytes) before after reported
+  end_reported (Reading feeding) (streams.by_text text has good fits) tells = absurd has
+  end_reported (Reading feeding) (streams.by_fault fault has why) tells = absurd has
+  end_reported (Written written) (streams.by_text text has good fits) tells =
       by_text written.text.items (subst (IsOutputText output limit bytes) (sym has) good) tells.0 tells.1
-  end_told (Written written) (streams.by_fault fault has why) tells = absurd has
-  end_told (Refused it) (streams.by_text text has good fits) tells = absurd has
-  end_told (Refused it) (streams.by_fault fault has why) tells = by_fault it (inr (subst (RefusesTextOf output limit bytes) (sym has) why)) tells
+  end_reported (Written written) (streams.by_fault fault has why) tells = absurd has
+  end_reported (Refused it) (streams.by_text text has good fits) tells = absurd has
+  end_reported (Refused it) (streams.by_fault fault has why) tells = by_fault it (inr (subst (RefusesTextOf output limit bytes) (sym has) why)) tells
 
-  fault_told : (session : Session) (fault : Fault) → HasFault fault session → IsUnreadWithin limit bytes fault → TellsEnd before after told session
-      → Returns (IsOutputText output limit bytes) (IsEndFault output limit bytes) before after told
-  fault_told (Reading feeding) fault has why tells = absurd has
-  fault_told (Written written) fault has why tells = absurd has
-  fault_told (Refused it) fault has why tells = by_fault it (inl (subst (IsUnreadWithin limit bytes) (sym has) why)) tells
+  fault_reported : (session : Session) (fault : Fault) → HasFault fault session → IsUnreadWithin limit bytes fault → TellsEnd before after reported session
+      → Returns (IsOutputText output limit bytes) (IsEndFault output limit bytes) before after reported
+  fault_reported (Reading feeding) fault has why tells = absurd has
+  fault_reported (Written written) fault has why tells = absurd has
+  fault_reported (Refused it) fault has why tells = by_fault it (inl (subst (IsUnreadWithin limit bytes) (sym has) why)) tells
 
 -- what the end tells
-pub told_at_end : FaultsStay 62 → (output : Output) (limit : ℕ) (pieces : List (Vec ℕ)) (n : ℕ) (old new : Option Session) (before after : List ℕ) (told : Told)
+pub reported_at_end : FaultsStay 62
+    → (output : Output) (limit : ℕ) (pieces : List (Vec ℕ)) (n : ℕ) (old new : Option Session) (before after : List ℕ) (reported : Reported)
     → length pieces ≤ n
     → (IsOpenStream (IsFed output limit (all_bytes pieces)) old → IsOpenStream (Ends output limit (all_bytes pieces)) new)
-    → ((fault : Fault) → IsOpenStream (HasFault fault) old → IsOpenStream (HasFault fault) new) → IfSome new (TellsEnd before after told)
+    → ((fault : Fault) → IsOpenStream (HasFault fault) old → IsOpenStream (HasFault fault) new) → IfSome new (TellsEnd before after reported)
     → Took output limit pieces n old
-    → Returns (IsOutputText output limit (all_bytes pieces)) (IsEndFault output limit (all_bytes pieces)) before after told
-told_at_end stay output limit pieces n old new before after told all ends stays tells (fed whole) =
+    → Returns (IsOutputText output limit (all_bytes pieces)) (IsEndFault output limit (all_bytes pieces)) before after reported
+reported_at_end stay output limit pieces n old new before after reported all ends stays tells (fed whole) =
     by new (ends (subst (λ (bytes : List ℕ). IsOpenStream (IsFed output limit bytes) old) (joined_all pieces n all) whole)) tells
   where
-    by : (it : Option Session) → IsOpenStream (Ends output limit (all_bytes pieces)) it → IfSome it (TellsEnd before after told)
-        → Returns (IsOutputText output limit (all_bytes pieces)) (IsEndFault output limit (all_bytes pieces)) before after told
+    by : (it : Option Session) → IsOpenStream (Ends output limit (all_bytes pieces)) it → IfSome it (TellsEnd before after reported)
+        → Returns (IsOutputText output limit (all_bytes pieces)) (IsEndFault output limit (all_bytes pieces)) before after reported
     by None h t = absurd h
-    by (Some session) h t = end_told output limit (all_bytes pieces) before after told session h t
-told_at_end stay output limit pieces n old new before after told all ends stays tells (refused k fault has why) = by new (stays fault has) tells
+    by (Some session) h t = end_reported output limit (all_bytes pieces) before after reported session h t
+reported_at_end stay output limit pieces n old new before after reported all ends stays tells (refused k fault has why) = by new (stays fault has) tells
   where
-    by : (it : Option Session) → IsOpenStream (HasFault fault) it → IfSome it (TellsEnd before after told)
-        → Returns (IsOutputText output limit (all_bytes pieces)) (IsEndFault output limit (all_bytes pieces)) before after told
+    by : (it : Option Session) → IsOpenStream (HasFault fault) it → IfSome it (TellsEnd before after reported)
+        → Returns (IsOutputText output limit (all_bytes pieces)) (IsEndFault output limit (all_bytes pieces)) before after reported
     by None h t = absurd h
-    by (Some session) h t = fault_told output limit (all_bytes pieces) before after told session fault h (of_all stay limit pieces k fault why) t
+    by (Some session) h t = fault_reported output limit (all_bytes pieces) before after reported session fault h (of_all stay limit pieces k fault why) t
 
 -- ---- the call that opens
 

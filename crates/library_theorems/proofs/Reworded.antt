@@ -30,7 +30,7 @@ use Rattle.theorems.proofs.ShownLaw.{shown_is}
 use Rattle.theorems.proofs.TextLaw.{rle_of_file}
 use Rattle.theorems.proofs.StreamLaw.{one_text}
 use Rattle.step_theorems.proofs.StepLaw.{unstepped_is}
-use Rattle.generation_theorems.specs.ManyGenerations.{IsNotTakenFurther}
+use Rattle.generation_theorems.specs.ManyGenerations.{IsNotAdvanced}
 use Rattle.generation_theorems.proofs.FurtherLaw.{reason-of}
 use Rattle.step_theorems.proofs.StepBy.{next_by_is_fixed, stepped_is, unstepped_is as unstepped_by_is}
 use Rattle.library_calls.specs.Texts.{IsTooLowFor, NeedsMore, IsLimitShortage, RefusesWithin, RefusesRleWithin, IsLeastCanonicalText as LayerText, IsRleText as LayerRle}
@@ -41,32 +41,32 @@ use Rattle.library_calls.specs.Outputs.{IsOutputText, RefusesTextOf}
 use Rattle.library_calls.specs.declared.texts.Output.{Output}
 use Rattle.life_step.specs.Refusals.{SomeOfStep, SomeOfStepBy}
 use Rattle.library_calls.specs.Stepping.{RefusesLater, RefusesStepWithin, RefusesStepByWithin, StepsByTable, by_table, by_no_table}
-use Rattle.library_calls.specs.declared.told.Told.{Told}
-use Rattle.library_calls.specs.Told.{Copies, LacksTextSpace, ReturnsText, ReturnsFault, Returns, by_text, by_fault}
+use Rattle.library_calls.specs.declared.reported.Reported.{Reported}
+use Rattle.library_calls.specs.Reported.{Copies, LacksTextSpace, ReturnsText, ReturnsFault, Returns, by_text, by_fault}
 use Rattle.library_theorems.specs.Answered.{IsClaimedRleText, AreFiveLines, IsClaimedUnread, IsUnreadWithin, IsUnwritten, IsShortageBelow, squares_for}
 use Rattle.library_theorems.specs.Ending.{IsEndFault}
 use Rattle.library_calls.proofs.Numbered.{IsOfText, no_text}
 
--- the same is told by what texts and faults imply
-pub reworded : {IsText IsOther : List ℕ → Type 0} {IsFault IsOtherFault : Fault → Type 0} {before after : List ℕ} {told : Told}
-    → Returns IsText IsFault before after told → ((text : List ℕ) → IsText text → IsOther text) → ((fault : Fault) → IsFault fault → IsOtherFault fault)
-    → Returns IsOther IsOtherFault before after told
+-- the same is reported by what texts and faults imply
+pub reworded : {IsText IsOther : List ℕ → Type 0} {IsFault IsOtherFault : Fault → Type 0} {before after : List ℕ} {reported : Reported}
+    → Returns IsText IsFault before after reported → ((text : List ℕ) → IsText text → IsOther text) → ((fault : Fault) → IsFault fault → IsOtherFault fault)
+    → Returns IsOther IsOtherFault before after reported
 reworded (by_text t is gives none) text fault = by_text t (text t is) gives none
 reworded (by_fault f why tells) text fault = by_fault f (fault f why) tells
 
--- what is told for this output is told for that one, which it is
-pub of_form : {output that : Output} {IsFault : Fault → Type 0} {before after : List ℕ} {told : Told} → output ≡ that → (limit : ℕ) (file : List ℕ)
-    → Returns (IsOutputText output limit file) IsFault before after told → Returns (IsOutputText that limit file) IsFault before after told
-of_form {IsFault = IsFault} {before = before} {after = after} {told = told} is limit file =
-    subst (λ (f : Output). Returns (IsOutputText f limit file) IsFault before after told) is
+-- what is reported for this output is reported for that one, which it is
+pub of_form : {output that : Output} {IsFault : Fault → Type 0} {before after : List ℕ} {reported : Reported} → output ≡ that → (limit : ℕ) (file : List ℕ)
+    → Returns (IsOutputText output limit file) IsFault before after reported → Returns (IsOutputText that limit file) IsFault before after reported
+of_form {IsFault = IsFault} {before = before} {after = after} {reported = reported} is limit file =
+    subst (λ (f : Output). Returns (IsOutputText f limit file) IsFault before after reported) is
 
 -- the end of a stream for that output tells what its texts and its faults imply
-pub ended_so : {output that : Output} {IsOther : List ℕ → Type 0} {IsOtherFault : Fault → Type 0} {before after : List ℕ} {told : Told} → output ≡ that
-    → (limit : ℕ) (file : List ℕ) → Returns (IsOutputText output limit file) (IsEndFault output limit file) before after told
+pub ended_so : {output that : Output} {IsOther : List ℕ → Type 0} {IsOtherFault : Fault → Type 0} {before after : List ℕ} {reported : Reported} → output ≡ that
+    → (limit : ℕ) (file : List ℕ) → Returns (IsOutputText output limit file) (IsEndFault output limit file) before after reported
     → ((text : List ℕ) → IsOutputText that limit file text → IsOther text) → ((fault : Fault) → IsUnreadWithin limit file fault → IsOtherFault fault)
-    → ((fault : Fault) → RefusesTextOf that limit file fault → IsOtherFault fault) → Returns IsOther IsOtherFault before after told
-ended_so {before = before} {after = after} {told = told} is limit file answers text unread refused =
-    reworded (subst (λ (f : Output). Returns (IsOutputText f limit file) (IsEndFault f limit file) before after told) is answers) text
+    → ((fault : Fault) → RefusesTextOf that limit file fault → IsOtherFault fault) → Returns IsOther IsOtherFault before after reported
+ended_so {before = before} {after = after} {reported = reported} is limit file answers text unread refused =
+    reworded (subst (λ (f : Output). Returns (IsOutputText f limit file) (IsEndFault f limit file) before after reported) is answers) text
     (λ fault why. elim why [ inl u ↦ unread fault u | inr r ↦ refused fault r ])
 
 -- ---- texts
@@ -103,13 +103,13 @@ lines_so least on_plane unique files keep file text s =
 
 -- ---- why there is none
 
--- a limit that was too low is below the room
-pub want_below : (IsTooLow : ℕ → Type 0) (room limit : ℕ) (fault : Fault) → ((most : ℕ) → IsTooLow most → most < room) → IsLimitShortage IsTooLow limit fault
-    → IsShortageBelow room limit fault
-want_below IsTooLow room limit fault tight (inl memory) = inr memory
-want_below IsTooLow room limit fault tight (inr full) = inl (full.0, tight _ full.1)
+-- a limit that was too low is below the space
+pub want_below : (IsTooLow : ℕ → Type 0) (space limit : ℕ) (fault : Fault) → ((most : ℕ) → IsTooLow most → most < space) → IsLimitShortage IsTooLow limit fault
+    → IsShortageBelow space limit fault
+want_below IsTooLow space limit fault tight (inl memory) = inr memory
+want_below IsTooLow space limit fault tight (inr full) = inl (full.0, tight _ full.1)
 
--- memory was wanted, or room
+-- memory is refused, or the store is full
 wanted : (IsTooLow : ℕ → Type 0) (limit : ℕ) (fault : Fault) → IsLimitShortage IsTooLow limit fault → IsShortage fault
 wanted IsTooLow limit fault (inl memory) = inr memory
 wanted IsTooLow limit fault (inr full) = inl full.0
@@ -134,11 +134,11 @@ unstepped on_plane limit file fault (inl refuses) = inl (inl (refuses_agree file
 unstepped on_plane limit file fault (inr (inl w)) = inl (inr (wanted (NeedsMore (λ P. SomeOfStep P file)) limit fault w))
 unstepped on_plane limit file fault (inr (inr h)) = inr (unstepped_is on_plane file h.0 fault h.1 h.2)
 
-pub not_taken_further : FilesAreOnPlane 62 → (n : ℕ) (file : List ℕ) (fault : Fault) → RefusesLater n file fault
-    → IsClaimedUnread file fault ⊎ IsNotTakenFurther n file fault
-not_taken_further on_plane n file fault (inl refuses) = inl (inl (refuses_agree file fault refuses))
-not_taken_further on_plane n file fault (inr (inl w)) = inl (inr w)
-not_taken_further on_plane n file fault (inr (inr h)) = inr (reason-of on_plane n file h.0 fault h.1 h.2)
+pub not_advanced : FilesAreOnPlane 62 → (n : ℕ) (file : List ℕ) (fault : Fault) → RefusesLater n file fault
+    → IsClaimedUnread file fault ⊎ IsNotAdvanced n file fault
+not_advanced on_plane n file fault (inl refuses) = inl (inl (refuses_agree file fault refuses))
+not_advanced on_plane n file fault (inr (inl w)) = inl (inr w)
+not_advanced on_plane n file fault (inr (inr h)) = inr (reason-of on_plane n file h.0 fault h.1 h.2)
 
 -- ---- by a table
 
@@ -149,12 +149,12 @@ unstepped_by decide layer table is limit file fault (inr (inl w)) =
     inl (inr (wanted (NeedsMore (λ P. SomeOfStepBy P layer file)) limit fault w))
 unstepped_by decide layer table is limit file fault (inr (inr h)) = inr (unstepped_by_is decide layer table is file h.0 h.1 fault h.2)
 
--- what is told of a step by a table
-abbrev pub ToldByTable : (file rules : List ℕ) (in_table : ℕ) (before after : List ℕ) → Told → Type 0
-ToldByTable file rules in_table before after told =
+-- what is reported of a step by a table
+abbrev pub ReportedByTable : (file rules : List ℕ) (in_table : ℕ) (before after : List ℕ) → Reported → Type 0
+ReportedByTable file rules in_table before after reported =
     ((in_table ≡ 0) × ((table : Table) × (table_of rules ≡ Ok table)
-    × Returns (IsClaimedStepBy table file) (λ fault. IsClaimedUnread file fault ⊎ IsUnsteppedBy table file fault) before after told))
-    ⊎ ((in_table ≡ 1) × ((fault : Fault) × ((table_of rules ≡ Err fault) ⊎ (fault ≡ claimed_fault_of Memory)) × ReturnsFault fault before after told))
+    × Returns (IsClaimedStepBy table file) (λ fault. IsClaimedUnread file fault ⊎ IsUnsteppedBy table file fault) before after reported))
+    ⊎ ((in_table ≡ 1) × ((fault : Fault) × ((table_of rules ≡ Err fault) ⊎ (fault ≡ claimed_fault_of Memory)) × ReturnsFault fault before after reported))
 
 untabled : TablesRefuse → (rules : List ℕ) (fault : Fault) → OrMemory fault (RefusesTable (lines_of rules) fault)
     → (table_of rules ≡ Err fault) ⊎ (fault ≡ claimed_fault_of Memory)
@@ -163,9 +163,10 @@ untabled refuse rules fault (inr refuses) = inl ((refuse rules fault).0 refuses)
 
 pub by_table_so : FilesAreOnPlane 62 → TablesRead → TablesRefuse → TablesDecide
     → ((lines : List (List ℕ)) (layer : LayerTable) → IsPlainTable lines layer → AreTable lines layer)
-    → (limit : ℕ) (file rules : List ℕ) (in_table : ℕ) (before after : List ℕ) (told : Told) → StepsByTable limit file rules in_table before after told
-    → ToldByTable file rules in_table before after told
-by_table_so on_plane read refuse decide agree limit file rules in_table before after told (by_table layer is zero answers) =
+    → (limit : ℕ) (file rules : List ℕ) (in_table : ℕ) (before after : List ℕ) (reported : Reported)
+    → StepsByTable limit file rules in_table before after reported
+    → ReportedByTable file rules in_table before after reported
+by_table_so on_plane read refuse decide agree limit file rules in_table before after reported (by_table layer is zero answers) =
     let t = (read rules).0 layer (agree (lines_of rules) layer is) in
     inl (
       zero,
@@ -175,7 +176,7 @@ by_table_so on_plane read refuse decide agree limit file rules in_table before a
         reworded answers (stepped_is decide layer t.0 t.2 on_plane file) (unstepped_by decide layer t.0 t.2 limit file),
       ),
     )
-by_table_so on_plane read refuse decide agree limit file rules in_table before after told (by_no_table fault why one tells) =
+by_table_so on_plane read refuse decide agree limit file rules in_table before after reported (by_no_table fault why one tells) =
     inr (one, (fault, untabled refuse rules fault why, tells))
 
 -- ---- two files
@@ -193,71 +194,76 @@ uncompared limit first second fault (inr (inl h)) = inr (inl (accepted_is_ok fir
 uncompared limit first second fault (inr (inr w)) = inr (inr (want_below (IsTooLowForBoth first second) (squares_for first + squares_for second) limit fault
     (λ most low. low.1) w))
 
-pub compared_so : FilesAreOnPlane 62 → (limit : ℕ) (first second : List ℕ) (told : Compared) → ComparesWithin limit first second told → told.status ≡ 0
-    → (told.line ≡ 0) × IsOk (pattern_of first) × IsOk (pattern_of second)
-    × (((told.is_same ≡ 1) × SayOnePattern first second) ⊎ ((told.is_same ≡ 0) × (SayOnePattern first second → ⊥)))
-compared_so on_plane limit first second told (by_answer status line a b answer) ok =
-    (line, accepted_is_ok first a, accepted_is_ok second b, answer_so on_plane first second a b told.is_same answer)
-compared_so on_plane limit first second told (comparing.by_fault fault status line none why) ok = no_text told.status fault.kind status (inl ok)
+pub compared_so : FilesAreOnPlane 62 → (limit : ℕ) (first second : List ℕ) (reported : Compared) → ComparesWithin limit first second reported
+    → reported.status ≡ 0
+    → (reported.line ≡ 0) × IsOk (pattern_of first) × IsOk (pattern_of second)
+    × (((reported.is_same ≡ 1) × SayOnePattern first second) ⊎ ((reported.is_same ≡ 0) × (SayOnePattern first second → ⊥)))
+compared_so on_plane limit first second reported (by_answer status line a b answer) ok =
+    (line, accepted_is_ok first a, accepted_is_ok second b, answer_so on_plane first second a b reported.is_same answer)
+compared_so on_plane limit first second reported (comparing.by_fault fault status line none why) ok = no_text reported.status fault.kind status (inl ok)
 
-pub uncompared_so : (limit : ℕ) (first second : List ℕ) (told : Compared) → ComparesWithin limit first second told → told.status ≢ 0
-    → (told.is_same ≡ 0) × ((fault : Fault) × (told.status ≡ kind_number fault.kind) × (told.line ≡ fault.place.line)
+pub uncompared_so : (limit : ℕ) (first second : List ℕ) (reported : Compared) → ComparesWithin limit first second reported → reported.status ≢ 0
+    → (reported.is_same ≡ 0) × ((fault : Fault) × (reported.status ≡ kind_number fault.kind) × (reported.line ≡ fault.place.line)
     × ((pattern_of first ≡ Err fault)
     ⊎ ((IsOk (pattern_of first) × (pattern_of second ≡ Err fault)) ⊎ IsShortageBelow (squares_for first + squares_for second) limit fault)))
-uncompared_so limit first second told (by_answer status line a b answer) not = absurd (not status)
-uncompared_so limit first second told (comparing.by_fault fault status line none why) not =
+uncompared_so limit first second reported (by_answer status line a b answer) not = absurd (not status)
+uncompared_so limit first second reported (comparing.by_fault fault status line none why) not =
     (none, (fault, status, line, uncompared limit first second fault why))
 
 -- ---- which text
 
 -- a status that is no fault's is that of the canonical text
-pub text_so : FilesAreUnique 62 → (file text : List ℕ) {IsFault : Fault → Type 0} (before after : List ℕ) (told : Told) → IsCanonical 62 file text
-    → Returns (LayerText file) IsFault before after told → IsOfText told.status → ReturnsText text before after told
-text_so unique file text before after told c (by_text t is gives none) ok =
-    subst (λ (it : List ℕ). ReturnsText it before after told) (one_text unique file t text is.0 c) gives
-text_so unique file text before after told c (by_fault fault why tells) ok = no_text told.status fault.kind tells.status ok
+pub text_so : FilesAreUnique 62 → (file text : List ℕ) {IsFault : Fault → Type 0} (before after : List ℕ) (reported : Reported) → IsCanonical 62 file text
+    → Returns (LayerText file) IsFault before after reported → IsOfText reported.status → ReturnsText text before after reported
+text_so unique file text before after reported c (by_text t is gives none) ok =
+    subst (λ (it : List ℕ). ReturnsText it before after reported) (one_text unique file t text is.0 c) gives
+text_so unique file text before after reported c (by_fault fault why tells) ok = no_text reported.status fault.kind tells.status ok
 
 -- the lines count the node lines of the canonical text
 pub counted_so : FilesAreOnPlane 62 → FilesAreUnique 62 → TextsAreFiles 62 → (file text : List ℕ) {IsFault : Fault → Type 0}
-    (before after : List ℕ) (told : Told) → IsCanonical 62 file text → Returns (IsShownText 62 file) IsFault before after told → IsOfText told.status
-    → (lines : List ℕ) × ReturnsText lines before after told
+    (before after : List ℕ) (reported : Reported) → IsCanonical 62 file text → Returns (IsShownText 62 file) IsFault before after reported
+    → IsOfText reported.status
+    → (lines : List ℕ) × ReturnsText lines before after reported
     × ((pattern : Pattern) × (pattern_of file ≡ Ok pattern) × AreLines pattern (claimed_node_lines text) lines)
-counted_so on_plane unique files file text before after told c (by_text lines is gives none) ok =
+counted_so on_plane unique files file text before after reported c (by_text lines is gives none) ok =
     (lines, gives, shown_is on_plane unique files file lines text is c)
-counted_so on_plane unique files file text before after told c (by_fault fault why tells) ok = no_text told.status fault.kind tells.status ok
+counted_so on_plane unique files file text before after reported c (by_fault fault why tells) ok = no_text reported.status fault.kind tells.status ok
 
 -- ---- a text in the memory
 
-take_front : (xs ys : List ℕ) → take (length xs) (xs ++ ys) ≡ xs
-take_front [] ys = refl
-take_front (x ∷ xs) ys = ap (λ (t : List ℕ). x ∷ t) (take_front xs ys)
+take_prefix : (xs ys : List ℕ) → take (length xs) (xs ++ ys) ≡ xs
+take_prefix [] ys = refl
+take_prefix (x ∷ xs) ys = ap (λ (t : List ℕ). x ∷ t) (take_prefix xs ys)
 
--- the memory has one text of the length that is told
-one_copy : (s t before after : List ℕ) (told : Told) → ReturnsText s before after told → ReturnsText t before after told → told.status ≡ 0 → s ≡ t
-one_copy s t before after told g h ok = by g.1 h.1
+-- the memory has one text of the length that is reported
+one_copy : (s t before after : List ℕ) (reported : Reported) → ReturnsText s before after reported → ReturnsText t before after reported → reported.status ≡ 0
+    → s ≡ t
+one_copy s t before after reported g h ok = by g.1 h.1
   where
     lengths : length s ≡ length t
     lengths = sym g.0 ∙ h.0
 
-    by : Copies s before after told ⊎ LacksTextSpace s before after told → Copies t before after told ⊎ LacksTextSpace t before after told → s ≡ t
+    by : Copies s before after reported ⊎ LacksTextSpace s before after reported → Copies t before after reported ⊎ LacksTextSpace t before after reported
+        → s ≡ t
     by (inl c) (inl d) =
-        sym (take_front s (drop (length s) before)) ∙ ap (λ (b : List ℕ). take (length s) b) (sym c.copied ∙ d.copied)
-        ∙ ap (λ n. take n (t ++ drop (length t) before)) lengths ∙ take_front t (drop (length t) before)
+        sym (take_prefix s (drop (length s) before)) ∙ ap (λ (b : List ℕ). take (length s) b) (sym c.copied ∙ d.copied)
+        ∙ ap (λ n. take n (t ++ drop (length t) before)) lengths ∙ take_prefix t (drop (length t) before)
     by (inl c) (inr l) = let e : 0 ≡ 64 = sym ok ∙ l.status in absurd (omega (arith, e))
     by (inr l) d = let e : 0 ≡ 64 = sym ok ∙ l.status in absurd (omega (arith, e))
 
 -- a text that is its own canonical text is so where it stands in the memory
-pub fixed_so : {IsText : List ℕ → Type 0} {IsFault : Fault → Type 0} (text again : List ℕ) (before after : List ℕ) (told : Told)
-    → ((it : List ℕ) → IsText it → IsCanonical 62 it again → it ≡ again) → Returns IsText IsFault before after told → told.status ≡ 0
-    → ReturnsText text before after told → IsCanonical 62 text again → again ≡ text
-fixed_so text again before after told fixed (by_text it is gives none) ok here c =
-    let same : it ≡ text = one_copy it text before after told gives here ok in
+pub fixed_so : {IsText : List ℕ → Type 0} {IsFault : Fault → Type 0} (text again : List ℕ) (before after : List ℕ) (reported : Reported)
+    → ((it : List ℕ) → IsText it → IsCanonical 62 it again → it ≡ again) → Returns IsText IsFault before after reported → reported.status ≡ 0
+    → ReturnsText text before after reported → IsCanonical 62 text again → again ≡ text
+fixed_so text again before after reported fixed (by_text it is gives none) ok here c =
+    let same : it ≡ text = one_copy it text before after reported gives here ok in
     sym (fixed it is (subst (λ (bytes : List ℕ). IsCanonical 62 bytes again) (sym same) c)) ∙ same
-fixed_so text again before after told fixed (by_fault fault why tells) ok here c = no_text told.status fault.kind tells.status (inl ok)
+fixed_so text again before after reported fixed (by_fault fault why tells) ok here c = no_text reported.status fault.kind tells.status (inl ok)
 
-pub fixed_by_so : FilesAreUnique 62 → (limit : ℕ) (file rules text again : List ℕ) (in_table : ℕ) (before after : List ℕ) (told : Told)
-    → StepsByTable limit file rules in_table before after told → told.status ≡ 0 → ReturnsText text before after told → IsCanonical 62 text again → again ≡ text
-fixed_by_so unique limit file rules text again in_table before after told (by_table layer is zero answers) ok here c =
-    fixed_so text again before after told (λ it stepped. next_by_is_fixed unique layer file it again stepped) answers ok here c
-fixed_by_so unique limit file rules text again in_table before after told (by_no_table fault why one tells) ok here c =
-    no_text told.status fault.kind tells.status (inl ok)
+pub fixed_by_so : FilesAreUnique 62 → (limit : ℕ) (file rules text again : List ℕ) (in_table : ℕ) (before after : List ℕ) (reported : Reported)
+    → StepsByTable limit file rules in_table before after reported → reported.status ≡ 0 → ReturnsText text before after reported → IsCanonical 62 text again
+    → again ≡ text
+fixed_by_so unique limit file rules text again in_table before after reported (by_table layer is zero answers) ok here c =
+    fixed_so text again before after reported (λ it stepped. next_by_is_fixed unique layer file it again stepped) answers ok here c
+fixed_by_so unique limit file rules text again in_table before after reported (by_no_table fault why one tells) ok here c =
+    no_text reported.status fault.kind tells.status (inl ok)

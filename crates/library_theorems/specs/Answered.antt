@@ -26,7 +26,7 @@ pub record AreFiveLines (file text : List ℕ) : Type 0 where
   pub is_canonical : IsCanonicalText file canonical
   pub shown : IsClaimedShown pattern (claimed_node_lines canonical) text
 
--- why a file isn't read: it has this fault, or room or memory was wanted
+-- why a file isn't read: it has this fault, or the store is full or memory is refused
 abbrev pub IsClaimedUnread : List ℕ → Fault → Type 0
 IsClaimedUnread file fault = (pattern_of file ≡ Err fault) ⊎ IsShortage fault
 
@@ -34,11 +34,11 @@ IsClaimedUnread file fault = (pattern_of file ≡ Err fault) ⊎ IsShortage faul
 abbrev pub squares_for : List ℕ → ℕ
 squares_for file = 14 * length file + 264
 
--- memory was wanted; or room, and the limit, which counts as 2 ^ 62 at most, is below this many squares
+-- memory is refused; or the store is full, and the limit, which counts as 2 ^ 62 at most, is below this many squares
 abbrev pub IsShortageBelow : (squares limit : ℕ) → Fault → Type 0
 IsShortageBelow squares limit fault = ((fault ≡ claimed_fault_of Full) × (min limit (2 ^ 62) < squares)) ⊎ (fault ≡ claimed_fault_of Memory)
 
--- why a file isn't read within a limit: it has this fault; or memory was wanted, or room, and the limit is below the room for the file
+-- why a file isn't read within a limit: it has this fault; or memory is refused, or the store is full, and the limit is below the squares for the file
 abbrev pub IsUnreadWithin : ℕ → List ℕ → Fault → Type 0
 IsUnreadWithin limit file fault = (pattern_of file ≡ Err fault) ⊎ IsShortageBelow (squares_for file) limit fault
 

@@ -30,6 +30,8 @@ mod texts;
 
 pub use compared::files_are_compared;
 pub use limits::{comparison_is_within_limit, key_is_within_limit, text_is_within_limit};
-pub use steps::{next_by_table_is_told, next_is_told, told_next_texts_are_fixed};
-pub use streams::{text_of_stream, text_of_stream_beside_canon};
-pub use texts::{lines_are_told, rle_is_told, text_is_told, told_texts_are_those_of_canon};
+pub use steps::{next_by_table_is_reported, next_is_reported, reported_next_texts_are_fixed};
+pub use streams::{text_of_stream, text_of_stream_is_that_of_canon};
+pub use texts::{
+    lines_are_reported, reported_texts_are_those_of_canon, rle_is_reported, text_is_reported,
+};

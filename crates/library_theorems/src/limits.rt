@@ -3,7 +3,7 @@
 ghost use Rattle.std.specs.Prelude.{◌≡◌, ◌⊎◌, ◌<◌, ◌≤◌, ◌^◌, min, IsOk};
 ghost use Rattle.library_theorems.specs.Words.{kind_number};
 
-use library_calls::{Compared, Options, Told, canon, key, same};
+use library_calls::{Compared, Options, Reported, canon, key, same};
 use life_base::{Fault, Kind};
 use life_canon::{Pattern, read};
 use life_quad::Shared;
@@ -17,17 +17,17 @@ pub fn text_is_within_limit(
     options: Options,
     out: &mut [u8],
     most: u64,
-) -> (Told, Result<Pattern, Fault>, u64)
+) -> (Reported, Result<Pattern, Fault>, u64)
     requires { most ≤ 2 ^ 62 }
     ensures within { (result.0.status ≡ 0) ⊎ (result.0.status ≡ 64) → IsOk result.1
         → result.2 ≤ min options.limit (2 ^ 62) }
     ensures full { result.0.status ≡ kind_number Kind.Full → IsOk result.1
         → min options.limit (2 ^ 62) < result.2 }
 {
-    let told = canon(alloc, file, options, out);
+    let reported = canon(alloc, file, options, out);
     let mut store = Shared::new(alloc, most);
     let found = read(alloc, &mut store, file);
-    (told, found, store.len())
+    (reported, found, store.len())
 }
 
 /// The same for the key of a file in any form; and for `Full` in the form with the number 0, the pattern as it lies.
@@ -38,17 +38,17 @@ pub fn key_is_within_limit(
     options: Options,
     out: &mut [u8],
     most: u64,
-) -> (Told, Result<Pattern, Fault>, u64)
+) -> (Reported, Result<Pattern, Fault>, u64)
     requires { most ≤ 2 ^ 62 }
     ensures within { (result.0.status ≡ 0) ⊎ (result.0.status ≡ 64) → IsOk result.1
         → result.2 ≤ min options.limit (2 ^ 62) }
     ensures full { form ≡ 0 → result.0.status ≡ kind_number Kind.Full → IsOk result.1
         → min options.limit (2 ^ 62) < result.2 }
 {
-    let told = key(alloc, file, form, options, out);
+    let reported = key(alloc, file, form, options, out);
     let mut store = Shared::new(alloc, most);
     let found = read(alloc, &mut store, file);
-    (told, found, store.len())
+    (reported, found, store.len())
 }
 
 /// The same for two files that are compared as they lie, and that are read into one empty store.

@@ -1,9 +1,9 @@
 //! A file that comes in pieces, and one answer at its end.
 
 ghost use Rattle.std.specs.Prelude.{◌≡◌, ◌⊎◌, ℕ, List, [], Ok, IfOk};
-ghost use Rattle.library_theorems.specs.Words.{kind_number, claimed_node_lines, IsCanonicalText, pattern_of, IsClaimedStep, IsUnstepped, Pattern, IsClaimedShown, IsOutputText, session_of, IsOpenStream, IsFed, Returns, ReturnsText, OutputValue, IsClaimedRleText, AreFiveLines, IsClaimedUnread, IsUnreadWithin, IsUnwritten, IsEndFault, all_bytes, IsClaimedTextLater, IsNotTakenFurther};
+ghost use Rattle.library_theorems.specs.Words.{kind_number, claimed_node_lines, IsCanonicalText, pattern_of, IsClaimedStep, IsUnstepped, Pattern, IsClaimedShown, IsOutputText, session_of, IsOpenStream, IsFed, Returns, ReturnsText, OutputValue, IsClaimedRleText, AreFiveLines, IsClaimedUnread, IsUnreadWithin, IsUnwritten, IsEndFault, all_bytes, IsClaimedTextLater, IsNotAdvanced};
 
-use library_calls::{Options, Output, Stream, Told, close, feed, finish, open};
+use library_calls::{Options, Output, Reported, Stream, close, feed, finish, open};
 use life_base::{Fault, Kind};
 use life_canon::laws::{
     canonical_is_least, faults_stay, files_are_on_plane, files_are_unique, texts_are_files,
@@ -13,7 +13,12 @@ use life_quad::Shared;
 use std::alloc::Global;
 
 /// What is reported at the end of the file that these are the pieces of: each is fed to an open stream, which is finished and closed.
-fn told_of_pieces(alloc: Global, stream: &mut Stream, pieces: &[Vec<u8>], out: &mut [u8]) -> Told
+fn reported_of_pieces(
+    alloc: Global,
+    stream: &mut Stream,
+    pieces: &[Vec<u8>],
+    out: &mut [u8],
+) -> Reported
     ensures { (output : OutputValue) (limit : ℕ)
         → IsOpenStream (IsFed output limit []) (session_of stream.old)
         → Returns (IsOutputText output limit (all_bytes pieces.now))
@@ -24,9 +29,9 @@ fn told_of_pieces(alloc: Global, stream: &mut Stream, pieces: &[Vec<u8>], out: &
     for piece in pieces {
         feed(alloc, stream, piece);
     }
-    let told = finish(alloc, stream, out);
+    let reported = finish(alloc, stream, out);
     close(alloc, stream);
-    told
+    reported
 }
 
 /// A stream that was opened for this output, which only lack of memory refuses, and fed the pieces of a file, cut
@@ -38,7 +43,7 @@ pub fn text_of_stream(
     output: Output,
     options: Options,
     out: &mut [u8],
-) -> (u32, Told)
+) -> (u32, Reported)
     ensures opened { (result.0 ≡ 0) ⊎ (result.0 ≡ kind_number Kind.Memory) }
     ensures canonical { output ≡ OutputValue.Canonical → result.0 ≡ 0
         → Returns (IsCanonicalText (all_bytes pieces.now))
@@ -58,7 +63,7 @@ pub fn text_of_stream(
     ensures later { (generations : ℕ) → output ≡ OutputValue.Later generations → result.0 ≡ 0
         → Returns (IsClaimedTextLater generations (all_bytes pieces.now))
         (λ fault. IsClaimedUnread (all_bytes pieces.now) fault
-        ⊎ IsNotTakenFurther generations (all_bytes pieces.now) fault)
+        ⊎ IsNotAdvanced generations (all_bytes pieces.now) fault)
         out.old out.new result.1 }
 {
     canonical_is_least();
@@ -67,13 +72,13 @@ pub fn text_of_stream(
     texts_are_files();
     texts_keep_patterns();
     let opened = open(alloc, stream, output, options);
-    (opened, told_of_pieces(alloc, stream, pieces, out))
+    (opened, reported_of_pieces(alloc, stream, pieces, out))
 }
 
 /// Where no fault is reported, the text of a stream that was fed a file's pieces, cut anywhere, is the one that `canon` of
 /// `life_canon` makes of the file; and its five lines describe the file's pattern, and how many node lines that text has. The text
 /// of the next generation that a stream put into the caller's memory is its own canonical text.
-pub fn text_of_stream_beside_canon(
+pub fn text_of_stream_is_that_of_canon(
     alloc: Global,
     store: &mut Shared,
     bytes: &[u8],
@@ -82,7 +87,7 @@ pub fn text_of_stream_beside_canon(
     output: Output,
     options: Options,
     out: &mut [u8],
-) -> (u32, Told, Result<Vec<u8>, Fault>)
+) -> (u32, Reported, Result<Vec<u8>, Fault>)
     ensures text { output ≡ OutputValue.Canonical → bytes.now ≡ all_bytes pieces.now → result.0 ≡ 0
         → (result.1.status ≡ 0) ⊎ (result.1.status ≡ 64)
         → IfOk result.2 (λ text. ReturnsText text.items out.old out.new result.1) }
@@ -100,5 +105,5 @@ pub fn text_of_stream_beside_canon(
     texts_are_files();
     let opened = open(alloc, stream, output, options);
     let text = life_canon::canon(alloc, store, bytes);
-    (opened, told_of_pieces(alloc, stream, pieces, out), text)
+    (opened, reported_of_pieces(alloc, stream, pieces, out), text)
 }

@@ -26,4 +26,4 @@ pub mod WholeLines
 pub mod Squares
 pub mod Spans
 pub mod Results
-pub mod FrontDigits
+pub mod PrefixDigits

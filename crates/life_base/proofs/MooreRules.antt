@@ -28,7 +28,7 @@ named word rule true w e h = cc
 named word rule false true e h = cc
 named word rule false false e h = let same : Named word ≡ rule = cc in (e, subst CountsEight same tt)
 
--- ---- behind the tests that are the same
+-- ---- after the tests that are the same
 
 stays : (word : List ℕ) (rule : Rule) (v w : Bool) (o : Option DigitSets)
     → cond v (Err BadRule) (cond w (Err BoundedGrid) (moore_or_other word o)) ≡ Ok rule

@@ -62,9 +62,9 @@ none_by (Some s) true true w h = cc
 pub four_none : (text : List ℕ) → names_other_neighbours text ≡ false → four_sets text ≡ None
 unfolding four_sets
 four_none text h =
-    let front = take (length text - 1) text in
+    let prefix = take (length text - 1) text in
     let end = drop (length text - 1) text in
-    none_by (life_sets front) (bytes_eq (map to_ascii_uppercase (take 1 front)) (codes "B")) (bytes_eq (map to_ascii_uppercase end) (codes "V"))
+    none_by (life_sets prefix) (bytes_eq (map to_ascii_uppercase (take 1 prefix)) (codes "B")) (bytes_eq (map to_ascii_uppercase end) (codes "V"))
     (bytes_eq (map to_ascii_uppercase end) (codes "H")) h
 
 -- the last step of `rule_of`

@@ -31,7 +31,7 @@ behind_first : List (ℕ × List ℕ) → List (ℕ × List ℕ)
 behind_first [] = []
 behind_first (p ∷ ps) = ps
 
--- the number of the line behind those of a list
+-- the number of the line after those of a list
 pub number_at : (lines : List (List ℕ)) (before : List (ℕ × List ℕ)) (n : ℕ) (k : ℕ) (line : List ℕ) (rest : List (ℕ × List ℕ))
     → n ≤ 2 ^ 64 - 1 → before ++ (k, line) ∷ rest ≡ numbered_from n lines → k ≡ min (n + length before) (2 ^ 64 - 1)
 unfolding first_number behind_first
@@ -54,9 +54,9 @@ numbered p = (p.0, p.1.now)
 -- the same of a reader that has taken each line
 pub whole_read : (lines read : List (List ℕ)) (yielded : List (ℕ × Bor (List ℕ))) (rest : List (ℕ × List ℕ)) → read ≡ texts (map numbered yielded)
     → map numbered yielded ++ rest ≡ numbered_from 1 lines → rest ≡ [] → read ≡ lines
-whole_read lines read yielded rest taken all none = taken ∙ all_read lines (map numbered yielded) rest all none
+whole_read lines read yielded rest consumed all none = consumed ∙ all_read lines (map numbered yielded) rest all none
 
--- the lines of a file are those before a line, the line and those behind it
+-- the lines of a file are those before a line, the line and those after it
 pub lines_around : (lines : List (List ℕ)) (before : List (ℕ × List ℕ)) (k : ℕ) (line : List ℕ) (rest : List (ℕ × List ℕ))
     → before ++ (k, line) ∷ rest ≡ numbered_from 1 lines → texts before ++ line ∷ texts rest ≡ lines
 lines_around lines before k line rest e = sym (map-append (λ (p : ℕ × List ℕ). p.1) before ((k, line) ∷ rest)) ∙ ap texts e ∙ numbered_texts lines 1

@@ -23,11 +23,11 @@ module _ (v : DigitSets) (h : IsLifeRule (record { sets = v; near = VonNeumann }
   abbrev es : List ℕ
   es = digits_of v.survivals
 
-  abbrev front : List ℕ
-  front = 66 ∷ (ds ++ 47 ∷ 83 ∷ es)
+  abbrev prefix : List ℕ
+  prefix = 66 ∷ (ds ++ 47 ∷ 83 ∷ es)
 
   abbrev word : List ℕ
-  word = front ++ codes "V"
+  word = prefix ++ codes "V"
 
   births_small : v.births < 512
   births_small = small v.births h.births
@@ -38,10 +38,10 @@ module _ (v : DigitSets) (h : IsLifeRule (record { sets = v; near = VonNeumann }
   passes : (q : ℕ → Bool) → ((b : ℕ) → is_count_digit b ≡ true → q b ≡ true) → list_all q (codes "B/S") ≡ true → list_all q (codes "V") ≡ true
       → list_all q word ≡ true
   passes q f m n =
-      list_all-append q front (codes "V")
-      ∙ and_from (list_all q front) _ (text_passes q f m ds es (set_digits v.births births_small) (set_digits v.survivals survivals_small)) n
+      list_all-append q prefix (codes "V")
+      ∙ and_from (list_all q prefix) _ (text_passes q f m ds es (set_digits v.births births_small) (set_digits v.survivals survivals_small)) n
 
-  is_sets : life_sets front ≡ Some v
+  is_sets : life_sets prefix ≡ Some v
   is_sets =
       sets_again ds es (set_digits v.births births_small) (set_digits v.survivals survivals_small)
       ∙ ap (λ (b : ℕ). Some (record { births = b; survivals = digit_set es })) (set_again v.births births_small)
@@ -49,23 +49,23 @@ module _ (v : DigitSets) (h : IsLifeRule (record { sets = v; near = VonNeumann }
 
   is_four : IsFourText word v
   is_four = record {
-    front = front;
+    prefix = prefix;
     last = 86;
     is = refl;
     letter = refl;
     rest = _;
     begins = refl;
-    form = (life_texts_are_forms front v).0 is_sets;
+    form = (life_texts_are_forms prefix v).0 is_sets;
     births = h.births;
     survivals = h.survivals;
   }
 
   is_word : IsRuleWord word
   is_word = record {
-    some = omega (arith, length-append front (codes "V"));
+    some = omega (arith, length-append prefix (codes "V"));
     short = omega (
       arith,
-      length-append front (codes "V"),
+      length-append prefix (codes "V"),
       length-append ds (47 ∷ 83 ∷ es),
       set_short v.births births_small,
       set_short v.survivals survivals_small,

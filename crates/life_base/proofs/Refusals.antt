@@ -21,7 +21,7 @@ one_kind one other e f =
 
 -- each line breaks one kind of rule first
 abbrev pub BreaksOnce : (List (List ℕ) → List ℕ → Kind → Type 0) → Type 0
-BreaksOnce Breaks = (front : List (List ℕ)) (line : List ℕ) (a b : Kind) → Breaks front line a → Breaks front line b → a ≡ b
+BreaksOnce Breaks = (prefix : List (List ℕ)) (line : List ℕ) (a b : Kind) → Breaks prefix line a → Breaks prefix line b → a ≡ b
 
 module _ (Grammar : List (List ℕ) → Type 0) (Breaks : List (List ℕ) → List ℕ → Kind → Type 0) (missing : List (List ℕ) → Option Kind) where
   -- Then a refused file has one fault.
@@ -42,7 +42,7 @@ module _ (Grammar : List (List ℕ) → Type 0) (broken : List (List ℕ) → Li
   abbrev pub UnbrokenBelow : List (List ℕ) → ℕ → Type 0
   UnbrokenBelow lines n = (k : ℕ) → k < n → broken (take k lines) (get_or lines k []) ≡ None
 
-  -- A grammar of lines: no line of a file breaks a rule, and lines that break none are the front of a file.
+  -- A grammar of lines: no line of a file breaks a rule, and lines that break none are a prefix of a file.
   pub record IsByLines : Type 0 where
     pub sound : (lines : List (List ℕ)) → Grammar lines → UnbrokenBelow lines (length lines)
     pub complete : (lines : List (List ℕ)) → UnbrokenBelow lines (length lines) → Prefix Grammar lines
@@ -50,12 +50,12 @@ module _ (Grammar : List (List ℕ) → Type 0) (broken : List (List ℕ) → Li
   -- A refused file has one fault.
   pub refusal_unique : (lines : List (List ℕ)) (one other : Fault)
       → IsRefusal Grammar (BreaksBy broken) missing lines one → IsRefusal Grammar (BreaksBy broken) missing lines other → one ≡ other
-  refusal_unique = one_refusal Grammar (BreaksBy broken) missing (λ front line a b. some_same a b (broken front line))
+  refusal_unique = one_refusal Grammar (BreaksBy broken) missing (λ prefix line a b. some_same a b (broken prefix line))
 
   module _ (by_lines : IsByLines) where
-    -- no line of the front of a file breaks a rule
-    pub front_unbroken : (lines : List (List ℕ)) → Prefix Grammar lines → UnbrokenBelow lines (length lines)
-    front_unbroken lines (keeps, g) k h =
+    -- no line of a prefix of a file breaks a rule
+    pub prefix_unbroken : (lines : List (List ℕ)) → Prefix Grammar lines → UnbrokenBelow lines (length lines)
+    prefix_unbroken lines (keeps, g) k h =
         let more = kept_lines keeps continuations in
         let e : take k (lines ++ more) ≡ take k lines = take-append-le k lines more (omega arith) in
         let f : get_or (lines ++ more) k [] ≡ get_or lines k [] = get_or-append lines more [] k h in
@@ -80,7 +80,7 @@ module _ (Grammar : List (List ℕ) → Type 0) (broken : List (List ℕ) → Li
       here = λ l p.
           let m : n + 1 ≤ length lines = l in
           let v : broken (take n (take (n + 1) lines)) (get_or (take (n + 1) lines) n []) ≡ None =
-          front_unbroken (take (n + 1) lines) p n (omega (arith, length-take-le (n + 1) lines m)) in
+          prefix_unbroken (take (n + 1) lines) p n (omega (arith, length-take-le (n + 1) lines m)) in
           let w : broken (take n lines) (get_or lines n []) ≡ None = rw (take-take n (n + 1) lines (omega arith), get_or-take (n + 1) lines n [] (omega arith))
           at v in
           cc;

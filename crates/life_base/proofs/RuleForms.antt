@@ -1,4 +1,4 @@
--- What rule texts say, told as what each text is.
+-- What rule texts say, by what each text is.
 use Rattle.std.proofs.Common.{◌≡◌, ℕ, ◌<◌, ◌-◌, List, [], ◌∷◌, ◌++◌, length, take, drop, Bool, true, false, cond, not, ◌&&◌, ◌||◌, refl, ap, sym, subst, ◌∙◌, arith, append_assoc, length-append, ◌⊎◌, inl, inr, ◌==◌, ◌↔◌, nat_lt, map, filter, codes, bytes_eq, is_some, Option, Some, None, Ok, Err, le-ltb, take-append-drop}
 use Rattle.std.specs.List.{list_all, list_any, onto_first}
 use Rattle.std.proofs.lemmas.Bool.{not-true, and_from, or_parts}
@@ -8,7 +8,7 @@ use Rattle.std.specs.Char.{to_ascii_uppercase}
 use Rattle.std.proofs.lemmas.List.Folds.{list_all-append}
 use Rattle.life_base.proofs.NamesRead.{all_pass, solid, visible_solid, good_text, four_none}
 use Rattle.life_base.proofs.RoundTrip.{visible, is_mark, split_at, split_end, no_marks, none_left, no_any}
-use Rattle.life_base.proofs.Texts.{same_bytes, blank_front}
+use Rattle.life_base.proofs.Texts.{same_bytes, blank_prefix}
 use Rattle.life_base.proofs.Basics.{right_of_and, left_of_and}
 use Rattle.life_base.specs.Sets.{DigitSets}
 use Rattle.life_base.specs.Text.{is_whitespace, is_empty, trim, trim_start, without_last, IsAround}
@@ -296,18 +296,18 @@ form_no_v text b s d e (inr (inr (inr (inl w)))) = ap (list_all no_v) w
     ∙ pass_two ((codes "S" ++ s) ++ codes "B") b (pass_two (codes "S" ++ s) (codes "B") e refl) d
 form_no_v text b s d e (inr (inr (inr (inr w)))) = ap (list_all no_v) w ∙ pass_two (s ++ codes "/") b (pass_two s (codes "/") e refl) d
 
-v_behind : (front : List ℕ) (last : ℕ) → to_ascii_uppercase last ≡ 86 → list_all no_v (map to_ascii_uppercase (front ++ last ∷ [])) ≡ false
+v_behind : (prefix : List ℕ) (last : ℕ) → to_ascii_uppercase last ≡ 86 → list_all no_v (map to_ascii_uppercase (prefix ++ last ∷ [])) ≡ false
 v_behind [] last e = ap (λ c. no_v c && true) e
-v_behind (b ∷ front) last e = ap (λ v. no_v (to_ascii_uppercase b) && v) (v_behind front last e) ∙ and-false (no_v (to_ascii_uppercase b))
+v_behind (b ∷ prefix) last e = ap (λ v. no_v (to_ascii_uppercase b) && v) (v_behind prefix last e) ∙ and-false (no_v (to_ascii_uppercase b))
 
-no_form_with_v : (word front : List ℕ) (last : ℕ) → word ≡ front ++ last ∷ [] → to_ascii_uppercase last ≡ 86 → (o : Option DigitSets) → life_sets word ≡ o
+no_form_with_v : (word prefix : List ℕ) (last : ℕ) → word ≡ prefix ++ last ∷ [] → to_ascii_uppercase last ≡ 86 → (o : Option DigitSets) → life_sets word ≡ o
     → o ≡ None
-no_form_with_v word front last w e None h = refl
-no_form_with_v word front last w e (Some s) h =
+no_form_with_v word prefix last w e None h = refl
+no_form_with_v word prefix last w e (Some s) h =
     let l = life_is_form word s h in
     let k : true ≡ false =
     sym (form_no_v (map to_ascii_uppercase word) l.births l.survivals (digits_no_v l.births l.birth_digits) (digits_no_v l.survivals l.survival_digits) l.form)
-    ∙ ap (λ (t : List ℕ). list_all no_v (map to_ascii_uppercase t)) w ∙ v_behind front last e in
+    ∙ ap (λ (t : List ℕ). list_all no_v (map to_ascii_uppercase t)) w ∙ v_behind prefix last e in
     cc
 
 pub below_32 : (n : ℕ) → nat_lt n 32 ≡ true → n < 32
@@ -321,13 +321,13 @@ one_letter [] c h = cc
 one_letter (b ∷ []) c h = let e : to_ascii_uppercase b ≡ c = cc in (b, refl, e)
 one_letter (b ∷ d ∷ end) c h = cc
 
-begins_with : (front : List ℕ) → map to_ascii_uppercase (take 1 front) ≡ 66 ∷ [] → (rest : List ℕ) × (map to_ascii_uppercase front ≡ 66 ∷ rest)
+begins_with : (prefix : List ℕ) → map to_ascii_uppercase (take 1 prefix) ≡ 66 ∷ [] → (rest : List ℕ) × (map to_ascii_uppercase prefix ≡ 66 ∷ rest)
 begins_with [] h = cc
-begins_with (b ∷ front) h = let e : to_ascii_uppercase b ≡ 66 = cc in (map to_ascii_uppercase front, ap (λ c. c ∷ map to_ascii_uppercase front) e)
+begins_with (b ∷ prefix) h = let e : to_ascii_uppercase b ≡ 66 = cc in (map to_ascii_uppercase prefix, ap (λ c. c ∷ map to_ascii_uppercase prefix) e)
 
-begins : (front rest : List ℕ) → map to_ascii_uppercase front ≡ 66 ∷ rest → bytes_eq (map to_ascii_uppercase (take 1 front)) (codes "B") ≡ true
+begins : (prefix rest : List ℕ) → map to_ascii_uppercase prefix ≡ 66 ∷ rest → bytes_eq (map to_ascii_uppercase (take 1 prefix)) (codes "B") ≡ true
 begins [] rest h = cc
-begins (b ∷ front) rest h = let e : to_ascii_uppercase b ≡ 66 = cc in ap (λ c. bytes_eq (c ∷ []) (codes "B")) e
+begins (b ∷ prefix) rest h = let e : to_ascii_uppercase b ≡ 66 = cc in ap (λ c. bytes_eq (c ∷ []) (codes "B")) e
 
 within : (found s : DigitSets) (u v : Bool) → nat_lt found.births 32 ≡ u → nat_lt found.survivals 32 ≡ v → cond (u && v) (Some found) None ≡ Some s
     → (found ≡ s) × (found.births < 32) × (found.survivals < 32)
@@ -335,58 +335,58 @@ within found s true true e f h = (some_is found s h, below_32 found.births e, be
 within found s true false e f h = cc
 within found s false v e f h = cc
 
-four_by : (text front end : List ℕ) (s : DigitSets) (v w : Bool) (o : Option DigitSets) → text ≡ front ++ end → life_sets front ≡ o
-    → bytes_eq (map to_ascii_uppercase (take 1 front)) (codes "B") ≡ v → bytes_eq (map to_ascii_uppercase end) (codes "V") ≡ w
+four_by : (text prefix end : List ℕ) (s : DigitSets) (v w : Bool) (o : Option DigitSets) → text ≡ prefix ++ end → life_sets prefix ≡ o
+    → bytes_eq (map to_ascii_uppercase (take 1 prefix)) (codes "B") ≡ v → bytes_eq (map to_ascii_uppercase end) (codes "V") ≡ w
     → cond (v && w) (up_to_four o) None ≡ Some s → IsFourText text s
-four_by text front end s true true (Some found) t l e f h =
+four_by text prefix end s true true (Some found) t l e f h =
     let k = within found s (nat_lt found.births 32) (nat_lt found.survivals 32) refl refl h in
     let p = one_letter end 86 (same_bytes (map to_ascii_uppercase end) (codes "V") f) in
-    let q = begins_with front (same_bytes (map to_ascii_uppercase (take 1 front)) (codes "B") e) in
+    let q = begins_with prefix (same_bytes (map to_ascii_uppercase (take 1 prefix)) (codes "B") e) in
     subst (IsFourText text) k.0 (record {
-      front = front;
+      prefix = prefix;
       last = p.0;
-      is = t ∙ ap (λ (x : List ℕ). front ++ x) p.1;
+      is = t ∙ ap (λ (x : List ℕ). prefix ++ x) p.1;
       letter = p.2;
       rest = q.0;
       begins = q.1;
-      form = life_is_form front found l;
+      form = life_is_form prefix found l;
       births = k.1;
       survivals = k.2;
     })
-four_by text front end s true true None t l e f h = cc
-four_by text front end s true false o t l e f h = cc
-four_by text front end s false w o t l e f h = cc
+four_by text prefix end s true true None t l e f h = cc
+four_by text prefix end s true false o t l e f h = cc
+four_by text prefix end s false w o t l e f h = cc
 
 four_is_form : (text : List ℕ) (s : DigitSets) → four_sets text ≡ Some s → IsFourText text s
 unfolding four_sets
 four_is_form text s h =
-    let front = take (length text - 1) text in
+    let prefix = take (length text - 1) text in
     let end = drop (length text - 1) text in
-    four_by text front end s (bytes_eq (map to_ascii_uppercase (take 1 front)) (codes "B")) (bytes_eq (map to_ascii_uppercase end) (codes "V"))
-    (life_sets front)
+    four_by text prefix end s (bytes_eq (map to_ascii_uppercase (take 1 prefix)) (codes "B")) (bytes_eq (map to_ascii_uppercase end) (codes "V"))
+    (life_sets prefix)
     (sym (take-append-drop (length text - 1) text)) refl refl refl h
 
 -- the bytes before the last one, and the last one
-module _ (word front : List ℕ) (last : ℕ) (w : word ≡ front ++ last ∷ []) where
-  cut : length word - 1 ≡ length front
-  cut = omega (arith, ap length w, length-append front (last ∷ []))
+module _ (word prefix : List ℕ) (last : ℕ) (w : word ≡ prefix ++ last ∷ []) where
+  cut : length word - 1 ≡ length prefix
+  cut = omega (arith, ap length w, length-append prefix (last ∷ []))
 
-  front_is : take (length word - 1) word ≡ front
-  front_is = ap (λ k. take k word) cut ∙ ap (take (length front)) w ∙ take-append_seam front (last ∷ [])
+  prefix_is : take (length word - 1) word ≡ prefix
+  prefix_is = ap (λ k. take k word) cut ∙ ap (take (length prefix)) w ∙ take-append_seam prefix (last ∷ [])
 
   end_is : drop (length word - 1) word ≡ last ∷ []
-  end_is = ap (λ k. drop k word) cut ∙ ap (drop (length front)) w ∙ drop-append_seam front (last ∷ [])
+  end_is = ap (λ k. drop k word) cut ∙ ap (drop (length prefix)) w ∙ drop-append_seam prefix (last ∷ [])
 
 is_form_of_four : (text : List ℕ) (s : DigitSets) → IsFourText text s → four_sets text ≡ Some s
 unfolding four_sets
 is_form_of_four text s f =
     let end : List ℕ = drop (length text - 1) text in
     ap (λ (t : List ℕ). cond (bytes_eq (map to_ascii_uppercase (take 1 t)) (codes "B") && bytes_eq (map to_ascii_uppercase end) (codes "V"))
-    (up_to_four (life_sets t)) None) (front_is text f.front f.last f.is)
-    ∙ ap (λ v. cond (v && bytes_eq (map to_ascii_uppercase end) (codes "V")) (up_to_four (life_sets f.front)) None) (begins f.front f.rest f.begins)
-    ∙ ap (λ (t : List ℕ). cond (bytes_eq (map to_ascii_uppercase t) (codes "V")) (up_to_four (life_sets f.front)) None) (end_is text f.front f.last f.is)
-    ∙ ap (λ c. cond (bytes_eq (c ∷ []) (codes "V")) (up_to_four (life_sets f.front)) None) f.letter
-    ∙ ap up_to_four (is_form_of_life f.front s f.form)
+    (up_to_four (life_sets t)) None) (prefix_is text f.prefix f.last f.is)
+    ∙ ap (λ v. cond (v && bytes_eq (map to_ascii_uppercase end) (codes "V")) (up_to_four (life_sets f.prefix)) None) (begins f.prefix f.rest f.begins)
+    ∙ ap (λ (t : List ℕ). cond (bytes_eq (map to_ascii_uppercase t) (codes "V")) (up_to_four (life_sets f.prefix)) None) (end_is text f.prefix f.last f.is)
+    ∙ ap (λ c. cond (bytes_eq (c ∷ []) (codes "V")) (up_to_four (life_sets f.prefix)) None) f.letter
+    ∙ ap up_to_four (is_form_of_life f.prefix s f.form)
     ∙ ap (λ v. cond (v && nat_lt s.survivals 32) (Some s) None) (is_below s.births f.births)
     ∙ ap (λ v. cond v (Some s) None) (is_below s.survivals f.survivals)
 
@@ -395,18 +395,19 @@ four_texts_are_forms text s = (four_is_form text s, is_form_of_four text s)
 
 -- ---- whitespace around a word
 
-record Front (text rest : List ℕ) : Type 0 where
-  front : List ℕ
-  is : text ≡ front ++ rest
-  blank : list_all is_whitespace front ≡ true
+record SplitsAtSpace (text rest : List ℕ) : Type 0 where
+  prefix : List ℕ
+  is : text ≡ prefix ++ rest
+  blank : list_all is_whitespace prefix ≡ true
 
-front_step : (v : Bool) (b : ℕ) (text : List ℕ) → is_whitespace b ≡ v → Front text (trim_start text) → Front (b ∷ text) (cond v (trim_start text) (b ∷ text))
-front_step true b text e f = record { front = b ∷ f.front; is = ap (λ (t : List ℕ). b ∷ t) f.is; blank = and_from _ _ e f.blank }
-front_step false b text e f = record { front = []; is = refl; blank = refl }
+prefix_step : (v : Bool) (b : ℕ) (text : List ℕ) → is_whitespace b ≡ v → SplitsAtSpace text (trim_start text)
+    → SplitsAtSpace (b ∷ text) (cond v (trim_start text) (b ∷ text))
+prefix_step true b text e f = record { prefix = b ∷ f.prefix; is = ap (λ (t : List ℕ). b ∷ t) f.is; blank = and_from _ _ e f.blank }
+prefix_step false b text e f = record { prefix = []; is = refl; blank = refl }
 
-front_of : (text : List ℕ) → Front text (trim_start text)
-front_of [] = record { front = []; is = refl; blank = refl }
-front_of (b ∷ text) = front_step (is_whitespace b) b text refl (front_of text)
+prefix_of : (text : List ℕ) → SplitsAtSpace text (trim_start text)
+prefix_of [] = record { prefix = []; is = refl; blank = refl }
+prefix_of (b ∷ text) = prefix_step (is_whitespace b) b text refl (prefix_of text)
 
 record Back (text kept : List ℕ) : Type 0 where
   back : List ℕ
@@ -424,9 +425,9 @@ back_of (b ∷ text) = back_step (list_all is_whitespace (b ∷ text)) b text re
 
 pub trimmed_around : (text : List ℕ) → IsAround text (trim text)
 trimmed_around text =
-    let f = front_of text in
+    let f = prefix_of text in
     let k = back_of (trim_start text) in
-    record { before = f.front; behind = k.back; is = f.is ∙ ap (λ (t : List ℕ). f.front ++ t) k.is; blank_before = f.blank; blank_behind = k.blank }
+    record { before = f.prefix; behind = k.back; is = f.is ∙ ap (λ (t : List ℕ). f.prefix ++ t) k.is; blank_before = f.blank; blank_behind = k.blank }
 
 none_kept : (back : List ℕ) → list_all is_whitespace back ≡ true → without_last is_whitespace back ≡ []
 none_kept [] h = refl
@@ -446,7 +447,7 @@ word_starts (b ∷ word) back n h = ap (λ v. cond v (trim_start (word ++ back))
 pub around_trim : (text word : List ℕ) → IsAround text word → 0 < length word → list_all solid word ≡ true → trim text ≡ word
 around_trim text word a n h =
     ap (without_last is_whitespace)
-    (ap trim_start a.is ∙ blank_front a.before (word ++ a.behind) a.blank_before ∙ word_starts word a.behind n h)
+    (ap trim_start a.is ∙ blank_prefix a.before (word ++ a.behind) a.blank_before ∙ word_starts word a.behind n h)
     ∙ word_kept word a.behind h a.blank_behind
 
 -- ---- a word
@@ -475,7 +476,7 @@ rule_word word h k =
       unbounded = all_others (λ b. b == 58) word k;
     }
 
--- ---- a letter behind a B/S text
+-- ---- a letter after a B/S text
 
 abbrev names_other : List ℕ → Bool
 names_other end = bytes_eq (map to_ascii_uppercase end) (codes "V") || bytes_eq (map to_ascii_uppercase end) (codes "H")
@@ -508,13 +509,13 @@ some_of : (o : Option DigitSets) → is_some o ≡ true → (s : DigitSets) × (
 some_of None h = cc
 some_of (Some s) h = (s, refl)
 
-module _ (word front : List ℕ) (last : ℕ) (s : DigitSets) (w : word ≡ front ++ last ∷ []) (n : names_neighbours last ≡ true) (l : life_sets front ≡ Some s)
+module _ (word prefix : List ℕ) (last : ℕ) (s : DigitSets) (w : word ≡ prefix ++ last ∷ []) (n : names_neighbours last ≡ true) (l : life_sets prefix ≡ Some s)
   where
     names_others : names_other_neighbours word ≡ true
     names_others =
         and_from (is_some (life_sets (take (length word - 1) word))) (names_other (drop (length word - 1) word))
-        (ap (λ (t : List ℕ). is_some (life_sets t)) (front_is word front last w) ∙ ap is_some l)
-        (ap names_other (end_is word front last w) ∙ letter_names last n)
+        (ap (λ (t : List ℕ). is_some (life_sets t)) (prefix_is word prefix last w) ∙ ap is_some l)
+        (ap names_other (end_is word prefix last w) ∙ letter_names last n)
 
 -- ---- what an accepted text says
 
@@ -526,7 +527,7 @@ life_said word near s rule false e l h = let same : rule_with_sets near s ≡ ru
 is_other : (word : List ℕ) → life_sets word ≡ None → names_other_neighbours word ≡ false → list_any (λ b. b == 47) word ≡ false → IsOtherWord word
 is_other word none others slash = record {
   no_life = λ s l. let k : None ≡ Some s = sym none ∙ is_form_of_life word s l in cc;
-  no_neighbours = λ front last s w n l. let k : false ≡ true = sym others ∙ names_others word front last s w n (is_form_of_life front s l) in cc;
+  no_neighbours = λ prefix last s w n l. let k : false ≡ true = sym others ∙ names_others word prefix last s w n (is_form_of_life prefix s l) in cc;
   no_slash = all_others (λ b. b == 47) word slash;
 }
 
@@ -563,13 +564,13 @@ no_sets word h (Some s) e = absurd (h.no_life s (life_is_form word s e))
 no_letter : (word : List ℕ) → IsOtherWord word → (v : Bool) → names_other_neighbours word ≡ v → v ≡ false
 no_letter word h false e = refl
 no_letter word h true e =
-    let front = take (length word - 1) word in
+    let prefix = take (length word - 1) word in
     let end = drop (length word - 1) word in
-    let s = some_of (life_sets front) (left_of_and (is_some (life_sets front)) (names_other end) e) in
+    let s = some_of (life_sets prefix) (left_of_and (is_some (life_sets prefix)) (names_other end) e) in
     let p = named_end end (bytes_eq (map to_ascii_uppercase end) (codes "V")) (bytes_eq (map to_ascii_uppercase end) (codes "H")) refl refl
-    (right_of_and (is_some (life_sets front)) (names_other end) e) in
-    let w : word ≡ front ++ p.0 ∷ [] = sym (take-append-drop (length word - 1) word) ∙ ap (λ (t : List ℕ). front ++ t) p.1 in
-    absurd (h.no_neighbours front p.0 s.0 w p.2 (life_is_form front s.0 s.1))
+    (right_of_and (is_some (life_sets prefix)) (names_other end) e) in
+    let w : word ≡ prefix ++ p.0 ∷ [] = sym (take-append-drop (length word - 1) word) ∙ ap (λ (t : List ℕ). prefix ++ t) p.1 in
+    absurd (h.no_neighbours prefix p.0 s.0 w p.2 (life_is_form prefix s.0 s.1))
 
 life_answers : (word : List ℕ) (near : Near) (sets : DigitSets) → IsNearText near word sets → has_digit sets.births 0 ≡ false
     → life_or_other word (life_sets word) ≡ Ok (rule_with_sets near sets)
@@ -577,7 +578,7 @@ life_answers word Moore sets h quiet = ap (life_or_other word) (is_form_of_life 
     ∙ ap (λ v. cond v (Err BirthOnZero) (Ok (rule_with_sets Moore sets)))
     quiet
 life_answers word VonNeumann sets h quiet =
-    ap (life_or_other word) (no_form_with_v word h.front h.last h.is h.letter (life_sets word) refl)
+    ap (life_or_other word) (no_form_with_v word h.prefix h.last h.is h.letter (life_sets word) refl)
     ∙ ap (four_or_other word) (is_form_of_four word sets h)
     ∙ ap (λ v. cond v (Err BirthOnZero) (Ok (rule_with_sets VonNeumann sets))) quiet
 

@@ -1,4 +1,4 @@
--- Facts about texts: whitespace at the front, lengths, and texts that are the same.
+-- Facts about texts: whitespace at the beginning, lengths, and texts that are the same.
 use Rattle.std.proofs.Common.{◌≡◌, ℕ, ◌<◌, ◌≤◌, ◌^◌, Bool, true, false, cond, ◌&&◌, List, [], ◌∷◌, ◌++◌, length, take, decimal, bytes_eq, refl, sym, ap, ◌∙◌, arith, append-nil}
 use Rattle.std.proofs.lemmas.Bool.{and_parts}
 use Rattle.std.proofs.lemmas.Bool.Decides.{nat_tests}
@@ -31,13 +31,13 @@ not_blank b text h = ap (λ v. v && is_blank text) h
 pub start_stays : (b : ℕ) (text : List ℕ) → is_whitespace b ≡ false → trim_start (b ∷ text) ≡ b ∷ text
 start_stays b text h = ap (λ v. cond v (trim_start text) (b ∷ text)) h
 
--- ---- whitespace in front
+-- ---- whitespace at the beginning
 
-pub blank_front : (space text : List ℕ) → is_blank space ≡ true → trim_start (space ++ text) ≡ trim_start text
-blank_front [] text h = refl
-blank_front (b ∷ space) text h =
+pub blank_prefix : (space text : List ℕ) → is_blank space ≡ true → trim_start (space ++ text) ≡ trim_start text
+blank_prefix [] text h = refl
+blank_prefix (b ∷ space) text h =
     let parts = and_parts (is_whitespace b) (is_blank space) h in
-    ap (λ t. cond t (trim_start (space ++ text)) (b ∷ (space ++ text))) parts.0 ∙ blank_front space text parts.1
+    ap (λ t. cond t (trim_start (space ++ text)) (b ∷ (space ++ text))) parts.0 ∙ blank_prefix space text parts.1
 
 abbrev pub step_to : ℕ → List ℕ → Bool → Bool → List (List ℕ)
 step_to b text v w = cond v (words_of text) (cond w ((b ∷ []) ∷ words_of text) (onto_first b (words_of text)))

@@ -11,7 +11,7 @@ use Rattle.life_base.proofs.Basics.{right_of_and, left_of_and}
 
 -- ---- one line
 
--- a byte that is no line feed stands at the front of the first line
+-- a byte that is no line feed stands at the beginning of the first line
 whole_step : (b : ℕ) (bytes : List ℕ) → not (b == 10) ≡ true → whole_lines (b ∷ bytes) ≡ onto_next b (whole_lines bytes)
 whole_step b bytes h = ap (λ v. cond v ([] ∷ whole_lines bytes) (onto_next b (whole_lines bytes))) (not-true (b == 10) h)
 
@@ -44,7 +44,7 @@ has_feed : (bytes more : List ℕ) → has_no_feed (bytes ++ 10 ∷ more) ≡ fa
 has_feed [] more = refl
 has_feed (b ∷ bytes) more = and_right (not (b == 10)) (has_no_feed (bytes ++ 10 ∷ more)) (has_feed bytes more)
 
--- the rest is behind each line feed
+-- the rest is after each line feed
 rest_behind : (bytes more : List ℕ) → rest_line (bytes ++ 10 ∷ more) ≡ rest_line more
 rest_behind [] more = refl
 rest_behind (b ∷ bytes) more =
@@ -152,7 +152,7 @@ lines_are_joined bytes = record {
   only = λ lines rest are. (sym (whole_is bytes lines rest are), sym (rest_is bytes lines rest are));
 }
 
--- the bytes behind the last line feed have none
+-- the bytes after the last line feed have none
 pub rest_has_no_feed : (bytes : List ℕ) → has_no_feed (rest_line bytes) ≡ true
 rest_has_no_feed bytes = (are_joined bytes).behind
 

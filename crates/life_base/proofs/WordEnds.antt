@@ -47,7 +47,7 @@ first_word [] b h =
     ap (λ w. cond w [] ((b ∷ []) ∷ [])) h ∙ ap (λ i. cut i (b ∷ [])) (sym (further b [] h))
 first_word (c ∷ text) b h = word_step (is_whitespace c) b c text refl h (first_word text c)
 
--- a text with no whitespace at its front
+-- a text with no whitespace at its beginning
 abbrev Starts : List ℕ → Type 0
 Starts [] = Unit {0}
 Starts (b ∷ text) = is_whitespace b ≡ false
@@ -67,7 +67,7 @@ words_cut (b ∷ text) s =
     ∙ ap (λ i. cut i (b ∷ text)) (further b text s)
     ∙ ap (λ i. with_word (take i (b ∷ text)) (words_of (drop i (b ∷ text)))) (sym (further b text s))
 
--- the first word of a text, and those behind it
+-- the first word of a text, and those after it
 pub words_in : (text : List ℕ) (n : ℕ) → ends (trim_start text) ≡ n → words_of text ≡ with_word (take n (trim_start text)) (words_of (drop n (trim_start text)))
 words_in text n e =
     let t = trim_start text in
@@ -95,7 +95,7 @@ trim_shorter : (v : Bool) (b : ℕ) (text : List ℕ) → length (trim_start tex
 trim_shorter true b text h = omega arith
 trim_shorter false b text h = omega arith
 
--- a text without the whitespace at its front is no longer
+-- a text without the whitespace at its beginning is no longer
 pub length-trim_start : (text : List ℕ) → length (trim_start text) ≤ length text
 length-trim_start [] = omega arith
 length-trim_start (b ∷ text) = trim_shorter (is_whitespace b) b text (length-trim_start text)
@@ -104,7 +104,7 @@ length-trim_start (b ∷ text) = trim_shorter (is_whitespace b) b text (length-t
 pub split_length : (text : List ℕ) (n : ℕ) → length (take n text) + length (drop n text) ≡ length text
 split_length text n = sym (length-append (take n text) (drop n text)) ∙ ap length (take-append-drop n text)
 
--- a text has no words where it is empty without the whitespace at its front
+-- a text has no words where it is empty without the whitespace at its beginning
 empty_by : (text : List ℕ) → Starts text → is_empty text ≡ is_empty (words_of text)
 empty_by [] s = refl
 empty_by (b ∷ text) s = sym (ap is_empty (first_word text b s))

@@ -10,7 +10,7 @@ use Rattle.std.proofs.lemmas.Bool.Decides.{nat_tests}
 use Rattle.life_base.specs.Text.{is_empty}
 use Rattle.life_base.specs.Writing.{WritesPrefix}
 
--- a prefix of a front is one of the whole
+-- a prefix of a prefix is one of the whole
 pub prefix-grows : (a b : Option (List ℕ)) (xs ys : List ℕ) → WritesPrefix a b xs → WritesPrefix a b (xs ++ ys)
 prefix-grows a b xs ys w = record {
   count = w.count;

@@ -4,12 +4,12 @@ use Rattle.std.specs.Io.KnownBytes.{Consumes, IsAtEnd}
 
 -- these bytes were read, they were all, and at most `most`
 pub record ReadAll (most : ℕ) (old new : Option (List ℕ)) (bytes : List ℕ) : Type 0 where
-  pub taken : Consumes old new bytes
+  pub consumed : Consumes old new bytes
   pub ended : IsAtEnd new
   pub within : length bytes ≤ most
 
 -- more than `most` bytes came
 pub record CameBeyond (most : ℕ) (old new : Option (List ℕ)) : Type 0 where
   pub bytes : List ℕ
-  pub taken : Consumes old new bytes
+  pub consumed : Consumes old new bytes
   pub long : most < length bytes

@@ -13,7 +13,7 @@ pub record LinesRead : Type 0 where
 abbrev pub has_no_feed : List ℕ → Bool
 has_no_feed bytes = list_all (λ b. not (b == byte "\n")) bytes
 
--- one byte more at the front of the first line, if there is one
+-- one byte more at the beginning of the first line, if there is one
 abbrev pub onto_next : ℕ → List (List ℕ) → List (List ℕ)
 onto_next b [] = []
 onto_next b (line ∷ lines) = (b ∷ line) ∷ lines
@@ -23,7 +23,7 @@ abbrev pub whole_lines : List ℕ → List (List ℕ)
 whole_lines [] = []
 whole_lines (b ∷ bytes) = if b == byte "\n" then [] ∷ whole_lines bytes else onto_next b (whole_lines bytes)
 
--- the bytes behind the last line feed: a line that has not ended
+-- the bytes after the last line feed: a line that has not ended
 abbrev pub rest_line : List ℕ → List ℕ
 rest_line [] = []
 rest_line (b ∷ bytes) = if has_no_feed (b ∷ bytes) then b ∷ bytes else rest_line bytes
@@ -37,7 +37,7 @@ one_line (b ∷ bytes) = (b ∷ bytes) ∷ []
 abbrev pub LinesAreWhole : Type 0
 LinesAreWhole = (bytes : List ℕ) → lines_of bytes ≡ whole_lines bytes ++ one_line (rest_line bytes)
 
--- behind more bytes the lines that had ended stay, and the rest goes on
+-- after more bytes the lines that had ended stay, and the rest goes on
 pub record IsContinued (bytes more : List ℕ) : Type 0 where
   pub whole : whole_lines (bytes ++ more) ≡ whole_lines bytes ++ whole_lines (rest_line bytes ++ more)
   pub rest : rest_line (bytes ++ more) ≡ rest_line (rest_line bytes ++ more)
@@ -47,26 +47,26 @@ pub record IsContinued (bytes more : List ℕ) : Type 0 where
 abbrev pub LinesContinue : Type 0
 LinesContinue = (bytes more : List ℕ) → IsContinued bytes more
 
--- behind bytes without a line feed no line has ended, and the rest has them at its end
+-- after bytes without a line feed no line has ended, and the rest has them at its end
 pub record IsLonger (bytes more : List ℕ) : Type 0 where
   pub whole : whole_lines (bytes ++ more) ≡ whole_lines bytes
   pub rest : rest_line (bytes ++ more) ≡ rest_line bytes ++ more
 
--- behind bytes without a line feed, and a line feed, one line more has ended: the rest with these bytes
+-- after bytes without a line feed, and a line feed, one line more has ended: the rest with these bytes
 pub record IsEnded (bytes end : List ℕ) : Type 0 where
   pub whole : whole_lines (bytes ++ end ++ codes "\n") ≡ whole_lines bytes ++ (rest_line bytes ++ end) ∷ []
   pub rest : rest_line (bytes ++ end ++ codes "\n") ≡ []
 
--- what bytes without a line feed do to the lines, alone or with one behind them
+-- what bytes without a line feed do to the lines, alone or with one after them
 abbrev pub LinesGrow : Type 0
 LinesGrow = (bytes more : List ℕ) → has_no_feed more ≡ true → IsLonger bytes more × IsEnded bytes more
 
--- the lines one after another, each with a line feed behind it
+-- the lines one after another, each with a line feed after it
 abbrev pub joined_lines : List (List ℕ) → List ℕ
 joined_lines [] = []
 joined_lines (line ∷ lines) = line ++ byte "\n" ∷ joined_lines lines
 
--- the bytes are these lines, each with a line feed behind it, and a rest; and no line feed is in a line or in the rest
+-- the bytes are these lines, each with a line feed after it, and a rest; and no line feed is in a line or in the rest
 pub record AreJoined (bytes : List ℕ) (lines : List (List ℕ)) (rest : List ℕ) : Type 0 where
   pub is : bytes ≡ joined_lines lines ++ rest
   pub whole : list_all has_no_feed lines ≡ true
@@ -77,11 +77,11 @@ pub record AreOnlyJoined (bytes : List ℕ) : Type 0 where
   pub are : AreJoined bytes (whole_lines bytes) (rest_line bytes)
   pub only : (lines : List (List ℕ)) (rest : List ℕ) → AreJoined bytes lines rest → (lines ≡ whole_lines bytes) × (rest ≡ rest_line bytes)
 
--- the whole lines and the rest, told by what joins them
+-- the whole lines and the rest, by what joins them
 abbrev pub LinesAreJoined : Type 0
 LinesAreJoined = (bytes : List ℕ) → AreOnlyJoined bytes
 
--- these are the lines with their numbers, counted from 1; a number above 2 ^ 64 - 1 is told as that
+-- these are the lines with their numbers, counted from 1; a number above 2 ^ 64 - 1 is reported as that
 pub record AreNumbered (lines : List (List ℕ)) (numbered : List (ℕ × List ℕ)) : Type 0 where
   pub texts : map (λ (p : ℕ × List ℕ). p.1) numbered ≡ lines
   pub numbers : (before : List (ℕ × List ℕ)) (number : ℕ) (line : List ℕ) (rest : List (ℕ × List ℕ)) → numbered ≡ before ++ (number, line) ∷ rest

@@ -1,4 +1,4 @@
--- Which fault a refused file has, for any grammar of lines: its place, by fronts of files, and its kind. The rules of this file
+-- Which fault a refused file has, for any grammar of lines: its place, by prefixes of files, and its kind. The rules of this file
 -- are the project's own.
 use Rattle.std.specs.Prelude.{◌≡◌, ℕ, ◌+◌, ◌-◌, ◌^◌, ◌<◌, ◌≤◌, min, ◌⊎◌, Bool, true, false, cond, List, [], ◌∷◌, ◌++◌, length, take, codes, Option, Some, Result, Err}
 use Rattle.std.specs.List.{slice_index_or}
@@ -7,7 +7,7 @@ use Rattle.life_base.specs.declared.kind.Kind.TheVariants.{Memory}
 use Rattle.life_base.specs.declared.kind.Kind.TheVariants as kinds
 use Rattle.life_base.specs.declared.fault.Fault.{Fault}
 
--- the lines that can make a whole file of the front of one: a blank macrocell, a blank RLE, a table without transitions
+-- the lines that can make a whole file of a prefix of one: a blank macrocell, a blank RLE, a table without transitions
 abbrev pub continuations : List (List ℕ)
 continuations =
     codes "[M2]" ∷ codes "x = 1, y = 1" ∷ codes "@RULE a" ∷ codes "@TABLE" ∷ codes "n_states:2"
@@ -19,11 +19,11 @@ kept_lines [] lines = []
 kept_lines (keep ∷ keeps) [] = []
 kept_lines (keep ∷ keeps) (line ∷ lines) = cond keep (line ∷ kept_lines keeps lines) (kept_lines keeps lines)
 
--- the lines are the front of a file of the grammar: none, some or all of the continuations make a whole one of them
+-- the lines are a prefix of a file of the grammar: none, some or all of the continuations make a whole one of them
 abbrev pub Prefix : (List (List ℕ) → Type 0) → List (List ℕ) → Type 0
 Prefix Grammar lines = (keeps : List Bool) × Grammar (lines ++ kept_lines keeps continuations)
 
--- n is the least number, counted from 1, for which the first n lines are no front of a file; one more than there are lines,
+-- n is the least number, counted from 1, for which the first n lines are no prefix of a file; one more than there are lines,
 -- if all are one
 pub record IsPlace (Grammar : List (List ℕ) → Type 0) (lines : List (List ℕ)) (n : ℕ) : Type 0 where
   pub counted : 1 ≤ n
@@ -31,8 +31,8 @@ pub record IsPlace (Grammar : List (List ℕ) → Type 0) (lines : List (List �
   pub before : (k : ℕ) → k < n → Prefix Grammar (take k lines)
   pub here : n ≤ length lines → Prefix Grammar (take n lines) → ⊥
 
--- Why a file isn't of the grammar. `Breaks front line kind` tells the first rule that a line breaks behind a front of a file
--- (behind other lines it means nothing), and `missing lines` what the lines lack that end behind such a front.
+-- Why a file isn't of the grammar. `Breaks prefix line kind` says which rule is the first that a line breaks after a prefix of a file
+-- (after other lines it means nothing), and `missing lines` what the lines lack that end after such a prefix.
 pub record IsRefusal (Grammar : List (List ℕ) → Type 0) (Breaks : List (List ℕ) → List ℕ → Kind → Type 0)
     (missing : List (List ℕ) → Option Kind) (lines : List (List ℕ)) (fault : Fault) : Type 0 where
   pub refused : Grammar lines → ⊥
@@ -44,7 +44,7 @@ pub record IsRefusal (Grammar : List (List ℕ) → Type 0) (Breaks : List (List
 
 -- the relation of a function that answers the first rule which a line breaks
 abbrev pub BreaksBy : (List (List ℕ) → List ℕ → Option Kind) → List (List ℕ) → List ℕ → Kind → Type 0
-BreaksBy broken front line kind = broken front line ≡ Some kind
+BreaksBy broken prefix line kind = broken prefix line ≡ Some kind
 
 -- the fault that names no line
 abbrev pub fault_of : Kind → Fault

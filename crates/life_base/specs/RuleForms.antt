@@ -1,4 +1,4 @@
--- What rule texts say, told as what each text is. The B/S notation, and what its digits mean, are of Golly Help, QuickLife; names and the
+-- What rule texts say, by what each text is. The B/S notation, and what its digits mean, are of Golly Help, QuickLife; names and the
 -- bounds of a text are the project's own.
 use Rattle.std.specs.Prelude.{◌≡◌, ◌⊎◌, ◌↔◌, ℕ, ◌<◌, ◌≤◌, Bool, true, false, not, ◌||◌, List, [], ◌∷◌, ◌++◌, length, map, ◌==◌, codes, Some, Ok}
 use Rattle.std.specs.Char.{is_ascii_graphic, to_ascii_uppercase}
@@ -34,13 +34,13 @@ pub record IsLifeText (text : List ℕ) (sets : DigitSets) : Type 0 where
 
 -- The text is a von Neumann rule with these sets: a B/S rule that begins with `B` or `b`, with no digit above 4, and then `V` or `v`.
 pub record IsFourText (text : List ℕ) (sets : DigitSets) : Type 0 where
-  pub front : List ℕ
+  pub prefix : List ℕ
   pub last : ℕ
-  pub is : text ≡ front ++ last ∷ []
+  pub is : text ≡ prefix ++ last ∷ []
   pub letter : to_ascii_uppercase last ≡ byte "V"
   pub rest : List ℕ
-  pub begins : map to_ascii_uppercase front ≡ byte "B" ∷ rest
-  pub form : IsLifeText front sets
+  pub begins : map to_ascii_uppercase prefix ≡ byte "B" ∷ rest
+  pub form : IsLifeText prefix sets
   pub births : sets.births < 32
   pub survivals : sets.survivals < 32
 
@@ -60,10 +60,10 @@ pub record IsRuleWord (word : List ℕ) : Type 0 where
 abbrev pub names_neighbours : ℕ → Bool
 names_neighbours b = b == byte "V" || b == byte "v" || b == byte "H" || b == byte "h"
 
--- the word is no B/S rule, none of the eight neighbours behind which a letter names others, and has no slash
+-- the word is no B/S rule, none of the eight neighbours after which a letter names others, and has no slash
 pub record IsOtherWord (word : List ℕ) : Type 0 where
   pub no_life : (sets : DigitSets) → IsLifeText word sets → ⊥
-  pub no_neighbours : (front : List ℕ) (last : ℕ) (sets : DigitSets) → word ≡ front ++ last ∷ [] → names_neighbours last ≡ true → IsLifeText front sets → ⊥
+  pub no_neighbours : (prefix : List ℕ) (last : ℕ) (sets : DigitSets) → word ≡ prefix ++ last ∷ [] → names_neighbours last ≡ true → IsLifeText prefix sets → ⊥
   pub no_slash : list_all (λ b. not (b == byte "/")) word ≡ true
 
 -- the word says this rule: a B/S rule without a birth on 0, or itself as a name

@@ -35,7 +35,7 @@ digits_of set = map (λ d. byte "0" + d) (filter (has_digit set) counts)
 abbrev pub is_count_digit : ℕ → Bool
 is_count_digit b = nat_le (byte "0") b && nat_le b (byte "8")
 
--- the texts before, between and behind the bytes that are no digits `0` to `8`
+-- the texts before, between and after the bytes that are no digits `0` to `8`
 abbrev pub digit_groups : List ℕ → List (List ℕ)
 digit_groups text = slice_split (λ b. not (is_count_digit b)) text
 
@@ -113,7 +113,7 @@ abbrev pub life_or_other : List ℕ → Option DigitSets → Result Rule Kind
 life_or_other text (Some sets) = life_rule Moore sets
 life_or_other text None = four_or_other text (four_sets text)
 
--- the rule of a text without whitespace at its ends, or why it is none: the first of these tests decides, and behind them `otherwise`, which has the
+-- the rule of a text without whitespace at its ends, or why it is none: the first of these tests decides, and after them `otherwise`, which has the
 -- sets of a text of one of the five forms. A colon is that of a bounded grid (Golly Help, Bounded Grids).
 abbrev pub tested_rule : (List ℕ → Option DigitSets → Result Rule Kind) → List ℕ → Result Rule Kind
 tested_rule otherwise text =
@@ -140,7 +140,7 @@ moore_rule_of text = tested_rule moore_or_other (trim text)
 abbrev pub sets_text : ℕ → ℕ → List ℕ
 sets_text births survivals = codes "B" ++ digits_of births ++ codes "/S" ++ digits_of survivals
 
--- the text of the digits, with the letter of the neighbours behind it
+-- the text of the digits, with the letter of the neighbours after it
 abbrev pub with_letter : Near → List ℕ → List ℕ
 with_letter Moore text = text
 with_letter VonNeumann text = text ++ codes "V"

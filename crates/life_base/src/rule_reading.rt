@@ -130,8 +130,8 @@ fn four_sets(alloc: Global, text: &[u8]) -> Result<Option<(u16, u16)>, Kind>
     ensures err { IfErr result IsMemory }
 {
     match text {
-        [front @ .., b'V' | b'v'] if begins_with_b(front) => Ok(up_to_four(life_sets(
-            alloc, front,
+        [prefix @ .., b'V' | b'v'] if begins_with_b(prefix) => Ok(up_to_four(life_sets(
+            alloc, prefix,
         )?)),
         _ => Ok(None),
     }
@@ -143,7 +143,7 @@ fn names_other_neighbours(alloc: Global, text: &[u8]) -> Result<bool, Kind>
     ensures err { IfErr result IsMemory }
 {
     match text {
-        [front @ .., b'V' | b'v' | b'H' | b'h'] => Ok(life_sets(alloc, front)?.is_some()),
+        [prefix @ .., b'V' | b'v' | b'H' | b'h'] => Ok(life_sets(alloc, prefix)?.is_some()),
         _ => Ok(false),
     }
 }

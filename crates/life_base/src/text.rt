@@ -21,10 +21,10 @@ pub fn is_blank(text: &[u8]) -> bool
 }
 
 /// Whether the text begins with these bytes.
-pub fn begins_with(text: &[u8], front: &[u8]) -> bool
-    ensures { result ≡ begins_with text.now front.now }
+pub fn begins_with(text: &[u8], prefix: &[u8]) -> bool
+    ensures { result ≡ begins_with text.now prefix.now }
 {
-    text.starts_with(front)
+    text.starts_with(prefix)
 }
 
 /// The text without the whitespace at its beginning.

@@ -15,7 +15,7 @@ use Rattle.life_block.proofs.SquareLemmas.{place-small}
 
 -- ---- four squares side by side
 
--- the bits of a word behind another one
+-- the bits of a word after another one
 pub behind : (low high n m i : ℕ) → low < 2 ^ n → i ≡ n + m → bit_at (high * 2 ^ n + low) i ≡ bit_at high m
 behind low high n m i small is =
     let back : i - n ≡ m = omega arith in

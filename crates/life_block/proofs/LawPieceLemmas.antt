@@ -244,7 +244,7 @@ module _ {X : Type 0} {knows : X → Id → Type 0} {content : X → Id → Tree
       → IsOfLevel (knows old) (content old) k q → IsPieceBy Fits x y (content old q) → IsPieceBy Fits x y (content new q)
   piece-kept Fits x y keeps at h = subst (IsPieceBy Fits x y) (sym (keeps.contents _ at.known).1) h
 
-  -- four answers of calls behind one another, joined
+  -- four answers of calls after one another, joined
   pub joined-pieces : {s t u v : X} {a b c d : Id} {n : ℕ} (tree : Tree) (Fits : ℤ → ℤ → ℕ → Type 0) (k : ℕ) (x y : ℤ) → n ≡ k
       → KeepsSquares knows content stored most s t → KeepsSquares knows content stored most t u → KeepsSquares knows content stored most u v
       → IsOfLevel (knows s) (content s) n a → IsOfLevel (knows t) (content t) n b → IsOfLevel (knows u) (content u) n c

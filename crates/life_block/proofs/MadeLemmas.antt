@@ -1,4 +1,4 @@
--- A square that is made of four squares, which are made one behind the other, each of its parts alone.
+-- A square that is made of four squares, which are made one after the other, each of its parts alone.
 use Rattle.std.proofs.Common.{◌≡◌, ℕ, List, Result, Ok, Err, IfOk, inl, inr, ap, ◌∙◌}
 use Rattle.life_base.specs.Tree.{Tree, quad, depth}
 use Rattle.life_quad.specs.Keeping.{KeepsSquares, AddsOnly}
@@ -9,7 +9,7 @@ use Rattle.life_block.specs.Pieces.{IsOfLevel}
 use Rattle.life_quad.specs.declared.id.Id.{Id}
 use Rattle.life_quad.proofs.KeepingLemmas.{keeps-then, adds-as, adds-then}
 
--- the four squares, behind the calls that make them
+-- the four squares, after the calls that make them
 pub quarters-made : {S : Type 0} {knows : S → Id → Type 0} {content : S → Id → Tree} {stored : S → List Tree} {most : S → ℕ} {s t u v : S} {p q r w : Id}
     {a b c d : Tree} → KeepsSquares knows content stored most s t → KeepsSquares knows content stored most t u → KeepsSquares knows content stored most u v
     → knows s p → knows t q → knows u r → content s p ≡ a → content t q ≡ b → content u r ≡ c → content v w ≡ d

@@ -88,12 +88,12 @@ module _ (P : Tree → Type 0) (f : ℤ → ℤ → ℕ) (k : ℕ) (x y : ℤ) w
 
 module _ {S : Type 0} {knows : S → Id → Type 0} {content : S → Id → Tree} {stored : S → List Tree} {most : S → ℕ} {n : ℕ} (f : ℤ → ℤ → ℕ) (k : ℕ)
     (full : (s : S) (id : Id) → knows s id → IsFull (content s id)) (level : n ≡ k) where
-  -- a square that was answered as a piece is the square of its level still, behind further calls
+  -- a square that was answered as a piece is the square of its level still, after further calls
   still-is : {s t : S} {id : Id} (x y : ℤ) → KeepsSquares knows content stored most s t → IsOfLevel (knows s) (content s) n id → IsPiece f x y (content s id)
       → content t id ≡ square_from f k x y
   still-is x y keeps at h = (keeps.contents _ at.known).1 ∙ piece-is f k x y _ (full _ _ at.known) (at.level ∙ level) h
 
-  -- four answers of calls behind one another
+  -- four answers of calls after one another
   pub parts-of_pieces : {s t u v : S} {a b c d : Id} (x y : ℤ)
       → KeepsSquares knows content stored most s t → KeepsSquares knows content stored most t u → KeepsSquares knows content stored most u v
       → IsOfLevel (knows s) (content s) n a → IsOfLevel (knows t) (content t) n b → IsOfLevel (knows u) (content u) n c → IsOfLevel (knows v) (content v) n d

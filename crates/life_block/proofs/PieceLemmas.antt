@@ -124,9 +124,9 @@ module _ {S : Type 0} {knows : S → Id → Type 0} {content : S → Id → Tree
 pub record IsZero (cells : ℤ → ℤ → ℕ) (west north east south : ℤ) : Type 0 where
   pub zero_at : (x y : ℤ) → west ≤ℤ x → x <ℤ east → north ≤ℤ y → y <ℤ south → cells x y ≡ 0
 
-pub IsZero-beside : (cells : ℤ → ℤ → ℕ) (west middle north east south : ℤ) → IsZero cells west north middle south → IsZero cells middle north east south
+pub IsZero-adjacent : (cells : ℤ → ℤ → ℕ) (west middle north east south : ℤ) → IsZero cells west north middle south → IsZero cells middle north east south
     → IsZero cells west north east south
-IsZero-beside cells west middle north east south p q =
+IsZero-adjacent cells west middle north east south p q =
     record { zero_at = λ x y w e n s. by_lt_z x middle (λ l. p.zero_at x y w l n s) (λ l. q.zero_at x y l e n s) }
 
 pub IsZero-below : (cells : ℤ → ℤ → ℕ) (west north middle east south : ℤ) → IsZero cells west north east middle → IsZero cells west middle east south
@@ -154,8 +154,8 @@ zero-of_blank cells (suc k) x y h =
     let fx : step_ahead (step_ahead x (2 ^ k)) (2 ^ k) ≡ step_ahead x (2 ^ suc k) = omega (arith, ints, double) in
     let fy : step_ahead (step_ahead y (2 ^ k)) (2 ^ k) ≡ step_ahead y (2 ^ suc k) = omega (arith, ints, double) in
     subst (λ e. IsZero cells x y e (step_ahead y (2 ^ suc k))) fx (subst (λ s. IsZero cells x y (step_ahead (step_ahead x (2 ^ k)) (2 ^ k)) s) fy
-    (IsZero-below cells x y (step_ahead y (2 ^ k)) _ _ (IsZero-beside cells x (step_ahead x (2 ^ k)) y _ _ nw ne)
-    (IsZero-beside cells x (step_ahead x (2 ^ k)) (step_ahead y (2 ^ k)) _ _ sw se)))
+    (IsZero-below cells x y (step_ahead y (2 ^ k)) _ _ (IsZero-adjacent cells x (step_ahead x (2 ^ k)) y _ _ nw ne)
+    (IsZero-adjacent cells x (step_ahead x (2 ^ k)) (step_ahead y (2 ^ k)) _ _ sw se)))
 
 pub blank-of_zero : (cells : ℤ → ℤ → ℕ) (k : ℕ) (x y : ℤ) → IsZero cells x y (step_ahead x (2 ^ k)) (step_ahead y (2 ^ k)) → IsPiece cells x y (blank k)
 blank-of_zero cells zero x y h = sym (h.zero_at x y (omega (arith, ints)) (omega (arith, ints)) (omega (arith, ints)) (omega (arith, ints)))
@@ -234,8 +234,8 @@ next-of_blank rule content cells k x y id nine quiet is all h =
         → IsZero cells (step_back x (2 ^ k)) v (step_ahead (step_ahead x (2 ^ k)) (2 ^ k)) (step_ahead v (2 ^ k))
     row v three e p =
         let a : step_ahead (step_back x (2 ^ k)) (2 ^ k) ≡ x = omega (arith, ints) in
-        IsZero-beside cells _ (step_ahead x (2 ^ k)) v _ _
-        (IsZero-beside cells _ x v _ _ (subst (λ u. IsZero cells (step_back x (2 ^ k)) v u (step_ahead v (2 ^ k))) a (at _ v _ e.before p.before))
+        IsZero-adjacent cells _ (step_ahead x (2 ^ k)) v _ _
+        (IsZero-adjacent cells _ x v _ _ (subst (λ u. IsZero cells (step_back x (2 ^ k)) v u (step_ahead v (2 ^ k))) a (at _ v _ e.before p.before))
         (at x v _ e.here p.here)) (at _ v _ e.after p.after)
 
     around : IsZero cells (step_back x (2 ^ k)) (step_back y (2 ^ k)) (step_ahead (step_ahead x (2 ^ k)) (2 ^ k)) (step_ahead (step_ahead y (2 ^ k)) (2 ^ k))

@@ -246,7 +246,7 @@ quarters-at knows content t q b k full level is nw ne sw se known_b blank_b leve
       blank_other = blank_b;
     }
 
--- no cell before the square's first column or row, or behind its last
+-- no cell before the square's first column or row, or after its last
 pub record IsAlone (cells : ℤ → ℤ → ℕ) (start : ℤ) (half : ℕ) : Type 0 where
   pub west : (x y : ℤ) → x <ℤ start → cells x y ≡ 0
   pub north : (x y : ℤ) → y <ℤ start → cells x y ≡ 0

@@ -85,8 +85,8 @@ fn next_of_middle<S: Squares>(
     if level == 3 {
         return next_of_leaves(squares, rule, sixteen);
     }
-    let nw = next_of(squares, memory, rule, level, &sixteen.front().western())?;
-    let ne = next_of(squares, memory, rule, level, &sixteen.front().eastern())?;
+    let nw = next_of(squares, memory, rule, level, &sixteen.north().western())?;
+    let ne = next_of(squares, memory, rule, level, &sixteen.north().eastern())?;
     let sw = next_of(squares, memory, rule, level, &sixteen.rear().western())?;
     let se = next_of(squares, memory, rule, level, &sixteen.rear().eastern())?;
     squares.join(nw, ne, sw, se)

@@ -139,7 +139,7 @@ impl<T: Copy> Four<T> {
     }
 
     /// The first three.
-    pub(crate) fn front(&self) -> Three<T>
+    pub(crate) fn north(&self) -> Three<T>
         ensures { result ≡ first_three self.now }
     {
         Three::of(self.first, self.second, self.third)
@@ -158,7 +158,7 @@ impl<T: Copy> Three<Four<T>> {
     pub(crate) fn western(&self) -> Three<Three<T>>
         ensures { result ≡ western self.now }
     {
-        Three::of(self.before.front(), self.here.front(), self.after.front())
+        Three::of(self.before.north(), self.here.north(), self.after.north())
     }
 
     /// The three eastern ones.

@@ -128,8 +128,8 @@ fn next_of_middle<S: Squares, T: Squares, L: Law>(
         → IsPieceBy (IsNextAt (L.answers law.old) (L.bound law.old) cells) x y
         (T.content to.new r)) }
 {
-    let nw = next_of(from, to, memory, law, level, &sixteen.front().western())?;
-    let ne = next_of(from, to, memory, law, level, &sixteen.front().eastern())?;
+    let nw = next_of(from, to, memory, law, level, &sixteen.north().western())?;
+    let ne = next_of(from, to, memory, law, level, &sixteen.north().eastern())?;
     let sw = next_of(from, to, memory, law, level, &sixteen.rear().western())?;
     let se = next_of(from, to, memory, law, level, &sixteen.rear().eastern())?;
     to.join(nw, ne, sw, se).ok()

@@ -109,8 +109,8 @@ pub(crate) fn next_leaves(sixteen: &Four<Four<u64>>, rule: &LifeRule) -> Four<Fo
         → square_of_leaves result ≡ square_from (next_life rule.now cells) 4 x y }
 {
     Four::of(
-        next_cells(&sixteen.front().western(), rule),
-        next_cells(&sixteen.front().eastern(), rule),
+        next_cells(&sixteen.north().western(), rule),
+        next_cells(&sixteen.north().eastern(), rule),
         next_cells(&sixteen.rear().western(), rule),
         next_cells(&sixteen.rear().eastern(), rule),
     )

@@ -17,7 +17,7 @@ use Rattle.life_rle.specs.Laws.{RleTextReadsBack}
 use Rattle.life_rle.specs.Written.{rle_text}
 use Rattle.life_canon.specs.Universe.{Universe, IsSame, IsOnPlane, whole, rle_universe, square_universe}
 use Rattle.life_canon.specs.Files.{Reads, Refuses, Same, as_rle}
-use Rattle.life_canon.specs.Feeding.{RefusesFront}
+use Rattle.life_canon.specs.Feeding.{RefusesPrefix}
 use Rattle.life_canon.specs.Laws.{RleTextsAreFiles, RleTextsKeepPatterns}
 use Rattle.life_canon.specs.Least.{IsLeastText}
 use Rattle.life_canon.specs.Listing.{canonical_file, canon_text}
@@ -42,10 +42,10 @@ read-stays top bytes old new pattern k r =
 
 -- what refuses a first piece refuses its bytes
 pub feed-fault : (store : Nodes) (before piece : List ℕ) (fault : Fault) → before ≡ [] → IsShortageOf store fault
-    ⊎ RefusesFront MAX_LEVEL (before ++ piece) fault
+    ⊎ RefusesPrefix MAX_LEVEL (before ++ piece) fault
     → RefusesIn MAX_LEVEL piece store fault
 feed-fault store before piece fault e (inl want) = inr want
-feed-fault store before piece fault e (inr front) = inl (subst (λ bytes. Refuses MAX_LEVEL (bytes ++ piece) fault) e front.refuses)
+feed-fault store before piece fault e (inr prefix) = inl (subst (λ bytes. Refuses MAX_LEVEL (bytes ++ piece) fault) e prefix.refuses)
 
 -- ---- the canonical text
 

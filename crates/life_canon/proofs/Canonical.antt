@@ -36,9 +36,9 @@ deeper m {k = k} s h hs i =
     omega arith
 
 pub record IsLast (all : List Tree) (t : Tree) : Type 0 where
-  pub front : List Tree
-  pub is : all ≡ front ++ t ∷ []
-  pub fresh : is_in front t ≡ false
+  pub prefix : List Tree
+  pub is : all ≡ prefix ++ t ∷ []
+  pub fresh : is_in prefix t ≡ false
 
 pub listed-last : (m : ℕ) {k : ℕ} {t : Tree} → 1 ≤ m → HasDepth k t → is_small m t ≡ false → IsLast (listed_squares t m) t
 unfolding listed_squares
@@ -66,7 +66,7 @@ listed-last m le (quad_depth {k = k} {nw = a} {ne = b} {sw = c} {se = d} p q r s
         ]
       ])
     ] in
-    record { front = ld; is = with_walk [] a b c d m h ∙ with_new-fresh ld t fresh; fresh = fresh }
+    record { prefix = ld; is = with_walk [] a b c d m h ∙ with_new-fresh ld t fresh; fresh = fresh }
 
 -- ---- the cells of a valid macrocell file
 
@@ -210,19 +210,19 @@ listed-blank t m h = ap (with_all []) (walk-small t m (or_left _ _ h))
 -- the last line of a list of squares, and what its number stands for
 number-last : (all : List Tree) {k : ℕ} {t : Tree} → HasDepth (suc k) t → is_blank t ≡ false → IsLast all t → number_of_quarter all t ≡ length all
 number-last all (quad_depth {nw = a} {ne = b} {sw = c} {se = d} p q r s) h l =
-    number-place all a b c d h ∙ ap suc (ap (λ v. place v (quad a b c d)) l.is ∙ place-last l.front (quad a b c d) l.fresh)
-    ∙ sym (ap length l.is ∙ length-append l.front (quad a b c d ∷ []) ∙ add-one (length l.front))
+    number-place all a b c d h ∙ ap suc (ap (λ v. place v (quad a b c d)) l.is ∙ place-last l.prefix (quad a b c d) l.fresh)
+    ∙ sym (ap length l.is ∙ length-append l.prefix (quad a b c d ∷ []) ∙ add-one (length l.prefix))
 
 root_level-of : (rule : Rule) (all : List Tree) (t : Tree) → IsLast all t → root_level (lines_for rule all) ≡ depth t
 root_level-of rule all t l =
-    let n : length all ≡ suc (length l.front) = ap length l.is ∙ length-append l.front (t ∷ []) ∙ add-one (length l.front) in
-    let m : length (lines_for rule all) ≡ suc (length l.front) = length-lines_for rule all ∙ n in
-    let i : length (lines_for rule all) - 1 ≡ length l.front = ap (λ v. v - 1) m ∙ less_one (length l.front) in
+    let n : length all ≡ suc (length l.prefix) = ap length l.is ∙ length-append l.prefix (t ∷ []) ∙ add-one (length l.prefix) in
+    let m : length (lines_for rule all) ≡ suc (length l.prefix) = length-lines_for rule all ∙ n in
+    let i : length (lines_for rule all) - 1 ≡ length l.prefix = ap (λ v. v - 1) m ∙ less_one (length l.prefix) in
     root_level-last (lines_for rule all) (subst (λ v. 0 < v) (sym m) (omega arith))
     ∙ ap (λ v. level_of (line_at (lines_for rule all) v)) i
-    ∙ ap level_of (get_or-map (line_of rule all) all (length l.front) (point 0) (Leaf []) (omega arith))
-    ∙ ap (λ v. level_of (line_of rule all (get_or v (length l.front) (point 0)))) l.is
-    ∙ ap (λ v. level_of (line_of rule all v)) (get_or-append_seam l.front t [] (point 0))
+    ∙ ap level_of (get_or-map (line_of rule all) all (length l.prefix) (point 0) (Leaf []) (omega arith))
+    ∙ ap (λ v. level_of (line_of rule all (get_or v (length l.prefix) (point 0)))) l.is
+    ∙ ap (λ v. level_of (line_of rule all v)) (get_or-append_seam l.prefix t [] (point 0))
     ∙ level-line_of rule all t
 
 -- the root of the lines of a nonblank square is that square
@@ -245,7 +245,7 @@ square_file-root rule generation {k = k} {t = t} le h g b =
     ∙ tree_of-number rule all (λ s i. listed-quarters t (least_level rule) s (least-one rule) i) h g (λ z. le)
     (listed-itself t (least_level rule) (least-one rule)) in
     record {
-      some = subst (λ z. 0 < z) (sym (length-lines_for rule all ∙ ap length last.is ∙ length-append last.front (t ∷ []) ∙ add-one (length last.front)))
+      some = subst (λ z. 0 < z) (sym (length-lines_for rule all ∙ ap length last.is ∙ length-append last.prefix (t ∷ []) ∙ add-one (length last.prefix)))
           (omega arith);
       level = r;
       root = ap (λ z. tree_of lines z (length lines)) r ∙ e;

@@ -123,7 +123,7 @@ pub leaf-cells : (t : Tree) (n : ℕ) → IsFull t → depth t ≡ 3 → HasStat
 leaf-cells t n full deep states is =
     is ∙ ap population (sym (leaf_tree-is (subst (λ k. HasDepth k t) deep (full-depth t full)) (states-below 1 t states)))
 
--- ---- a line behind others
+-- ---- a line after others
 
 line_counts-more : (counts : List ℕ) (lines : List Line) (line : Line)
     → line_counts counts (lines ++ line ∷ []) ≡ line_counts counts lines ++ line_count (line_counts counts lines) line ∷ []

@@ -1,4 +1,4 @@
--- The first line feed of a piece, and the bytes before and behind it.
+-- The first line feed of a piece, and the bytes before and after it.
 use Rattle.std.proofs.Common.{◌≡◌, ℕ, zero, suc, ◌+◌, ◌<◌, ◌≤◌, Bool, true, false, not, ◌&&◌, List, [], ◌∷◌, ◌++◌, length, take, drop, get_or, refl, ap, sym, ◌∙◌, arith, ltb, Option, Some, None, append_assoc, drop-cons, ◌==◌, position, ltb-false, take-append-drop}
 use Rattle.std.specs.List.{position_or_len}
 use Rattle.std.proofs.lemmas.Bool.Decides.{nat_tests}
@@ -44,7 +44,7 @@ feed-before bytes i h = before-feed bytes i (position-Some is_feed bytes i 0 h).
 is-ten : (b : ℕ) → is_feed b ≡ true → b ≡ 10
 is-ten b h = grind (arith, nat_tests)
 
--- the bytes are those before it, the line feed and those behind it
+-- the bytes are those before it, the line feed and those after it
 pub feed-split : (bytes : List ℕ) (i : ℕ) → position is_feed bytes ≡ Some i → bytes ≡ take i bytes ++ 10 ∷ drop (i + 1) bytes
 feed-split bytes i h =
     let p = position-Some is_feed bytes i 0 h in

@@ -25,7 +25,7 @@ use Rattle.life_base.specs.declared.cell.Run.{Run}
 use Rattle.life_rle.proofs.RunsLaws.{runs_are_cells, blank_outside}
 use Rattle.life_rle.proofs.Unique.{IsRle-unique}
 use Rattle.life_rle.proofs.ValidFiles.{files_are_valid as rles_are_valid}
-use Rattle.life_rle.proofs.FrontLaws.{first_of}
+use Rattle.life_rle.proofs.PrefixLaws.{first_of}
 use Rattle.life_canon.specs.Universe.{Universe, macrocell_universe, rle_universe, corner, IsBlankOutside, IsOnPlane}
 use Rattle.life_canon.specs.Files.{Says, as_macrocell, as_rle, Reads, is_macrocell}
 use Rattle.life_canon.specs.Laws.{FormatsDiffer, FilesAreUnique}
@@ -79,9 +79,9 @@ unmarked-first level lines file u m = by u.before refl u.preamble
         let f = preamble-first level default_position file.position line before p in
         macrocell-opens level line f.0 (ap is_macrocell (sym (u.whole ∙ ap (λ b. b ++ u.header ∷ u.body) e)) ∙ m) f.1
 
-front-first : (front : List (List ℕ)) (last : List ℕ) (more : List (List ℕ)) → (front ≡ [] → ⊥) → is_macrocell (front ++ last ∷ more) ≡ is_macrocell front
-front-first [] last more h = absurd (h refl)
-front-first (line ∷ front) last more h = refl
+prefix-first : (prefix : List (List ℕ)) (last : List ℕ) (more : List (List ℕ)) → (prefix ≡ [] → ⊥) → is_macrocell (prefix ++ last ∷ more) ≡ is_macrocell prefix
+prefix-first [] last more h = absurd (h refl)
+prefix-first (line ∷ prefix) last more h = refl
 
 unmarked-some : (level : ℕ) (file : Rle) → IsUnmarked level [] file → ⊥
 unmarked-some level file u = by u.before u.whole
@@ -93,8 +93,8 @@ unmarked-some level file u = by u.before u.whole
 pub rle-first : (level : ℕ) (lines : List (List ℕ)) (file : Rle) → IsRle level lines file → is_macrocell lines ≡ true → ⊥
 rle-first level lines file (inl u) m = unmarked-first level lines file u m
 rle-first level lines file (inr r) m =
-    unmarked-first level r.front _ r.begun
-    (sym (front-first r.front r.last r.free (λ e. unmarked-some level _ (subst (λ l. IsUnmarked level l (record file { items = r.earlier })) e r.begun)))
+    unmarked-first level r.prefix _ r.begun
+    (sym (prefix-first r.prefix r.last r.free (λ e. unmarked-some level _ (subst (λ l. IsUnmarked level l (record file { items = r.earlier })) e r.begun)))
     ∙ sym (ap is_macrocell r.whole) ∙ m)
 
 pub formats_differ : (top : ℕ) → FormatsDiffer top

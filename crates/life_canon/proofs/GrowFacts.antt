@@ -29,7 +29,7 @@ get-first [] more i line e = cc
 get-first (one ∷ lines) more zero line e = e
 get-first (one ∷ lines) more (suc i) line e = get-first lines more i line e
 
--- more lines, behind which the lines are valid
+-- more lines, after which the lines are valid
 module _ (rule : Rule) (generation : ℕ) (lines more : List Line)
     (good : IsValidMacrocell MAX_LEVEL (record { rule = rule; generation = generation; lines = lines ++ more })) where
   pub first-valid : IsValidMacrocell MAX_LEVEL (record { rule = rule; generation = generation; lines = lines })
@@ -50,8 +50,8 @@ module _ (rule : Rule) (generation : ℕ) (lines more : List Line)
       let new = (lines_stand_for_squares MAX_LEVEL _ good).each (suc i) line (get-first lines more i line e) in
       let old = (lines_stand_for_squares MAX_LEVEL _ first-valid).each (suc i) line e in
       let same : tree_of (lines ++ more) (level_of line) (suc i) ≡ tree_of lines (level_of line) (suc i) =
-      sym new.by_front ∙ ap (λ (ls : List Line). tree_of ls (level_of line) (suc i)) (take-append-le (suc i) lines more (omega (arith, h)))
-      ∙ old.by_front in
+      sym new.by_prefix ∙ ap (λ (ls : List Line). tree_of ls (level_of line) (suc i)) (take-append-le (suc i) lines more (omega (arith, h)))
+      ∙ old.by_prefix in
       subst (λ (n : ℕ). tree_of (lines ++ more) n (suc i) ≡ tree_of lines n (suc i)) l same
 
   quarter-stays : (k number : ℕ) → IsQuarter rule lines (length lines) k number → tree_of (lines ++ more) k number ≡ tree_of lines k number
@@ -86,7 +86,7 @@ module _ (rule : Rule) (generation : ℕ) (lines : List Line) (square : Line)
       at [] = refl
       at (l ∷ ls) = at ls
 
-  -- the line itself is a square behind them
+  -- the line itself is a square after them
   pub last-square : IsSquare MAX_LEVEL rule (map level_of lines) square
   last-square =
       subst (λ (ls : List Line). IsSquare MAX_LEVEL rule (map level_of ls) square) (take-append_seam lines (square ∷ []))

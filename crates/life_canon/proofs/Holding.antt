@@ -14,36 +14,36 @@ use Rattle.life_mc.specs.Squares.{line_tree, tree_of}
 use Rattle.life_mc.specs.declared.line.Line.{Line}
 use Rattle.life_mc.specs.declared.line.Line.TheVariants.{Leaf, Quad}
 use Rattle.life_mc.proofs.Accepted.{lines_are_valid}
-use Rattle.life_mc.proofs.FormatLaws.{fronts_are_files}
+use Rattle.life_mc.proofs.FormatLaws.{prefixes_are_files}
 use Rattle.life_mc.proofs.Squares.{lines_stand_for_squares}
 use Rattle.life_quad.specs.Refused.{SomePart}
 use Rattle.life_quad.specs.Store.{Nodes, stored_squares}
 use Rattle.life_quad.specs.StoreLaws.{full_content}
 use Rattle.life_quad.specs.declared.id.Id.{Id}
 use Rattle.life_rle.specs.RunsLaw.{rle_state_by}
-use Rattle.life_rle.proofs.BlockFronts.{few_blocks_in_fronts}
+use Rattle.life_rle.proofs.BlockPrefixes.{few_blocks_in_prefixes}
 use Rattle.life_strip.specs.Given.{by_columns, half_plane}
 use Rattle.life_strip.specs.Middle.{AreSouth, IsLeastSouth, IsSouthLevel, SomeAboutMiddle}
 use Rattle.life_strip.specs.Needed.{SomeSquare}
 use Rattle.life_canon.specs.Files.{Reads, Says, as_macrocell, as_rle, is_macrocell}
 use Rattle.life_canon.specs.Filling.{AreSquaresOf}
 use Rattle.life_canon.specs.Needs.{SomeOfLine, of_node_line, of_runs, grown_times, SomeRoot, trimmed_root, grown_root, SomeOfFile, of_lines, at_end, of_plane, of_root, level_of_root}
-use Rattle.life_canon.specs.Room.{HoldsFile}
+use Rattle.life_canon.specs.Space.{HoldsFile}
 use Rattle.life_canon.specs.Store.{IsKnown, IsPatternOf, content}
 use Rattle.life_canon.specs.Universe.{Universe, centred_square, least_level, whole, macrocell_universe}
 use Rattle.life_canon.specs.declared.pattern.Pattern.{Pattern}
 use Rattle.life_canon.proofs.CallFacts.{root-deep}
 use Rattle.life_canon.proofs.Formats.{files_say_one, macrocell-first}
-use Rattle.life_canon.proofs.FrontFacts.{top-level}
+use Rattle.life_canon.proofs.PrefixFacts.{top-level}
 use Rattle.life_canon.proofs.GrowFacts.{last-tree}
 use Rattle.life_canon.proofs.Known.{known-held, part-held}
 use Rattle.life_canon.proofs.NeedFacts.{grown-centred, is-centred}
 use Rattle.life_canon.proofs.PatternFacts.{next-square}
 use Rattle.life_canon.proofs.MiddleParts.{IsRoot, square-in-root}
 use Rattle.life_canon.proofs.MiddleSquares.{about-rows}
-use Rattle.life_canon.proofs.RoomLaw.{file-states, no-nodes, no-runs, none-of-none}
-use Rattle.life_canon.proofs.RoomRoots.{least-three}
-use Rattle.life_canon.proofs.RoomRuns.{south-of-runs}
+use Rattle.life_canon.proofs.SpaceLaw.{file-states, no-nodes, no-runs, none-of-none}
+use Rattle.life_canon.proofs.SpaceRoots.{least-three}
+use Rattle.life_canon.proofs.SpaceRuns.{south-of-runs}
 use Rattle.life_canon.proofs.TreeWords.{below_top}
 use Rattle.life_base.proofs.Basics.{true_false}
 
@@ -59,9 +59,9 @@ get-behind [] more square = refl
 get-behind (line ∷ lines) more square = get-behind lines more square
 
 -- the squares of the first lines are the first ones
-squares-more : (front more : List (List ℕ)) → 0 < length front → (rest : List Line) × (squares_of (front ++ more) ≡ squares_of front ++ rest)
+squares-more : (prefix more : List (List ℕ)) → 0 < length prefix → (rest : List Line) × (squares_of (prefix ++ more) ≡ squares_of prefix ++ rest)
 squares-more [] more some = absurd (omega (arith, some))
-squares-more (header ∷ front) more some = (_, filter_map-append square_on front more)
+squares-more (header ∷ prefix) more some = (_, filter_map-append square_on prefix more)
 
 -- the Id of a line names the square that the lines before it say
 module _ (store : Nodes) (file : Macrocell) (ids : List Id) (good : IsValidMacrocell MAX_LEVEL file)
@@ -81,19 +81,19 @@ module _ (store : Nodes) (file : Macrocell) (ids : List Id) (good : IsValidMacro
       let id : Id = get_or ids n none in
       let one = are.each n id square (slice_get-get_or ids n none (omega (arith, size, longer, are.count))) there in
       let long : suc n ≡ length (first ++ square ∷ []) = omega (arith, longer) in
-      let taken : take (suc n) file.lines ≡ first ++ square ∷ [] =
+      let consumed : take (suc n) file.lines ≡ first ++ square ∷ [] =
       ap (λ (k : ℕ). take k file.lines) long ∙ ap (take (length (first ++ square ∷ []))) e ∙ take-append_seam (first ++ square ∷ []) rest in
       let stands = (lines_stand_for_squares MAX_LEVEL file good).each (suc n) square there in (
         id,
         one.0,
-        one.1 ∙ sym stands.by_front ∙ ap (λ (ls : List Line). tree_of ls (level_of square) (suc n)) taken ∙ last-tree rule generation first square valid,
+        one.1 ∙ sym stands.by_prefix ∙ ap (λ (ls : List Line). tree_of ls (level_of square) (suc n)) consumed ∙ last-tree rule generation first square valid,
       )
 
   node-held : (lines before behind : List (List ℕ)) (line : List ℕ) (square : Line) → file.lines ≡ squares_of lines → lines ≡ before ++ line ∷ behind
       → Prefix (AcceptsMacrocell MAX_LEVEL) (before ++ line ∷ []) → squares_of (before ++ line ∷ []) ≡ squares_of before ++ square ∷ []
       → (t : Tree) → is_blank_tree t ≡ false → SomeOfLine (λ v. v ≡ t) (squares_of before) square → Contains (stored_squares store) t
-  node-held lines before behind line square whole e prefix squares t live some =
-      let next = next-square before (before ++ line ∷ []) line square refl prefix squares in
+  node-held lines before behind line square whole e begins squares t live some =
+      let next = next-square before (before ++ line ∷ []) line square refl begins squares in
       let longer = length-append before (line ∷ []) in
       let more = squares-more (before ++ line ∷ []) behind (omega (arith, longer)) in
       let all : file.lines ≡ (squares_of before ++ square ∷ []) ++ more.0 =
@@ -145,10 +145,10 @@ pub macrocell-held : (store : Nodes) (lines : List (List ℕ)) (file : Macrocell
     → AreMacrocell MAX_LEVEL lines file → IsValidMacrocell MAX_LEVEL file → AreSquaresOf (IsKnown store) (content store) file.lines ids
     → HasRoots store (macrocell_universe file) (level_of_root MAX_LEVEL lines)
     → (t : Tree) → is_blank_tree t ≡ false → SomeOfFile MAX_LEVEL (λ v. v ≡ t) lines → Contains (stored_squares store) t
-macrocell-held store lines file ids m is good are roots t live (of_lines (of_node_line before line behind square e prefix squares some)) =
-    node-held store file ids good are lines before behind line square is.squares e prefix squares t live some
-macrocell-held store lines file ids m is good are roots t live (of_lines (of_runs front behind runs e h some)) =
-    absurd (none-of-none (λ v. v ≡ t) runs (no-runs lines front behind runs m e h) some)
+macrocell-held store lines file ids m is good are roots t live (of_lines (of_node_line before line behind square e begins squares some)) =
+    node-held store file ids good are lines before behind line square is.squares e begins squares t live some
+macrocell-held store lines file ids m is good are roots t live (of_lines (of_runs prefix behind runs e h some)) =
+    absurd (none-of-none (λ v. v ≡ t) runs (no-runs lines prefix behind runs m e h) some)
 macrocell-held store lines file ids m is good are roots t live (at_end (of_plane u says rle some)) = absurd (true_false _ m rle)
 macrocell-held store lines file ids m is good are roots t live (at_end (of_root u says some)) =
     let same = files_say_one MAX_LEVEL lines u (macrocell_universe file) says (as_macrocell file is) in
@@ -170,21 +170,21 @@ module _ (store : Nodes) (lines : List (List ℕ)) (u : Universe) (rle : is_macr
   ]
 
   -- the states of all runs
-  states : rle_state_by (few_blocks_in_fronts MAX_LEVEL lines).runs ≡ u.cell
+  states : rle_state_by (few_blocks_in_prefixes MAX_LEVEL lines).runs ≡ u.cell
   states = by u says
     where
-      by : (v : Universe) → Says MAX_LEVEL lines v → rle_state_by (few_blocks_in_fronts MAX_LEVEL lines).runs ≡ v.cell
+      by : (v : Universe) → Says MAX_LEVEL lines v → rle_state_by (few_blocks_in_prefixes MAX_LEVEL lines).runs ≡ v.cell
       by _ (as_macrocell file a) = absurd (true_false _ (macrocell-first MAX_LEVEL lines file a) rle)
-      by _ (as_rle file h) = sym (file-states lines rle (few_blocks_in_fronts MAX_LEVEL lines) file h)
+      by _ (as_rle file h) = sym (file-states lines rle (few_blocks_in_prefixes MAX_LEVEL lines) file h)
 
   pub rle-held : (t : Tree) → is_blank_tree t ≡ false → SomeOfFile MAX_LEVEL (λ v. v ≡ t) lines → Contains (stored_squares store) t
-  rle-held t live (of_lines (of_node_line before line behind square e prefix squares some)) =
+  rle-held t live (of_lines (of_node_line before line behind square e begins squares some)) =
       let longer = length-append before (line ∷ []) in
-      let file = (fronts_are_files MAX_LEVEL (before ++ line ∷ []) (omega (arith, longer))).0 prefix in
+      let file = (prefixes_are_files MAX_LEVEL (before ++ line ∷ []) (omega (arith, longer))).0 begins in
       absurd (true_false _ (no-nodes lines before behind line e file) rle)
-  rle-held t live (of_lines (of_runs front behind runs e h some)) =
-      let few = few_blocks_in_fronts MAX_LEVEL lines in
-      let more = few.most front behind runs e h in
+  rle-held t live (of_lines (of_runs prefix behind runs e h some)) =
+      let few = few_blocks_in_prefixes MAX_LEVEL lines in
+      let more = few.most prefix behind runs e h in
       square-held t live
       (subst (λ (f : ℤ → ℤ → ℕ). SomeSquare (λ v. v ≡ t) (half_plane + 2 ^ (n - 1)) (by_columns f)) states
       (south-of-runs (λ v. v ≡ t) few.rule runs more.0 few.runs more.1 few.good few.order n root.high

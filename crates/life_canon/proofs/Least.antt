@@ -277,9 +277,9 @@ trim-walk m (suc n) {root = root} (quad_depth (quad_depth {k = k} a b c d) (quad
 not_in : (xs : List Tree) (t : Tree) → (is_in xs t ≡ true → ⊥) → is_in xs t ≡ false
 not_in xs t h = elim (bool_cases (is_in xs t)) [ inl e ↦ absurd (h e) | inr e ↦ e ]
 
-once-front : (xs ys : List Tree) → NoRepeats (xs ++ ys) → NoRepeats xs
-once-front [] ys h = tt
-once-front (x ∷ xs) ys h = (not_in xs x (λ i. true_false _ (is_in-left xs ys x i) h.0), once-front xs ys h.1)
+once-prefix : (xs ys : List Tree) → NoRepeats (xs ++ ys) → NoRepeats xs
+once-prefix [] ys h = tt
+once-prefix (x ∷ xs) ys h = (not_in xs x (λ i. true_false _ (is_in-left xs ys x i) h.0), once-prefix xs ys h.1)
 
 one_more : (n m : ℕ) → n ≡ suc m → n ≡ m + 1
 one_more n m e = omega arith
@@ -341,11 +341,11 @@ root-square f h =
 -- ---- the squares of a trimmed root, where the root has level m or more
 
 record IsTrimmedList (f : Macrocell) (w : Tree) (m : ℕ) : Type 0 where
-  front : List Tree
-  is : listed_squares w m ≡ front ++ w ∷ []
-  once : NoRepeats front
-  of_lines : (t : Tree) → is_in front t ≡ true → is_in (line_squares f.lines (length f.lines)) t ≡ true
-  no_root : is_in front (root_tree f.lines) ≡ false
+  prefix : List Tree
+  is : listed_squares w m ≡ prefix ++ w ∷ []
+  once : NoRepeats prefix
+  of_lines : (t : Tree) → is_in prefix t ≡ true → is_in (line_squares f.lines (length f.lines)) t ≡ true
+  no_root : is_in prefix (root_tree f.lines) ≡ false
 
 deep-list : (top m : ℕ) (f : Macrocell) → IsValidMacrocell top f → (3 ≤ m) ⊎ NoLeaves f.lines → 1 ≤ m → 0 < length f.lines → m ≤ root_level f.lines
     → {j : ℕ} {w : Tree} → HasDepth j w → w ≡ trimmed (root_tree f.lines) m → is_small m w ≡ false → IsTrimmedList f w m
@@ -360,20 +360,20 @@ deep-list top m f v leaves le h deep {w = w} hw e s =
     let few : depth r - m < k = omega (arith, ro.is) in
     let last = listed-last m le hw s in
     let q : IsQuarter f.rule f.lines n k n = quarter-last top f v h in
-    let inner : (t : Tree) → is_in last.front t ≡ true → IsInner m r (trim_times (depth r - m) r) t = λ t z.
-    let z' : is_in (walk w m) t ≡ true = listed-walk w m t (subst (λ l. is_in l t ≡ true) (sym last.is) (is_in-left last.front (w ∷ []) t z)) in
+    let inner : (t : Tree) → is_in last.prefix t ≡ true → IsInner m r (trim_times (depth r - m) r) t = λ t z.
+    let z' : is_in (walk w m) t ≡ true = listed-walk w m t (subst (λ l. is_in l t ≡ true) (sym last.is) (is_in-left last.prefix (w ∷ []) t z)) in
     let c : (t ≡ trim_times (depth r - m) r) ⊎ IsInner m r (trim_times (depth r - m) r) t = trim-walk m (depth r - m) hr few t
     (subst (λ x. is_in (walk x m) t ≡ true) e z') in
     (elim c [
-      | inl x ↦ absurd (true_false _ (subst (λ y. is_in last.front y ≡ true) (x ∙ sym e) z) last.fresh)
+      | inl x ↦ absurd (true_false _ (subst (λ y. is_in last.prefix y ≡ true) (x ∙ sym e) z) last.fresh)
       | inr x ↦ x
     ]) in
     record {
-      front = last.front;
+      prefix = last.prefix;
       is = last.is;
-      once = once-front last.front (w ∷ []) (subst NoRepeats last.is (listed-once w m));
+      once = once-prefix last.prefix (w ∷ []) (subst NoRepeats last.is (listed-once w m));
       of_lines = λ t z. walk-lines top m f v leaves k n n (le_from n n refl) q t (inner t z).in_root;
-      no_root = not_in last.front r (λ z. not_less _ _ (lt_le _ _ _ (inner r z).less (depth-trim (depth r - m) hr few)) (sym dr));
+      no_root = not_in last.prefix r (λ z. not_less _ _ (lt_le _ _ _ (inner r z).less (depth-trim (depth r - m) hr few)) (sym dr));
     }
 
 -- where the root has a level of at most m, the list has at most one square
@@ -473,23 +473,23 @@ line_squares-root f h = subst (λ t. is_in (line_squares f.lines (length f.lines
 
 apart-deep : (f : Macrocell) (w : Tree) (m : ℕ) → 0 < length f.lines → IsTrimmedList f w m → AreApart f w m
 apart-deep f w m some l = record {
-  others = λ t z n. l.of_lines t (in_front t z n);
-  no_root = λ t z n e. true_false _ (subst (λ y. is_in l.front y ≡ true) (sym e) (in_front t z n)) l.no_root;
+  others = λ t z n. l.of_lines t (in_prefix t z n);
+  no_root = λ t z n e. true_false _ (subst (λ y. is_in l.prefix y ≡ true) (sym e) (in_prefix t z n)) l.no_root;
   few =
-      let all : (t : Tree) → is_in (root_tree f.lines ∷ l.front) t ≡ true → is_in (line_squares f.lines (length f.lines)) t ≡ true =
-      λ t z. elim (or_cases (same_tree (root_tree f.lines) t) (is_in l.front t) z) [
+      let all : (t : Tree) → is_in (root_tree f.lines ∷ l.prefix) t ≡ true → is_in (line_squares f.lines (length f.lines)) t ≡ true =
+      λ t z. elim (or_cases (same_tree (root_tree f.lines) t) (is_in l.prefix t) z) [
         | inl x ↦ subst (λ y. is_in (line_squares f.lines (length f.lines)) y ≡ true) (same_tree-true _ t x) (line_squares-root f some)
         | inr x ↦ l.of_lines t x
       ] in
-      let long : length (root_tree f.lines ∷ l.front) ≤ length (line_squares f.lines (length f.lines)) = no_longer (root_tree f.lines ∷ l.front)
+      let long : length (root_tree f.lines ∷ l.prefix) ≤ length (line_squares f.lines (length f.lines)) = no_longer (root_tree f.lines ∷ l.prefix)
       (line_squares f.lines (length f.lines)) (l.no_root, l.once) all in
-      let a : length (listed_squares w m) ≡ length l.front + 1 = ap length l.is ∙ length-append l.front (w ∷ []) in
+      let a : length (listed_squares w m) ≡ length l.prefix + 1 = ap length l.is ∙ length-append l.prefix (w ∷ []) in
       let b : length (line_squares f.lines (length f.lines)) ≡ length f.lines = line_squares-length f.lines (length f.lines) in
       omega arith;
 }
   where
-    in_front : (t : Tree) → is_in (listed_squares w m) t ≡ true → same_tree t w ≡ false → is_in l.front t ≡ true
-    in_front t z n = elim (is_in-append_cases l.front (w ∷ []) t (subst (λ y. is_in y t ≡ true) l.is z)) [
+    in_prefix : (t : Tree) → is_in (listed_squares w m) t ≡ true → same_tree t w ≡ false → is_in l.prefix t ≡ true
+    in_prefix t z n = elim (is_in-append_cases l.prefix (w ∷ []) t (subst (λ y. is_in y t ≡ true) l.is z)) [
       | inl i ↦ i
       | inr i ↦ absurd (true_false _ (ap (λ y. same_tree y w) (sym (is_in-one w t i)) ∙ same_tree-refl w) n)
     ]

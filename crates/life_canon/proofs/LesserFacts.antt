@@ -38,32 +38,32 @@ decided-of items one other count end e f lesser h =
     subst₂ (λ (a b : List ℕ). IsLesser a b lesser) (ap (λ (text : List ℕ). take (end - count) (drop count text)) e) last h
 
 -- what is decided of two rests is decided of the texts that end with them
-module _ (front rest piece old : List ℕ) (whole : old ≡ front ++ rest) where
-  behind : (P : List ℕ → Type 0) → P (front ++ rest) → P old
+module _ (prefix rest piece old : List ℕ) (whole : old ≡ prefix ++ rest) where
+  behind : (P : List ℕ → Type 0) → P (prefix ++ rest) → P old
   behind P = subst P (sym whole)
 
-  pub still-undecided : (place count more : ℕ) → place ≡ length front → count ≡ place + more → IsLesser rest piece (Undecided more)
-      → IsLesser old (front ++ piece) (Undecided count)
+  pub still-undecided : (place count more : ℕ) → place ≡ length prefix → count ≡ place + more → IsLesser rest piece (Undecided more)
+      → IsLesser old (prefix ++ piece) (Undecided count)
   still-undecided place count more p c h =
-      let long : length (front ++ piece) ≡ length front + length piece = length-append front piece in
-      let all : count ≡ length front + more = omega (arith, p, c) in (
+      let long : length (prefix ++ piece) ≡ length prefix + length piece = length-append prefix piece in
+      let all : count ≡ length prefix + more = omega (arith, p, c) in (
         omega (arith, long, p, c, h.0),
-        behind (λ text. take count text ≡ front ++ piece)
-            (subst (λ (n : ℕ). take n (front ++ rest) ≡ front ++ piece) (sym all)
-            (take-append-add front rest more ∙ ap (λ (text : List ℕ). front ++ text) h.1)),
+        behind (λ text. take count text ≡ prefix ++ piece)
+            (subst (λ (n : ℕ). take n (prefix ++ rest) ≡ prefix ++ piece) (sym all)
+            (take-append-add prefix rest more ∙ ap (λ (text : List ℕ). prefix ++ text) h.1)),
       )
 
-  pub new-now : IsLesser rest piece New → IsLesser old (front ++ piece) New
+  pub new-now : IsLesser rest piece New → IsLesser old (prefix ++ piece) New
   new-now h = λ more.
-      behind (λ text. IsUpTo ((front ++ piece) ++ more) text)
-      (subst (λ (text : List ℕ). IsUpTo text (front ++ rest)) (sym (append_assoc front piece more)) (up-to-behind front (piece ++ more) rest (h more)))
+      behind (λ text. IsUpTo ((prefix ++ piece) ++ more) text)
+      (subst (λ (text : List ℕ). IsUpTo text (prefix ++ rest)) (sym (append_assoc prefix piece more)) (up-to-behind prefix (piece ++ more) rest (h more)))
 
-  pub old-now : IsLesser rest piece Old → IsLesser old (front ++ piece) Old
+  pub old-now : IsLesser rest piece Old → IsLesser old (prefix ++ piece) Old
   old-now h = λ more.
-      behind (λ text. IsUpTo text ((front ++ piece) ++ more))
-      (subst (λ (text : List ℕ). IsUpTo (front ++ rest) text) (sym (append_assoc front piece more)) (up-to-behind front rest (piece ++ more) (h more)))
+      behind (λ text. IsUpTo text ((prefix ++ piece) ++ more))
+      (subst (λ (text : List ℕ). IsUpTo (prefix ++ rest) text) (sym (append_assoc prefix piece more)) (up-to-behind prefix rest (piece ++ more) (h more)))
 
--- the same of a piece behind an old text
+-- the same of a piece after an old text
 pub holds-behind : (old piece items held : List ℕ) (count end : ℕ) (lesser : Lesser) → items ≡ old ++ piece → end ≡ length old → count ≤ end
     → LesserHolds (take end items) (take count items ++ drop end items) lesser held → LesserHolds old (take count old ++ piece) lesser held
 holds-behind old piece items held count end lesser e long order h =
@@ -131,11 +131,11 @@ module _ (old new held : List ℕ) where
       end-of-both count (subst (λ (l : Lesser). LesserHolds old new l held) last (subst (λ (t : Result A E). OnOk t (LesserHolds old new lesser held)) e h))
 
 -- after a walk that gave these lines, of which a text is left that is the lesser one wherever this follows
-pub after-walk : {A E : Type 0} (old front whole text held left : List ℕ) (lines : List Line) (before after : Lesser) (r : Result A E)
-    → LesserHolds old front before held → OnOk r (LinesCome before held after left lines) → OnErr r (IsOldLesser before held after left lines)
+pub after-walk : {A E : Type 0} (old prefix whole text held left : List ℕ) (lines : List Line) (before after : Lesser) (r : Result A E)
+    → LesserHolds old prefix before held → OnOk r (LinesCome before held after left lines) → OnErr r (IsOldLesser before held after left lines)
     → ((first second : List ℕ) → OnOk r (LesserHolds first second after left) → OnErr r (IsOldHeld first second after left) → IsLesserText first second text)
-    → front ++ flat_map node_text lines ≡ whole → IsLesserText old whole text
-after-walk old front whole text held left lines before after (Ok x) h took broke so e =
-    subst (λ (t : List ℕ). IsLesserText old t text) e (so old (front ++ flat_map node_text lines) (took old front h) tt)
-after-walk old front whole text held left lines before after (Err x) h took broke so e =
-    subst (λ (t : List ℕ). IsLesserText old t text) e (so old (front ++ flat_map node_text lines) tt (broke old front h))
+    → prefix ++ flat_map node_text lines ≡ whole → IsLesserText old whole text
+after-walk old prefix whole text held left lines before after (Ok x) h took broke so e =
+    subst (λ (t : List ℕ). IsLesserText old t text) e (so old (prefix ++ flat_map node_text lines) (took old prefix h) tt)
+after-walk old prefix whole text held left lines before after (Err x) h took broke so e =
+    subst (λ (t : List ℕ). IsLesserText old t text) e (so old (prefix ++ flat_map node_text lines) tt (broke old prefix h))

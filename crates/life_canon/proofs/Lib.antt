@@ -20,8 +20,8 @@ mod TextLaws
 mod WiderPlanes
 mod Unions
 mod FeedFacts
-mod FrontFacts
-mod RefusedFronts
+mod PrefixFacts
+mod RefusedPrefixes
 pub mod BuildFacts
 pub mod RowFacts
 mod RunFacts
@@ -46,16 +46,16 @@ mod WalkingFacts
 mod SeenFacts
 mod CountingFacts
 mod ShowFacts
-pub mod RoomLists
-mod RoomTrees
-mod RoomRuns
-mod RoomRoots
-mod RoomNodes
-mod RoomLaw
+pub mod SpaceLists
+mod SpaceTrees
+mod SpaceRuns
+mod SpaceRoots
+mod SpaceNodes
+mod SpaceLaw
 mod Middles
 mod MiddleParts
 mod MiddleSquares
-pub mod RoomCount
+pub mod SpaceCount
 mod Adding
 pub mod Spots
 mod Rows

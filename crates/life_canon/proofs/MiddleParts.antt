@@ -18,7 +18,7 @@ use Rattle.life_canon.specs.Universe.{centred_square}
 use Rattle.life_canon.proofs.Middles.{part-of-many}
 use Rattle.life_canon.proofs.NeedFacts.{grown-centred, is-centred}
 use Rattle.life_canon.proofs.PlaneParts.{plane-part}
-use Rattle.life_canon.proofs.RoomTrees.{low_level}
+use Rattle.life_canon.proofs.SpaceTrees.{low_level}
 use Rattle.life_canon.proofs.TreeWords.{below_top}
 
 -- a square with a cell in the southern half that ends where the square about (0, 0) does, is lower

@@ -20,7 +20,7 @@ use Rattle.life_strip.specs.Middle.{EndsWithCell, SomeAboutMiddle}
 use Rattle.life_strip.proofs.GivenLemmas.{runs-apart}
 use Rattle.life_canon.specs.Needs.{SomeRoot, trimmed_root, grown_root, grown_times}
 use Rattle.life_canon.specs.Universe.{Universe}
-use Rattle.life_canon.proofs.RoomRoots.{least-three}
+use Rattle.life_canon.proofs.SpaceRoots.{least-three}
 
 -- ---- the last run of a file
 

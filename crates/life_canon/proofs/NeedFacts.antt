@@ -1,4 +1,4 @@
--- The squares that a refused call lacked: of the root that is grown or trimmed, of runs, and of lines with more lines behind them.
+-- The squares that a refused call lacked: of the root that is grown or trimmed, of runs, and of lines with more lines after them.
 use Rattle.std.proofs.Common.{◌≡◌, ◌⊎◌, inl, inr, ℕ, zero, suc, ◌+◌, ◌-◌, ◌<◌, ◌≤◌, true, List, [], ◌∷◌, ◌++◌, max, ap, sym, ◌∙◌, subst, arith, append_assoc, refl, ℤ, append-nil}
 use Rattle.life_base.specs.Lines.{has_no_feed, whole_lines, rest_line, one_line}
 use Rattle.life_base.specs.Refusal.{Prefix, fault_at, fault_of}
@@ -16,11 +16,11 @@ use Rattle.life_rle.specs.File.{HasRuns}
 use Rattle.life_strip.specs.Given.{by_columns}
 use Rattle.life_strip.specs.Needed.{SomeSquare}
 use Rattle.life_canon.specs.Files.{is_macrocell}
-use Rattle.life_canon.specs.Taking.{IsGoing, IsEnd, taken_lines}
+use Rattle.life_canon.specs.Taking.{IsGoing, IsEnd, consumed_lines}
 use Rattle.life_canon.specs.declared.progress.Progress.{Progress}
 use Rattle.life_canon.specs.declared.progress.Progress.TheVariants as progress
 use Rattle.life_base.proofs.Basics.{true_false}
-use Rattle.life_canon.proofs.FrontFacts.{whole-at, end-says, end-lines}
+use Rattle.life_canon.proofs.PrefixFacts.{whole-at, end-says, end-lines}
 use Rattle.life_quad.proofs.LawLemmas.{trimming_stops, depth_grown}
 use Rattle.life_quad.specs.Moves.{grown_square, trimmed_square}
 use Rattle.life_quad.specs.Refused.{SomePart, TrimmedTo}
@@ -113,28 +113,29 @@ same-square {P = P} rows f g e s = subst (λ (cells : ℤ → ℤ → ℕ). Some
 
 -- ---- lines
 
--- more lines behind them
-pub more-lines : (P : Tree → Type 0) (front more all : List (List ℕ)) → all ≡ front ++ more → SomeOfLines MAX_LEVEL P front → SomeOfLines MAX_LEVEL P all
-more-lines P front more all e (of_node_line before line behind square whole prefix squares some) =
+-- more lines after them
+pub more-lines : (P : Tree → Type 0) (prefix more all : List (List ℕ)) → all ≡ prefix ++ more → SomeOfLines MAX_LEVEL P prefix → SomeOfLines MAX_LEVEL P all
+more-lines P prefix more all e (of_node_line before line behind square whole begins squares some) =
     of_node_line before line (behind ++ more) square
-    (e ∙ ap (λ (ls : List (List ℕ)). ls ++ more) whole ∙ append_assoc before (line ∷ behind) more) prefix squares some
-more-lines P front more all e (of_runs begun behind runs whole are some) =
+    (e ∙ ap (λ (ls : List (List ℕ)). ls ++ more) whole ∙ append_assoc before (line ∷ behind) more) begins squares some
+more-lines P prefix more all e (of_runs begun behind runs whole are some) =
     of_runs begun (behind ++ more) runs (e ∙ ap (λ (ls : List (List ℕ)). ls ++ more) whole ∙ append_assoc begun behind more) are some
 
--- more bytes behind them
-pub front-more : (P : Tree → Type 0) (bytes more : List ℕ) → SomeOfLines MAX_LEVEL P (whole_lines bytes) → SomeOfLines MAX_LEVEL P (whole_lines (bytes ++ more))
-front-more P bytes more s =
+-- more bytes after them
+pub prefix-more : (P : Tree → Type 0) (bytes more : List ℕ) → SomeOfLines MAX_LEVEL P (whole_lines bytes)
+    → SomeOfLines MAX_LEVEL P (whole_lines (bytes ++ more))
+prefix-more P bytes more s =
     more-lines P (whole_lines bytes) (whole_lines (rest_line bytes ++ more)) (whole_lines (bytes ++ more)) (lines_continue bytes more).whole s
 
--- a node line behind a front
-pub next-needs : (P : Tree → Type 0) (front all : List (List ℕ)) (line : List ℕ) (square : Line) → all ≡ front ++ line ∷ []
+-- a node line after a prefix
+pub next-needs : (P : Tree → Type 0) (prefix all : List (List ℕ)) (line : List ℕ) (square : Line) → all ≡ prefix ++ line ∷ []
     → Prefix (AcceptsMacrocell MAX_LEVEL) all
-    → squares_of all ≡ squares_of front ++ square ∷ [] → SomeOfLine P (squares_of front) square → SomeOfLines MAX_LEVEL P (front ++ line ∷ [])
-next-needs P front all line square e prefix squares some =
-    of_node_line front line [] square refl (subst (Prefix (AcceptsMacrocell MAX_LEVEL)) e prefix)
-    (subst (λ (ls : List (List ℕ)). squares_of ls ≡ squares_of front ++ square ∷ []) e squares) some
+    → squares_of all ≡ squares_of prefix ++ square ∷ [] → SomeOfLine P (squares_of prefix) square → SomeOfLines MAX_LEVEL P (prefix ++ line ∷ [])
+next-needs P prefix all line square e begins squares some =
+    of_node_line prefix line [] square refl (subst (Prefix (AcceptsMacrocell MAX_LEVEL)) e begins)
+    (subst (λ (ls : List (List ℕ)). squares_of ls ≡ squares_of prefix ++ square ∷ []) e squares) some
 
--- the line that ends, and lines behind it
+-- the line that ends, and lines after it
 pub ended-needs : (P : Tree → Type 0) (bytes kept end rest : List ℕ) (ended : ℕ) (lines : List (List ℕ)) → IsGoing bytes kept ended lines
     → has_no_feed end ≡ true
     → SomeOfLines MAX_LEVEL P (lines ++ (kept ++ end) ∷ []) → SomeOfLines MAX_LEVEL P (whole_lines (bytes ++ end ++ 10 ∷ [] ++ rest))
@@ -147,7 +148,7 @@ pub whole-needs : (P : Tree → Type 0) (bytes : List ℕ) → SomeOfLines MAX_L
 whole-needs P bytes s = of_lines (more-lines P (whole_lines bytes) (one_line (rest_line bytes)) (lines_of bytes) (lines_are_whole bytes) s)
 
 -- what the end of the lines that were taken needs, the end of the file needs
-pub end-needs : (P : Tree → Type 0) (bytes : List ℕ) (ended : ℕ) (p : Progress) → IsEnd bytes ended p → SomeAtEnd MAX_LEVEL P (taken_lines p)
+pub end-needs : (P : Tree → Type 0) (bytes : List ℕ) (ended : ℕ) (p : Progress) → IsEnd bytes ended p → SomeAtEnd MAX_LEVEL P (consumed_lines p)
     → SomeAtEnd MAX_LEVEL P (lines_of bytes)
 end-needs P bytes ended p e (of_plane u says rle some) =
     let more = end-lines bytes ended p u e says in
@@ -158,12 +159,12 @@ end-needs P bytes ended p e (of_root u says some) =
 
 -- the same of a node line that was waiting until the end
 pub left-needs : (P : Tree → Type 0) (bytes : List ℕ) (ended : ℕ) (p : Progress) → IsEnd bytes ended p
-    → SomeAtEnd MAX_LEVEL P (taken_lines p) ⊎ SomeOfMacrocell MAX_LEVEL P (taken_lines p)
+    → SomeAtEnd MAX_LEVEL P (consumed_lines p) ⊎ SomeOfMacrocell MAX_LEVEL P (consumed_lines p)
     → SomeOfFile MAX_LEVEL P (lines_of bytes)
 left-needs P bytes ended p e (inl s) = at_end (end-needs P bytes ended p e s)
 left-needs P bytes ended p e (inr s) = of_lines (by p e s)
   where
-    by : (p : Progress) → IsEnd bytes ended p → SomeOfMacrocell MAX_LEVEL P (taken_lines p) → SomeOfLines MAX_LEVEL P (lines_of bytes)
+    by : (p : Progress) → IsEnd bytes ended p → SomeOfMacrocell MAX_LEVEL P (consumed_lines p) → SomeOfLines MAX_LEVEL P (lines_of bytes)
     by progress.Undecided e s = more-lines P [] [] (lines_of bytes) (e.going (λ v. v)).0 s.1
     by (progress.Macrocell reader ids waiting) e s =
         more-lines P reader.lines [] (lines_of bytes) ((e.going (λ v. v)).0 ∙ sym (append-nil reader.lines)) s.1
@@ -171,6 +172,6 @@ left-needs P bytes ended p e (inr s) = of_lines (by p e s)
 
 -- ---- kinds
 
--- a fault that is want of room is of that kind
+-- a fault that is a full store is of that kind
 pub kind-full : (n : ℕ) (kind : Kind) → fault_at n kind ≡ fault_of Full → kind ≡ Full
 kind-full n kind e = ap (λ (f : Fault). f.kind) e

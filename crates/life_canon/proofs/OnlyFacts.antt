@@ -1,4 +1,4 @@
--- Calls that are refused for nothing but a square: one behind the other, and refusals that are handed on.
+-- Calls that are refused for nothing but a square: one after the other, and refusals that are handed on.
 use Rattle.std.proofs.Common.{◌≡◌, ◌∙◌, Result, Ok, Err, OnErr, ap, sym, subst, IfErr, IsErrAnd}
 use Rattle.std.proofs.lemmas.Result.{on_err_weaker, err_from_is_err_and}
 use Rattle.life_base.proofs.Results.{on_err_both}
@@ -26,7 +26,7 @@ module _ {X : Type 0} {S : Ghosts X} {A : Type 0} (M : (Tree → Type 0) → Typ
         adds = adds-as M call.adds more;
       }
 
-  -- a call behind others
+  -- a call after others
   pub only-behind : {N : (Tree → Type 0) → Type 0} {old mid new : X} {r : Result A Kind} → KeepsStore S old mid → AddsOnly S.stored M old mid
       → GrowsOnly S mid new r N
       → ((P : Tree → Type 0) → N P → M P) → GrowsOnly S old new r M
@@ -38,13 +38,13 @@ module _ {X : Type 0} {S : Ghosts X} {A : Type 0} (M : (Tree → Type 0) → Typ
         adds = adds-then M adds call.adds (λ P a. a) more;
       }
 
-  -- a call behind others, by its clauses, whose refusal is handed on
+  -- a call after others, by its clauses, whose refusal is handed on
   pub only-refused : {N : (Tree → Type 0) → Type 0} {old mid new : X} {e : Kind} (r : Result A Kind) → IsErrAnd r (λ f. f ≡ e) → KeepsStore S old mid
       → AddsOnly S.stored M old mid
       → KeepsStore S mid new → IsShortageKind (S.stored new) (S.most new) e → N (S.needs_node new) → AddsOnly S.stored N mid new
       → ((P : Tree → Type 0) → N P → M P) → GrowsOnly S old new r M
-  only-refused {new = new} r told first before keeps kinds needed adds more =
-      let p = err_from_is_err_and r told in
+  only-refused {new = new} r reported first before keeps kinds needed adds more =
+      let p = err_from_is_err_and r reported in
       let same = p.1 ∙ ap Err p.2 in
       record {
         keeps = keeps-then first keeps;
@@ -53,7 +53,7 @@ module _ {X : Type 0} {S : Ghosts X} {A : Type 0} (M : (Tree → Type 0) → Typ
         adds = adds-then M before adds (λ P a. a) more;
       }
 
--- a join behind other calls, by its clauses
+-- a join after other calls, by its clauses
 pub only-join : {X : Type 0} {S : Ghosts X} (M : (Tree → Type 0) → Type 0) {old mid new : X} {t : Tree} (r : Result Id Kind) → KeepsStore S old mid
     → AddsOnly S.stored M old mid
     → KeepsStore S mid new → IfErr r (IsShortageKind (S.stored new) (S.most new)) → OnErr r (S.needs_node mid t) → OnErr r (new ≡ mid)

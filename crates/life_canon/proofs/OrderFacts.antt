@@ -40,23 +40,23 @@ up-to-both a b h k =
 
 -- ---- texts of which one begins with the other
 
-pub same-front : (front a b : List ℕ) → slice_cmp nat_cmp (front ++ a) (front ++ b) ≡ slice_cmp nat_cmp a b
-same-front [] a b = refl
-same-front (x ∷ front) a b =
-    ap (λ (o : Ordering). ordering_then o (slice_cmp nat_cmp (front ++ a) (front ++ b))) (tied_itself nat_cmp_total x) ∙ same-front front a b
+pub same-prefix : (prefix a b : List ℕ) → slice_cmp nat_cmp (prefix ++ a) (prefix ++ b) ≡ slice_cmp nat_cmp a b
+same-prefix [] a b = refl
+same-prefix (x ∷ prefix) a b =
+    ap (λ (o : Ordering). ordering_then o (slice_cmp nat_cmp (prefix ++ a) (prefix ++ b))) (tied_itself nat_cmp_total x) ∙ same-prefix prefix a b
 
-pub up-to-behind : (front a b : List ℕ) → IsUpTo a b → IsUpTo (front ++ a) (front ++ b)
-up-to-behind front a b h = record { order = ap is_gt (same-front front a b) ∙ h.order }
+pub up-to-behind : (prefix a b : List ℕ) → IsUpTo a b → IsUpTo (prefix ++ a) (prefix ++ b)
+up-to-behind prefix a b h = record { order = ap is_gt (same-prefix prefix a b) ∙ h.order }
 
 up-to-any : (more : List ℕ) → IsUpTo [] more
 up-to-any [] = record { order = refl }
 up-to-any (x ∷ more) = record { order = refl }
 
--- a text with more behind it is no less
+-- a text with more after it is no less
 pub up-to-longer : (a more : List ℕ) → IsUpTo a (a ++ more)
 up-to-longer a more = subst (λ (t : List ℕ). IsUpTo t (a ++ more)) (append-nil a) (up-to-behind a [] more (up-to-any more))
 
--- a text that is less, but that the other doesn't begin with, is less with anything behind it
+-- a text that is less, but that the other doesn't begin with, is less with anything after it
 less-on : (a b more : List ℕ) → ¬ (take (length a) b ≡ a) → slice_cmp nat_cmp a b ≡ Less → slice_cmp nat_cmp (a ++ more) b ≡ Less
 less-on [] b more other less = absurd (other refl)
 less-on (x ∷ a) [] more other less = absurd (true≢false (ap is_gt less))

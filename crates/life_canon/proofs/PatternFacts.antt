@@ -11,7 +11,7 @@ use Rattle.life_mc.specs.Macrocell.{IsValidMacrocell, AreSquares}
 use Rattle.life_mc.specs.Reading.{broken_rule, is_macrocell_kind, squares_of, AcceptsMacrocell}
 use Rattle.life_mc.specs.declared.line.Line.{Line}
 use Rattle.life_mc.proofs.Accepted.{lines_are_valid}
-use Rattle.life_mc.proofs.FormatLaws.{fronts_are_files}
+use Rattle.life_mc.proofs.FormatLaws.{prefixes_are_files}
 use Rattle.life_mc.proofs.LineKinds.{broken_kind}
 use Rattle.life_quad.specs.Moves.{trimmed_square}
 use Rattle.life_quad.specs.Store.{Nodes, stored_squares}
@@ -28,7 +28,7 @@ use Rattle.life_rle.proofs.Unique.{IsRle-unique}
 use Rattle.life_strip.specs.Given.{state_by}
 use Rattle.life_canon.specs.Files.{Breaks, is_macrocell}
 use Rattle.life_quad.specs.Keeping.{IsShortageKind}
-use Rattle.life_canon.specs.Taking.{taken_lines}
+use Rattle.life_canon.specs.Taking.{consumed_lines}
 use Rattle.life_canon.specs.Universe.{Universe, IsSame, least_level, centred_square, whole, square_universe}
 use Rattle.life_canon.specs.declared.progress.Progress.{Progress}
 use Rattle.life_canon.specs.declared.progress.Progress.TheVariants as progress
@@ -79,12 +79,12 @@ pub record NextSquare (lines : List (List ℕ)) (square : Line) : Type 0 where
   pub generation : ℕ
   pub valid : IsValidMacrocell MAX_LEVEL (record { rule = rule; generation = generation; lines = squares_of lines ++ square ∷ [] })
 
--- a node line that goes on a front is a square behind those before it
+-- a node line that goes on a prefix is a square after those before it
 pub next-square : (lines more : List (List ℕ)) (line : List ℕ) (square : Line) → more ≡ lines ++ line ∷ [] → Prefix (AcceptsMacrocell MAX_LEVEL) more
     → squares_of more ≡ squares_of lines ++ square ∷ [] → NextSquare lines square
 next-square lines more line square e p s =
     let some : 0 < length more = omega (arith, ap length e, length-append lines (line ∷ [])) in
-    let file = (fronts_are_files MAX_LEVEL more some).0 p in
+    let file = (prefixes_are_files MAX_LEVEL more some).0 p in
     let v = lines_are_valid MAX_LEVEL more file.0 file.1 in
     let same : file.0.lines ≡ squares_of lines ++ square ∷ [] = file.1.squares ∙ s in
     record {
@@ -114,8 +114,8 @@ not-full-rle lines line kind (inr (inl s)) e = cc
 not-full-rle lines line kind (inr (inr b)) e = kind-differs-rle kind Full (Breaks-kind MAX_LEVEL lines line kind b) refl e
 
 -- no lines lack a header
-pub undecided-lacks : (p : Progress) → p ≡ progress.Undecided → LacksHeader MAX_LEVEL (taken_lines p) × (is_macrocell (taken_lines p) ≡ false)
-undecided-lacks p e = subst (λ (q : Progress). LacksHeader MAX_LEVEL (taken_lines q) × (is_macrocell (taken_lines q) ≡ false)) (sym e)
+pub undecided-lacks : (p : Progress) → p ≡ progress.Undecided → LacksHeader MAX_LEVEL (consumed_lines p) × (is_macrocell (consumed_lines p) ≡ false)
+undecided-lacks p e = subst (λ (q : Progress). LacksHeader MAX_LEVEL (consumed_lines q) × (is_macrocell (consumed_lines q) ≡ false)) (sym e)
     ((default_position, refl), refl)
 
 -- what holds of an answer by two facts
@@ -128,11 +128,11 @@ both-ok (Ok x) p q f = f p q
 both-ok (Err e) p q f = tt
 
 -- a reader that has refused nothing isn't spent
-pub told-fault : (stored : List Tree) (most : ℕ) (B : Type 0) (refused : Bool) (kind : Kind) → refused ≡ false
+pub reported-fault : (stored : List Tree) (most : ℕ) (B : Type 0) (refused : Bool) (kind : Kind) → refused ≡ false
     → (kind ≡ Memory) ⊎ (kind ≡ Spent) ⊎ B → (kind ≡ Spent → refused ≡ true) → IsShortageKind stored most kind ⊎ B
-told-fault stored most B refused kind r (inl m) s = inl (inl m)
-told-fault stored most B refused kind r (inr (inl p)) s = let t = s p in cc
-told-fault stored most B refused kind r (inr (inr b)) s = inr b
+reported-fault stored most B refused kind r (inl m) s = inl (inl m)
+reported-fault stored most B refused kind r (inr (inl p)) s = let t = s p in cc
+reported-fault stored most B refused kind r (inr (inr b)) s = inr b
 
 -- the kind of a refused line of RLE
 pub rle-fault : (r : Result (Unit {0}) Kind) (store : Nodes) (lines : List (List ℕ)) (line : List ℕ) → is_macrocell (lines ++ line ∷ []) ≡ false
@@ -144,8 +144,8 @@ rle-fault (Err kind) store lines line m (inr b) =
     inr (subst (λ (v : Bool). MatchBool v (broken_rule MAX_LEVEL lines line ≡ Some kind) (BreaksRle MAX_LEVEL lines line kind)) (sym m) b)
 
 -- the end of a reader of RLE is refused for want of a header
-pub end-kind : (p : Progress) (lines : List (List ℕ)) (refused : Bool) (kind : Kind) → taken_lines p ≡ lines → is_macrocell lines ≡ false → refused ≡ false
+pub end-kind : (p : Progress) (lines : List (List ℕ)) (refused : Bool) (kind : Kind) → consumed_lines p ≡ lines → is_macrocell lines ≡ false → refused ≡ false
     → (kind ≡ NoHeader) ⊎ (kind ≡ Spent) → (kind ≡ NoHeader → LacksHeader MAX_LEVEL lines) → (kind ≡ Spent → refused ≡ true)
-    → (kind ≡ NoHeader) × LacksHeader MAX_LEVEL (taken_lines p) × (is_macrocell (taken_lines p) ≡ false)
+    → (kind ≡ NoHeader) × LacksHeader MAX_LEVEL (consumed_lines p) × (is_macrocell (consumed_lines p) ≡ false)
 end-kind p lines refused kind e m r (inl n) l s = (n, subst (LacksHeader MAX_LEVEL) (sym e) (l n), ap is_macrocell e ∙ m)
 end-kind p lines refused kind e m r (inr t) l s = let u = s t in cc

@@ -8,7 +8,7 @@ use Rattle.life_strip.specs.Given.{half_plane, by_columns}
 use Rattle.life_strip.specs.Needed.{SomeSquare}
 use Rattle.life_canon.specs.Universe.{square, corner, centred_square}
 use Rattle.life_canon.proofs.Planes.{full-depth}
-use Rattle.life_canon.proofs.RoomTrees.{low_level}
+use Rattle.life_canon.proofs.SpaceTrees.{low_level}
 use Rattle.life_canon.proofs.TreeWords.{below_top}
 use Rattle.life_canon.proofs.Trees.{half_cases, square-depth, state_at-square, trees_equal}
 

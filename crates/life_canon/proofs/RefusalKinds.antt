@@ -18,13 +18,13 @@ right : (a b : Bool) → b ≡ true → (a || b) ≡ true
 right true b h = refl
 right false b h = h
 
-by_line : (top : ℕ) → MacrocellKinds top → RleKinds → (front : List (List ℕ)) (line : List ℕ) (kind : Kind) → Breaks top front line kind
+by_line : (top : ℕ) → MacrocellKinds top → RleKinds → (prefix : List (List ℕ)) (line : List ℕ) (kind : Kind) → Breaks top prefix line kind
     → is_file_kind kind ≡ true
-by_line top m r front line kind = by (is_macrocell (front ++ line ∷ []))
+by_line top m r prefix line kind = by (is_macrocell (prefix ++ line ∷ []))
   where
-    by : (b : Bool) → MatchBool b (broken_rule top front line ≡ Some kind) (BreaksRle top front line kind) → is_file_kind kind ≡ true
-    by true h = left (is_macrocell_kind kind) (is_rle_kind kind) (m front line kind h)
-    by false h = right (is_macrocell_kind kind) (is_rle_kind kind) (r top front line kind h)
+    by : (b : Bool) → MatchBool b (broken_rule top prefix line ≡ Some kind) (BreaksRle top prefix line kind) → is_file_kind kind ≡ true
+    by true h = left (is_macrocell_kind kind) (is_rle_kind kind) (m prefix line kind h)
+    by false h = right (is_macrocell_kind kind) (is_rle_kind kind) (r top prefix line kind h)
 
 by_end : (b : Bool) (kind : Kind) → MatchBool b (None ≡ Some kind) (Some NoHeader ≡ Some kind) → is_file_kind kind ≡ true
 by_end true kind h = cc

@@ -13,23 +13,23 @@ use Rattle.life_base.specs.declared.fault.Fault.{Fault}
 use Rattle.life_base.specs.declared.kind.Kind.{Kind}
 use Rattle.life_base.specs.declared.kind.Kind.TheVariants.{Full, Memory, ReadFault}
 use Rattle.life_quad.specs.Store.{Nodes, stored_squares}
-use Rattle.life_canon.specs.Feeding.{Fed, RefusesFront, Stands}
+use Rattle.life_canon.specs.Feeding.{Fed, RefusesPrefix, Stands}
 use Rattle.life_canon.specs.Files.{is_file_kind}
 use Rattle.life_canon.specs.Laws.{LengthsStay}
-use Rattle.life_canon.specs.Needs.{LacksFor, LacksForFront, SomeOfFile}
-use Rattle.life_canon.specs.Room.{AddsLines, AddsFile, HoldsFile, HoldsFront, HoldsOnly, room_for}
-use Rattle.life_canon.specs.Running.{ReadRefuses, by_file, by_want, LacksForRead, for_front, for_file, AddsForRead, HoldsRead, IsTightForRead, ReadsSource}
+use Rattle.life_canon.specs.Needs.{LacksFor, LacksForPrefix, SomeOfFile}
+use Rattle.life_canon.specs.Space.{AddsLines, AddsFile, HoldsFile, HoldsPrefix, HoldsOnly, sufficient_for}
+use Rattle.life_canon.specs.Running.{ReadRefuses, by_file, by_want, LacksForRead, for_prefix, for_file, AddsForRead, HoldsRead, IsTightForRead, ReadsSource}
 use Rattle.life_canon.specs.ReadWhole.{ReadsWhole}
 use Rattle.life_canon.specs.Store.{IsRead, IsShortageOf, Keeps, RefusesIn}
 use Rattle.life_canon.specs.declared.pattern.Pattern.{Pattern}
 use Rattle.life_mc.proofs.LineKinds.{broken_kind}
 use Rattle.life_rle.proofs.LineKinds.{Breaks-kind}
 use Rattle.life_quad.proofs.KeepingLemmas.{adds-as, adds-then}
-use Rattle.life_canon.proofs.Adding.{fronts_hold}
-use Rattle.life_canon.proofs.NeedFacts.{front-more, whole-needs}
+use Rattle.life_canon.proofs.Adding.{prefixes_hold}
+use Rattle.life_canon.proofs.NeedFacts.{prefix-more, whole-needs}
 use Rattle.life_canon.proofs.PatternFacts.{on-ok}
 use Rattle.life_canon.proofs.RefusalKinds.{refusal-kinds}
-use Rattle.life_canon.proofs.RefusedFronts.{faults_stay}
+use Rattle.life_canon.proofs.RefusedPrefixes.{faults_stay}
 
 -- What came so far, and what was made of it: a line of it was refused, or the reader has it, and no squares were stored since the first byte but
 -- such as its lines need.
@@ -37,7 +37,7 @@ pub record IsReading (first store : Nodes) (before after : Option (List ℕ)) (t
   pub bytes : List ℕ
   pub came : Consumes before after bytes
   pub count : length bytes ≡ total
-  pub state : MatchOption refused ((fed.spent ≡ false) × (fed.bytes ≡ bytes) × Stands store fed) (RefusesFront MAX_LEVEL bytes)
+  pub state : MatchOption refused ((fed.spent ≡ false) × (fed.bytes ≡ bytes) × Stands store fed) (RefusesPrefix MAX_LEVEL bytes)
   pub adds : AddsLines (whole_lines bytes) first store
 
 module _ {first store : Nodes} {before after : Option (List ℕ)} {total : ℕ} {refused : Option Fault} {fed : Fed}
@@ -45,49 +45,49 @@ module _ {first store : Nodes} {before after : Option (List ℕ)} {total : ℕ} 
   -- no line of it was refused
   open-state : refused ≡ None → (fed.spent ≡ false) × (fed.bytes ≡ r.bytes) × Stands store fed
   open-state e =
-      subst (λ (o : Option Fault). MatchOption o ((fed.spent ≡ false) × (fed.bytes ≡ r.bytes) × Stands store fed) (RefusesFront MAX_LEVEL r.bytes)) e r.state
+      subst (λ (o : Option Fault). MatchOption o ((fed.spent ≡ false) × (fed.bytes ≡ r.bytes) × Stands store fed) (RefusesPrefix MAX_LEVEL r.bytes)) e r.state
 
   -- one was
-  refused-state : (fault : Fault) → refused ≡ Some fault → RefusesFront MAX_LEVEL r.bytes fault
+  refused-state : (fault : Fault) → refused ≡ Some fault → RefusesPrefix MAX_LEVEL r.bytes fault
   refused-state fault e =
-      subst (λ (o : Option Fault). MatchOption o ((fed.spent ≡ false) × (fed.bytes ≡ r.bytes) × Stands store fed) (RefusesFront MAX_LEVEL r.bytes)) e r.state
+      subst (λ (o : Option Fault). MatchOption o ((fed.spent ≡ false) × (fed.bytes ≡ r.bytes) × Stands store fed) (RefusesPrefix MAX_LEVEL r.bytes)) e r.state
 
 -- a piece more
 module _ (first old new : Nodes) (before mid after : Option (List ℕ)) (total count : ℕ) (refused next : Option Fault) (fed more : Fed) (piece : List ℕ) where
   pub reading-on : IsReading first old before mid total refused fed → Consumes mid after piece → length piece ≡ count
       → (next ≡ None → (refused ≡ None) × (more.spent ≡ false) × (more.bytes ≡ fed.bytes ++ piece) × Stands new more)
-      → IfSome next (λ fault. (refused ≡ Some fault) ⊎ ((refused ≡ None) × RefusesFront MAX_LEVEL (fed.bytes ++ piece) fault))
+      → IfSome next (λ fault. (refused ≡ Some fault) ⊎ ((refused ≡ None) × RefusesPrefix MAX_LEVEL (fed.bytes ++ piece) fault))
       → ((bytes : List ℕ) → (refused ≡ None → fed.bytes ≡ bytes) → AddsLines (whole_lines (bytes ++ piece)) old new)
       → IsReading first new before after (total + count) next more
-  reading-on r came len going told adds = record {
+  reading-on r came len going reported adds = record {
     bytes = r.bytes ++ piece;
     came = Consumes-trans before mid after r.bytes piece r.came came;
     count = omega (arith, r.count, len, length-append r.bytes piece);
-    state = by next refl going told;
-    adds = adds-then _ r.adds (adds r.bytes (λ e. (open-state r e).1)) (λ P s. front-more P r.bytes piece s) (λ P a. a);
+    state = by next refl going reported;
+    adds = adds-then _ r.adds (adds r.bytes (λ e. (open-state r e).1)) (λ P s. prefix-more P r.bytes piece s) (λ P a. a);
   }
     where
       by : (o : Option Fault) → next ≡ o → (o ≡ None → (refused ≡ None) × (more.spent ≡ false) × (more.bytes ≡ fed.bytes ++ piece) × Stands new more)
-          → IfSome o (λ fault. (refused ≡ Some fault) ⊎ ((refused ≡ None) × RefusesFront MAX_LEVEL (fed.bytes ++ piece) fault))
-          → MatchOption o ((more.spent ≡ false) × (more.bytes ≡ r.bytes ++ piece) × Stands new more) (RefusesFront MAX_LEVEL (r.bytes ++ piece))
+          → IfSome o (λ fault. (refused ≡ Some fault) ⊎ ((refused ≡ None) × RefusesPrefix MAX_LEVEL (fed.bytes ++ piece) fault))
+          → MatchOption o ((more.spent ≡ false) × (more.bytes ≡ r.bytes ++ piece) × Stands new more) (RefusesPrefix MAX_LEVEL (r.bytes ++ piece))
       by None e g t = let h = g refl in (h.1, h.2 ∙ ap (λ (b : List ℕ). b ++ piece) (open-state r h.0).1, h.3)
       by (Some fault) e g (inl s) = faults_stay r.bytes piece fault (refused-state r fault s)
-      by (Some fault) e g (inr s) = subst (λ (b : List ℕ). RefusesFront MAX_LEVEL (b ++ piece) fault) (open-state r s.0).1 s.1
+      by (Some fault) e g (inr s) = subst (λ (b : List ℕ). RefusesPrefix MAX_LEVEL (b ++ piece) fault) (open-state r s.0).1 s.1
 
 -- all came
 pub read-all : (most : ℕ) (before mid after : Option (List ℕ)) (bytes : List ℕ) → Consumes before mid bytes → Consumes mid after [] → IsAtEnd after
     → length bytes ≤ most
     → ReadAll most before after bytes
 read-all most before mid after bytes a b e l = record {
-  taken = subst (Consumes before after) (append-nil bytes) (Consumes-trans before mid after bytes [] a b);
+  consumed = subst (Consumes before after) (append-nil bytes) (Consumes-trans before mid after bytes [] a b);
   ended = e;
   within = l;
 }
 
--- ---- faults of a line, and want of room or of memory
+-- ---- faults of a line, and full stores or refused memory
 
-pub front-kind : (bytes : List ℕ) (fault : Fault) → RefusesFront MAX_LEVEL bytes fault → is_file_kind fault.kind ≡ true
-front-kind bytes fault r = refusal-kinds MAX_LEVEL (broken_kind MAX_LEVEL) Breaks-kind (lines_of bytes) fault r.refuses
+pub prefix-kind : (bytes : List ℕ) (fault : Fault) → RefusesPrefix MAX_LEVEL bytes fault → is_file_kind fault.kind ≡ true
+prefix-kind bytes fault r = refusal-kinds MAX_LEVEL (broken_kind MAX_LEVEL) Breaks-kind (lines_of bytes) fault r.refuses
 
 pub full-not : (kind : Kind) → is_file_kind kind ≡ true → kind ≡ Full → ⊥
 full-not kind h e = let k : is_file_kind Full ≡ true = subst (λ (k : Kind). is_file_kind k ≡ true) e h in cc
@@ -95,15 +95,15 @@ full-not kind h e = let k : is_file_kind Full ≡ true = subst (λ (k : Kind). i
 memory-not : (kind : Kind) → is_file_kind kind ≡ true → kind ≡ Memory → ⊥
 memory-not kind h e = let k : is_file_kind Memory ≡ true = subst (λ (k : Kind). is_file_kind k ≡ true) e h in cc
 
-pub want-of : (store : Nodes) (bytes : List ℕ) (fault : Fault) → IsShortageOf store fault ⊎ RefusesFront MAX_LEVEL bytes fault → (fault.kind ≡ Full)
+pub want-of : (store : Nodes) (bytes : List ℕ) (fault : Fault) → IsShortageOf store fault ⊎ RefusesPrefix MAX_LEVEL bytes fault → (fault.kind ≡ Full)
     ⊎ (fault.kind ≡ Memory) → IsShortageOf store fault
 want-of store bytes fault (inl w) k = w
-want-of store bytes fault (inr r) (inl k) = absurd (full-not fault.kind (front-kind bytes fault r) k)
-want-of store bytes fault (inr r) (inr k) = absurd (memory-not fault.kind (front-kind bytes fault r) k)
+want-of store bytes fault (inr r) (inl k) = absurd (full-not fault.kind (prefix-kind bytes fault r) k)
+want-of store bytes fault (inr r) (inr k) = absurd (memory-not fault.kind (prefix-kind bytes fault r) k)
 
-pub refused-by : (store : Nodes) (bytes : List ℕ) (fault : Fault) → IsShortageOf store fault ⊎ RefusesFront MAX_LEVEL bytes fault → (fault.kind ≡ Full → ⊥)
+pub refused-by : (store : Nodes) (bytes : List ℕ) (fault : Fault) → IsShortageOf store fault ⊎ RefusesPrefix MAX_LEVEL bytes fault → (fault.kind ≡ Full → ⊥)
     → (fault.kind ≡ Memory → ⊥)
-    → RefusesFront MAX_LEVEL bytes fault
+    → RefusesPrefix MAX_LEVEL bytes fault
 refused-by store bytes fault (inr r) n m = r
 refused-by store bytes fault (inl (inl e)) n m = absurd (m (ap (λ (f : Fault). f.kind) e))
 refused-by store bytes fault (inl (inr e)) n m = absurd (n (ap (λ (f : Fault). f.kind) e.0))
@@ -113,9 +113,9 @@ want-full : (store : Nodes) (fault : Fault) → IsShortageOf store fault → fau
 want-full store fault (inl m) e = let k = ap (λ (f : Fault). f.kind) (sym e ∙ m) in cc
 want-full store fault (inr w) e = w.1
 
-pub front-full : (store : Nodes) (bytes : List ℕ) (fault : Fault) → IsShortageOf store fault ⊎ RefusesFront MAX_LEVEL bytes fault → fault ≡ fault_of Full
+pub prefix-full : (store : Nodes) (bytes : List ℕ) (fault : Fault) → IsShortageOf store fault ⊎ RefusesPrefix MAX_LEVEL bytes fault → fault ≡ fault_of Full
     → length (stored_squares store) ≡ store.limit
-front-full store bytes fault h e = want-full store fault (want-of store bytes fault h (inl (ap (λ (f : Fault). f.kind) e))) e
+prefix-full store bytes fault h e = want-full store fault (want-of store bytes fault h (inl (ap (λ (f : Fault). f.kind) e))) e
 
 pub file-full : {T : Type 0} (store : Nodes) (bytes : List ℕ) (r : Result T Fault) → IfErr r (RefusesIn MAX_LEVEL bytes store) → r ≡ Err (fault_of Full)
     → length (stored_squares store) ≡ store.limit
@@ -130,10 +130,10 @@ file-full store bytes (Err fault) h e = by h
         (ap (λ (f : Fault). f.kind) is))
     by (inr w) = want-full store fault w is
 
--- a line was refused, and that is no want of room
+-- a line was refused, and that is no full store
 module _ (first store : Nodes) (before after : Option (List ℕ)) (total : ℕ) (refused : Option Fault) (fed : Fed) where
   pub refused-not-full : IsReading first store before after total refused fed → (fault : Fault) → refused ≡ Some fault → fault ≡ fault_of Full → ⊥
-  refused-not-full r fault is e = full-not fault.kind (front-kind r.bytes fault (refused-state r fault is)) (ap (λ (f : Fault). f.kind) e)
+  refused-not-full r fault is e = full-not fault.kind (prefix-kind r.bytes fault (refused-state r fault is)) (ap (λ (f : Fault). f.kind) e)
 
 -- more came than allowed
 module _ (first store : Nodes) (before mid after : Option (List ℕ)) (total count most : ℕ) (refused : Option Fault) (fed : Fed) (piece : List ℕ) where
@@ -141,19 +141,20 @@ module _ (first store : Nodes) (before mid after : Option (List ℕ)) (total cou
       → CameBeyond most before after
   beyond-most r came len more = record {
     bytes = r.bytes ++ piece;
-    taken = Consumes-trans before mid after r.bytes piece r.came came;
+    consumed = Consumes-trans before mid after r.bytes piece r.came came;
     long = omega (arith, r.count, len, more, length-append r.bytes piece);
   }
 
--- a piece more was fed, and the store has no room for its lines
+-- a piece more was fed, and the store has no space for its lines
 module _ (first store new : Nodes) (before mid after : Option (List ℕ)) (total count most failures : ℕ) (refused : Option Fault) (fed : Fed)
     (piece : List ℕ) where
-  pub lacks-front : IsReading first store before mid total refused fed → Consumes mid after piece → length piece ≡ count → total + count ≤ most
-      → (refused ≡ None) × LacksForFront MAX_LEVEL (fed.bytes ++ piece) new
+  pub lacks-prefix : IsReading first store before mid total refused fed → Consumes mid after piece → length piece ≡ count → total + count ≤ most
+      → (refused ≡ None) × LacksForPrefix MAX_LEVEL (fed.bytes ++ piece) new
       → LacksForRead MAX_LEVEL most new (record { before = before; after = after; failures = failures })
-  lacks-front r came len short lacks =
-      for_front (r.bytes ++ piece) (Consumes-trans before mid after r.bytes piece r.came came) (omega (arith, r.count, len, short, length-append r.bytes piece))
-      (subst (λ (b : List ℕ). LacksForFront MAX_LEVEL (b ++ piece) new) (open-state r lacks.0).1 lacks.1)
+  lacks-prefix r came len short lacks =
+      for_prefix (r.bytes ++ piece) (Consumes-trans before mid after r.bytes piece r.came came)
+      (omega (arith, r.count, len, short, length-append r.bytes piece))
+      (subst (λ (b : List ℕ). LacksForPrefix MAX_LEVEL (b ++ piece) new) (open-state r lacks.0).1 lacks.1)
 
 -- ---- what is stored
 
@@ -162,14 +163,14 @@ module _ (first store : Nodes) (before after : Option (List ℕ)) (total : ℕ) 
   pub reading-adds : IsReading first store before after total refused fed → AddsForRead before first store
   reading-adds r = record { bytes = r.bytes; left = after; came = r.came; adds = adds-as _ r.adds (λ P s. whole-needs P r.bytes s) }
 
-  -- and what is left of it where a refusal tells no want of room
+  -- and what is left of it where a refusal tells no full store
   pub reading-ends : {A : Type 0} {most failures : ℕ} {now : Option (List ℕ)} {result : Result A Fault}
       → IsReading first store before after total refused fed → Keeps first store → (result ≡ Err (fault_of Full) → ⊥)
       → (failures ≡ 1 → IsErrAnd result (λ fault. fault.kind ≡ ReadFault))
       → OnOk result (HoldsRead most store (record { before = before; after = now; failures = failures }))
       → ReadsSource most first store (record { before = before; after = now; failures = failures }) result
-  reading-ends r keeps roomy told all =
-      record { all = all; needed = λ e. absurd (roomy e); adds = reading-adds r; room = λ e. absurd (roomy e); told = told; keeps = keeps }
+  reading-ends r keeps roomy reported all =
+      record { all = all; needed = λ e. absurd (roomy e); adds = reading-adds r; space = λ e. absurd (roomy e); reported = reported; keeps = keeps }
 
   -- and what the reader stores of it at its end
   pub ended-adds : {new : Nodes} → IsReading first store before after total refused fed → refused ≡ None → AddsFile fed.bytes store new
@@ -191,20 +192,20 @@ module _ (first store new : Nodes) (before mid after : Option (List ℕ)) (total
     left = after;
     came = Consumes-trans before mid after r.bytes piece r.came came;
     adds = adds-then _ r.adds (adds r.bytes (λ e. (open-state r e).1))
-        (λ P s. whole-needs P (r.bytes ++ piece) (front-more P r.bytes piece s)) (λ P s. whole-needs P (r.bytes ++ piece) s);
+        (λ P s. whole-needs P (r.bytes ++ piece) (prefix-more P r.bytes piece s)) (λ P s. whole-needs P (r.bytes ++ piece) s);
   }
 
-  -- the store has no room for its lines
+  -- the store has no space for its lines
   pub piece-tight : IsReading first store before mid total refused fed → Consumes mid after piece → length piece ≡ count → total + count ≤ most → refused ≡ None
       → store.limit ≡ first.limit
-      → ((base : List Tree) → HoldsFront base fed.bytes store → store.limit < length base + room_for (length (fed.bytes ++ piece)))
+      → ((base : List Tree) → HoldsPrefix base fed.bytes store → store.limit < length base + sufficient_for (length (fed.bytes ++ piece)))
       → IsTightForRead most first (record { before = before; after = after; failures = failures })
-  piece-tight r came len short e limit room =
+  piece-tight r came len short e limit space =
       let same = (open-state r e).1 in
-      let holds : HoldsFront (stored_squares first) fed.bytes store = subst (λ (b : List ℕ). HoldsFront (stored_squares first) b store) (sym same)
+      let holds : HoldsPrefix (stored_squares first) fed.bytes store = subst (λ (b : List ℕ). HoldsPrefix (stored_squares first) b store) (sym same)
       r.adds.each in
-      let tight = subst (λ (b : List ℕ). store.limit < length (stored_squares first) + room_for (length (b ++ piece))) same
-      (room (stored_squares first) holds) in
+      let tight = subst (λ (b : List ℕ). store.limit < length (stored_squares first) + sufficient_for (length (b ++ piece))) same
+      (space (stored_squares first) holds) in
       record {
         bytes = r.bytes ++ piece;
         came = Consumes-trans before mid after r.bytes piece r.came came;
@@ -243,33 +244,33 @@ module _ (first store new : Nodes) (before mid after : Option (List ℕ)) (total
   pub ended-whole : refused ≡ None → (result : Result Pattern Fault)
       → IfOk result (λ pattern. (fed.spent ≡ false) × IsRead MAX_LEVEL fed.bytes new pattern) → AddsFile fed.bytes store new
       → IfOk result (ReadsWhole most first new (record { before = before; after = after; failures = failures }))
-  ended-whole is result told adds =
+  ended-whole is result reported adds =
       let same = sym (open-state r is).1 in
       let all : AddsFile fed.bytes first new = adds-then (λ P. SomeOfFile MAX_LEVEL P (lines_of fed.bytes)) r.adds adds
       (λ P s. subst (λ (b : List ℕ). SomeOfFile MAX_LEVEL P (lines_of b)) same (whole-needs P r.bytes s)) (λ P s. s) in
-      IfOk-weaker result _ _ (λ pattern h. record { bytes = fed.bytes; read = ended-read is; is = h.1; adds = all }) told
+      IfOk-weaker result _ _ (λ pattern h. record { bytes = fed.bytes; read = ended-read is; is = h.1; adds = all }) reported
 
-  -- the end came, and the store has no room for what it has
+  -- the end came, and the store has no space for what it has
   pub ended-lacks : refused ≡ None → LacksFor MAX_LEVEL fed.bytes new
       → LacksForRead MAX_LEVEL most new (record { before = before; after = after; failures = failures })
   ended-lacks is = for_file fed.bytes (ended-read is)
 
   -- nor has its limit
   pub ended-tight : refused ≡ None → store.limit ≡ first.limit
-      → ((base : List Tree) → HoldsOnly base fed.bytes store → store.limit < length base + room_for (length fed.bytes))
+      → ((base : List Tree) → HoldsOnly base fed.bytes store → store.limit < length base + sufficient_for (length fed.bytes))
       → IsTightForRead most first (record { before = before; after = after; failures = failures })
-  ended-tight is limit room =
+  ended-tight is limit space =
       let all = ended-read is in
       let same = (open-state r is).1 in
-      let front : HoldsFront (stored_squares first) fed.bytes store = subst (λ (b : List ℕ). HoldsFront (stored_squares first) b store) (sym same)
+      let prefix : HoldsPrefix (stored_squares first) fed.bytes store = subst (λ (b : List ℕ). HoldsPrefix (stored_squares first) b store) (sym same)
       r.adds.each in
-      let tight = room (stored_squares first) (fronts_hold fed.bytes [] (stored_squares first) store store front).1 in
-      record { bytes = fed.bytes; came = all.taken; within = all.within; tight = omega (arith, tight, limit) }
+      let tight = space (stored_squares first) (prefixes_hold fed.bytes [] (stored_squares first) store store prefix).1 in
+      record { bytes = fed.bytes; came = all.consumed; within = all.within; tight = omega (arith, tight, limit) }
 
   -- the end came, and the reader refuses what it has
   pub ended-open : refused ≡ None → (result : Result Pattern Fault) → (fed.spent ≡ false → IfErr result (λ fault. RefusesIn MAX_LEVEL fed.bytes new fault))
       → IfErr result (λ fault. ReadRefuses MAX_LEVEL most new (record { before = before; after = after; failures = failures }) fault)
-  ended-open is result told = IfErr-weaker result _ _ each (told (open-state r is).0)
+  ended-open is result reported = IfErr-weaker result _ _ each (reported (open-state r is).0)
     where
       read : ReadAll most before after fed.bytes
       read = ended-read is
@@ -282,12 +283,12 @@ module _ (first store new : Nodes) (before mid after : Option (List ℕ)) (total
 -- ---- how long an input is that tells its bytes
 
 beyond-length : (most : ℕ) (input : List ℕ) (after : Option (List ℕ)) → CameBeyond most (Some input) after → most < length input
-beyond-length most input None came = absurd came.taken
-beyond-length most input (Some left) came = omega (arith, came.long, ap length came.taken, length-append came.bytes left)
+beyond-length most input None came = absurd came.consumed
+beyond-length most input (Some left) came = omega (arith, came.long, ap length came.consumed, length-append came.bytes left)
 
 within-length : (most : ℕ) (input : List ℕ) (after : Option (List ℕ)) (bytes : List ℕ) → ReadAll most (Some input) after bytes → length input ≤ most
-within-length most input None bytes read = absurd read.taken
-within-length most input (Some left) bytes read = omega (arith, read.within, ap length read.taken, length-append bytes left, ap length read.ended)
+within-length most input None bytes read = absurd read.consumed
+within-length most input (Some left) bytes read = omega (arith, read.within, ap length read.consumed, length-append bytes left, ap length read.ended)
 
 pub lengths_stay : LengthsStay
 lengths_stay most input more after later bytes came read =

@@ -1,4 +1,4 @@
--- What calls leave in a store, one behind the other, and refusals that are handed on.
+-- What calls leave in a store, one after the other, and refusals that are handed on.
 use Rattle.std.proofs.Common.{◌≡◌, ◌⊎◌, inl, inr, ℕ, List, sym, ◌∙◌, Result, Ok, Err, ap, IfErr, IsErrAnd, OnOk}
 use Rattle.life_base.specs.DeviceRuns.{SourceRun}
 use Rattle.life_base.specs.Refusal.{fault_at, fault_of}
@@ -9,26 +9,26 @@ use Rattle.life_base.specs.declared.kind.Kind.{Kind}
 use Rattle.life_base.specs.declared.kind.Kind.TheVariants.{Full, LineTooLong, Memory, TooManyCells, WriteFault}
 use Rattle.life_quad.specs.Store.{Nodes}
 use Rattle.life_canon.specs.Calls.{ReadsInto, Stores}
-use Rattle.life_canon.specs.Feeding.{RefusesFront}
+use Rattle.life_canon.specs.Feeding.{RefusesPrefix}
 use Rattle.life_canon.specs.Running.{ReadsSource}
-use Rattle.life_canon.proofs.RunFacts.{front-kind, full-not}
+use Rattle.life_canon.proofs.RunFacts.{prefix-kind, full-not}
 use Rattle.life_base.proofs.Results.{err_again}
 
--- want of memory is no want of room
+-- refused memory is no full store
 apart : {fault : Fault} → fault ≡ fault_of Memory → fault ≡ fault_of Full → ⊥
-apart told e = kinds (ap (λ (f : Fault). f.kind) (sym told ∙ e))
+apart reported e = kinds (ap (λ (f : Fault). f.kind) (sym reported ∙ e))
   where
     kinds : Memory ≡ Full → ⊥
     kinds h = absurd (cc)
 
-pub no-room : {A : Type 0} {r : Result A Fault} → IfErr r (λ e. e ≡ fault_of Memory) → r ≡ Err (fault_of Full) → ⊥
-no-room {r = Ok x} told e = absurd (cc)
-no-room {r = Err x} told e = let is : x ≡ fault_of Full = cc in apart told is
+pub no-space : {A : Type 0} {r : Result A Fault} → IfErr r (λ e. e ≡ fault_of Memory) → r ≡ Err (fault_of Full) → ⊥
+no-space {r = Ok x} reported e = absurd (cc)
+no-space {r = Err x} reported e = let is : x ≡ fault_of Full = cc in apart reported is
 
 -- nor are too many cells
 pub not-stored : {A : Type 0} (P : Type 0) {r : Result A Fault} → IfErr r (λ e. (e ≡ fault_of Memory) ⊎ ((e ≡ fault_of TooManyCells) × P))
     → r ≡ Err (fault_of Full) → ⊥
-not-stored P {r = Ok x} told e = absurd (cc)
+not-stored P {r = Ok x} reported e = absurd (cc)
 not-stored P {r = Err x} (inl memory) e = let is : x ≡ fault_of Full = cc in apart memory is
 not-stored P {r = Err x} (inr many) e = let is : x ≡ fault_of Full = cc in kinds (ap (λ (f : Fault). f.kind) (sym many.0 ∙ is))
   where
@@ -36,30 +36,30 @@ not-stored P {r = Err x} (inr many) e = let is : x ≡ fault_of Full = cc in kin
     kinds h = absurd (cc)
 
 -- nor is a line that is too long
-pub kept-no-room : {n : ℕ} {P : Type 0} {fault : Fault} → (fault ≡ fault_of Memory) ⊎ ((fault ≡ fault_at n LineTooLong) × P) → fault ≡ fault_of Full → ⊥
-kept-no-room (inl memory) e = apart memory e
-kept-no-room {n} {fault = fault} (inr long) e = full-long (ap (λ (f : Fault). f.kind) (sym e ∙ long.0))
+pub kept-no-space : {n : ℕ} {P : Type 0} {fault : Fault} → (fault ≡ fault_of Memory) ⊎ ((fault ≡ fault_at n LineTooLong) × P) → fault ≡ fault_of Full → ⊥
+kept-no-space (inl memory) e = apart memory e
+kept-no-space {n} {fault = fault} (inr long) e = full-long (ap (λ (f : Fault). f.kind) (sym e ∙ long.0))
   where
     full-long : Full ≡ LineTooLong → ⊥
     full-long h = absurd (cc)
 
 -- nor is a sink that fails
-pub write-no-room : {A : Type 0} {kind : Kind} → kind ≡ WriteFault → ◌≡◌ {A = Result A Fault} (Err (fault_of kind)) (Err (fault_of Full)) → ⊥
-write-no-room {kind = kind} told e =
+pub write-no-space : {A : Type 0} {kind : Kind} → kind ≡ WriteFault → ◌≡◌ {A = Result A Fault} (Err (fault_of kind)) (Err (fault_of Full)) → ⊥
+write-no-space {kind = kind} reported e =
     let is : fault_of kind ≡ fault_of Full = cc in
-    kinds (sym told ∙ ap (λ (f : Fault). f.kind) is)
+    kinds (sym reported ∙ ap (λ (f : Fault). f.kind) is)
   where
     kinds : WriteFault ≡ Full → ⊥
     kinds h = absurd (cc)
 
--- nor is what refuses the front of a file
-pub front-no-room : {A : Type 0} (bytes : List ℕ) (r : Result A Fault) → IfErr r (λ e. (e ≡ fault_of Memory) ⊎ RefusesFront MAX_LEVEL bytes e)
+-- nor is what refuses a prefix of a file
+pub prefix-no-space : {A : Type 0} (bytes : List ℕ) (r : Result A Fault) → IfErr r (λ e. (e ≡ fault_of Memory) ⊎ RefusesPrefix MAX_LEVEL bytes e)
     → r ≡ Err (fault_of Full) → ⊥
-front-no-room bytes (Ok x) told e = absurd (cc)
-front-no-room bytes (Err x) (inl memory) e = let is : x ≡ fault_of Full = cc in apart memory is
-front-no-room bytes (Err x) (inr front) e =
+prefix-no-space bytes (Ok x) reported e = absurd (cc)
+prefix-no-space bytes (Err x) (inl memory) e = let is : x ≡ fault_of Full = cc in apart memory is
+prefix-no-space bytes (Err x) (inr prefix) e =
     let is : x ≡ fault_of Full = cc in
-    full-not x.kind (front-kind bytes x front) (ap (λ (f : Fault). f.kind) is)
+    full-not x.kind (prefix-kind bytes x prefix) (ap (λ (f : Fault). f.kind) is)
 
 -- what holds, holds also where a call succeeds
 whatever-comes : {T E P : Type 0} (r : Result T E) → P → OnOk r P
@@ -75,7 +75,7 @@ module _ {A B : Type 0} {old new : Nodes} where
       → ReadsInto bytes old new r
   reads-err {r = Ok x} h call = absurd h
   reads-err {r = Err f} h call =
-      rw h (record { all = tt; needed = λ e. call.needed (err_again e); adds = call.adds; room = λ e. call.room (err_again e); keeps = call.keeps })
+      rw h (record { all = tt; needed = λ e. call.needed (err_again e); adds = call.adds; space = λ e. call.space (err_again e); keeps = call.keeps })
 
   pub source-err : {most : ℕ} {source : SourceRun} {e : Fault} → ReadsSource {A = A} most old new source (Err e)
       → ReadsSource {A = B} most old new source (Err e)
@@ -84,18 +84,18 @@ module _ {A B : Type 0} {old new : Nodes} where
         all = tt;
         needed = λ h. call.needed (err_again h);
         adds = call.adds;
-        room = λ h. call.room (err_again h);
-        told = call.told;
+        space = λ h. call.space (err_again h);
+        reported = call.reported;
         keeps = call.keeps;
       }
 
-  -- what is done behind the reading and doesn't change the store
+  -- what is done after the reading and doesn't change the store
   pub reads-still : {bytes : List ℕ} {x : A} {r : Result B Fault} → ReadsInto bytes old new (Ok x) → (r ≡ Err (fault_of Full) → ⊥) → ReadsInto bytes old new r
   reads-still {r = r} call none = record {
     all = whatever-comes r call.all;
     needed = λ e. absurd (none e);
     adds = call.adds;
-    room = λ e. absurd
+    space = λ e. absurd
         (none e);
     keeps = call.keeps;
   }
@@ -107,7 +107,7 @@ module _ {A B : Type 0} {old new : Nodes} where
         all = whatever-comes r call.all;
         needed = λ e. absurd (none e);
         adds = call.adds;
-        room = λ e. absurd (none e);
-        told = λ e. absurd (call.told e);
+        space = λ e. absurd (none e);
+        reported = λ e. absurd (call.reported e);
         keeps = call.keeps;
       }

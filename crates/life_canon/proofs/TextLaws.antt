@@ -82,7 +82,7 @@ canonical-short top u le h =
 same-of : {u v : Universe} → u ≡ v → IsSame u v
 same-of {u} e = subst (IsSame u) e (record { rule = refl; generation = refl; cells = λ x y. refl })
 
-module _ (top : ℕ) (high : 3 ≤ suc top) (digits : suc top < 10 ^ 64) (room : four_to (suc top) ≤ 10 ^ 64) where
+module _ (top : ℕ) (high : 3 ≤ suc top) (digits : suc top < 10 ^ 64) (space : four_to (suc top) ≤ 10 ^ 64) where
   pub files_are_on_plane : FilesAreOnPlane (suc top)
   files_are_on_plane = λ bytes u r. reads-plane top bytes u high r
 
@@ -96,7 +96,7 @@ module _ (top : ℕ) (high : 3 ≤ suc top) (digits : suc top < 10 ^ 64) (room :
       texts_read_back (suc top) digits (canonical_file (suc top) u) (canonical-valid top u le h) (less (canonical-short top u le h))
     where
       less : {n : ℕ} → n < four_to (suc top) → n < 10 ^ 64
-      less l = omega (arith, room)
+      less l = omega (arith, space)
 
   text-same : (u : Universe) → IsOnPlane (suc top) u → IsSame u (macrocell_universe (canonical_file (suc top) u))
   text-same u h = canonical-same top u (least-high u.rule (suc top) high) h
@@ -161,13 +161,13 @@ wider-text more top u high h = ap mc_text (canonical-wider more top u (least-hig
 
 wider-says : (more top : ℕ) (u : Universe) → 3 ≤ suc top → suc (more + top) < 10 ^ 64 → four_to (suc (more + top)) ≤ 10 ^ 64 → IsOnPlane (suc top) u
     → IsMacrocell (suc (more + top)) (canon_text (suc top) u) (canonical_file (suc top) u)
-wider-says more top u high digits room h =
+wider-says more top u high digits space h =
     let le = least-high u.rule (suc top) high in
     let p : IsOnPlane (suc (more + top)) u = record
     { rule = h.rule; generation = h.generation; states = h.states; outside = outside-by u.cell more top h.outside } in
     let e : canonical_file (suc (more + top)) u ≡ canonical_file (suc top) u = canonical-wider more top u le h in
     subst (λ t. IsMacrocell (suc (more + top)) t (canonical_file (suc top) u)) (wider-text more top u high h)
-    (subst (IsMacrocell (suc (more + top)) (canon_text (suc (more + top)) u)) e (text-says (more + top) (higher more top high) digits room u p))
+    (subst (IsMacrocell (suc (more + top)) (canon_text (suc (more + top)) u)) e (text-says (more + top) (higher more top high) digits space u p))
   where
     higher : (more top : ℕ) → 3 ≤ suc top → 3 ≤ suc (more + top)
     higher more top l = omega arith
@@ -194,24 +194,24 @@ wider_plane_keeps_texts = λ top wider u high le most h.
     let m : suc ((wider - top) + (top - 1)) ≤ 62 = subst (λ n. n ≤ 62) (sym b) most in
     let P : ℕ → ℕ → Type 0 = λ t w. (canon_text w u ≡ canon_text t u) × IsMacrocell w (canon_text t u) (canonical_file t u) in
     let all : P (suc (top - 1)) (suc ((wider - top) + (top - 1)))
-    = (wider-text (wider - top) (top - 1) u l p, wider-says (wider - top) (top - 1) u l (digits_of _ m) (room_of _ m) p) in
+    = (wider-text (wider - top) (top - 1) u l p, wider-says (wider - top) (top - 1) u l (digits_of _ m) (squares_of_limit _ m) p) in
     subst (λ t. P t wider) a (subst (P (suc (top - 1))) b all)
   where
     digits_of : (n : ℕ) → n ≤ 62 → n < 10 ^ 64
     digits_of n l = through (suc n) (suc 62) (10 ^ 64) (omega arith) (lit≤ tt)
 
-    room_of : (n : ℕ) → n ≤ 62 → four_to n ≤ 10 ^ 64
-    room_of n l = through (four_to n) (four_to 62) (10 ^ 64) (four_to-more n 62 l) (lit≤ tt)
+    squares_of_limit : (n : ℕ) → n ≤ 62 → four_to n ≤ 10 ^ 64
+    squares_of_limit n l = through (four_to n) (four_to 62) (10 ^ 64) (four_to-more n 62 l) (lit≤ tt)
 
 -- ---- refusals
 
-breaks-once : (top : ℕ) (front : List (List ℕ)) (line : List ℕ) (a b : Kind) → Breaks top front line a → Breaks top front line b → a ≡ b
-breaks-once top front line a b = by (is_macrocell (front ++ line ∷ []))
+breaks-once : (top : ℕ) (prefix : List (List ℕ)) (line : List ℕ) (a b : Kind) → Breaks top prefix line a → Breaks top prefix line b → a ≡ b
+breaks-once top prefix line a b = by (is_macrocell (prefix ++ line ∷ []))
   where
-    by : (m : Bool) → MatchBool m (broken_rule top front line ≡ Some a) (BreaksRle top front line a)
-        → MatchBool m (broken_rule top front line ≡ Some b) (BreaksRle top front line b) → a ≡ b
-    by true p q = some_same a b (broken_rule top front line) p q
-    by false p q = (broken_for_good top front line b q).1 a p
+    by : (m : Bool) → MatchBool m (broken_rule top prefix line ≡ Some a) (BreaksRle top prefix line a)
+        → MatchBool m (broken_rule top prefix line ≡ Some b) (BreaksRle top prefix line b) → a ≡ b
+    by true p q = some_same a b (broken_rule top prefix line) p q
+    by false p q = (broken_for_good top prefix line b q).1 a p
 
 pub faults_are_unique : (top : ℕ) → FaultsAreUnique top
 faults_are_unique top = λ lines a b p q. one_refusal (Accepts top) (Breaks top) missing_file_part (breaks-once top) lines a b p q

@@ -11,28 +11,28 @@ use Rattle.life_base.specs.declared.kind.Kind.TheVariants.{NoHeader}
 use Rattle.life_mc.specs.Laws.{IsUnbrokenMacrocell}
 use Rattle.life_mc.specs.Macrocell.{Macrocell}
 use Rattle.life_mc.specs.Reading.{AreMacrocell, broken_rule, AcceptsMacrocell as IsSomeMacrocell}
-use Rattle.life_mc.proofs.FormatLaws.{fronts_are_unbroken}
+use Rattle.life_mc.proofs.FormatLaws.{prefixes_are_unbroken}
 use Rattle.life_rle.specs.Decided.{LacksHeader}
 use Rattle.life_rle.specs.Grammar.{IsSomeRle, BreaksRle}
 use Rattle.life_rle.proofs.DecidedLaw.{decided}
 use Rattle.life_rle.proofs.FormatLaws.{broken_for_good}
-use Rattle.life_rle.proofs.FrontLaws.{fronts_of_fronts, fronts_are_files}
+use Rattle.life_rle.proofs.PrefixLaws.{prefixes_of_prefixes, prefixes_are_files}
 use Rattle.life_canon.specs.Files.{Says, as_macrocell, as_rle, Accepts, Breaks, RefusesLines, missing_file_part, is_macrocell}
 use Rattle.life_canon.specs.Universe.{Universe, macrocell_universe, rle_universe}
 use Rattle.life_canon.proofs.Formats.{macrocell-first, rle-first}
 use Rattle.life_base.proofs.Basics.{true_false}
 
--- ---- fronts
+-- ---- prefixes
 
-pub macrocell-front : (top : ℕ) (lines : List (List ℕ)) → Prefix (IsSomeMacrocell top) lines → Prefix (Accepts top) lines
-macrocell-front top lines p = (p.0, (macrocell_universe p.1.0, as_macrocell p.1.0 p.1.1))
+pub macrocell-prefix : (top : ℕ) (lines : List (List ℕ)) → Prefix (IsSomeMacrocell top) lines → Prefix (Accepts top) lines
+macrocell-prefix top lines p = (p.0, (macrocell_universe p.1.0, as_macrocell p.1.0 p.1.1))
 
-pub rle-front : (top : ℕ) (lines : List (List ℕ)) → Prefix (IsSomeRle top) lines → Prefix (Accepts top) lines
-rle-front top lines p = (p.0, (rle_universe p.1.0, as_rle p.1.0 p.1.1))
+pub rle-prefix : (top : ℕ) (lines : List (List ℕ)) → Prefix (IsSomeRle top) lines → Prefix (Accepts top) lines
+rle-prefix top lines p = (p.0, (rle_universe p.1.0, as_rle p.1.0 p.1.1))
 
--- no lines are a front
+-- no lines are a prefix
 pub no_lines : (top : ℕ) → Prefix (Accepts top) []
-no_lines top = macrocell-front top [] ((fronts_are_unbroken top []).1 (λ k h. absurd (omega arith)))
+no_lines top = macrocell-prefix top [] ((prefixes_are_unbroken top []).1 (λ k h. absurd (omega arith)))
 
 unbroken-shorter : (top : ℕ) (lines more : List (List ℕ)) → IsUnbrokenMacrocell top (lines ++ more) → IsUnbrokenMacrocell top lines
 unbroken-shorter top lines more u k h =
@@ -40,90 +40,90 @@ unbroken-shorter top lines more u k h =
     let f : get_or (lines ++ more) k [] ≡ get_or lines k [] = get_or-append lines more [] k h in
     rw (← e, ← f) (u k (omega (arith, length-append lines more)))
 
--- the first lines of a front are one
-pub shorter-front : (top : ℕ) (lines more : List (List ℕ)) → Prefix (Accepts top) (lines ++ more) → Prefix (Accepts top) lines
-shorter-front top lines more p = by p.1.0 p.1.1
+-- the first lines of a prefix are one
+pub shorter-prefix : (top : ℕ) (lines more : List (List ℕ)) → Prefix (Accepts top) (lines ++ more) → Prefix (Accepts top) lines
+shorter-prefix top lines more p = by p.1.0 p.1.1
   where
     by : (u : Universe) → Says top ((lines ++ more) ++ kept_lines p.0 continuations) u → Prefix (Accepts top) lines
     by _ (as_macrocell file are) =
-        macrocell-front top lines ((fronts_are_unbroken top lines).1
-        (unbroken-shorter top lines more ((fronts_are_unbroken top (lines ++ more)).0 (p.0, (file, are)))))
-    by _ (as_rle file is) = rle-front top lines (fronts_of_fronts top lines more (p.0, (file, is)))
+        macrocell-prefix top lines ((prefixes_are_unbroken top lines).1
+        (unbroken-shorter top lines more ((prefixes_are_unbroken top (lines ++ more)).0 (p.0, (file, are)))))
+    by _ (as_rle file is) = rle-prefix top lines (prefixes_of_prefixes top lines more (p.0, (file, is)))
 
-pub taken-front : (top k : ℕ) (lines : List (List ℕ)) → Prefix (Accepts top) lines → Prefix (Accepts top) (take k lines)
-taken-front top k lines p = shorter-front top (take k lines) (drop k lines) (subst (Prefix (Accepts top)) (sym (take-append-drop k lines)) p)
+pub consumed-prefix : (top k : ℕ) (lines : List (List ℕ)) → Prefix (Accepts top) lines → Prefix (Accepts top) (take k lines)
+consumed-prefix top k lines p = shorter-prefix top (take k lines) (drop k lines) (subst (Prefix (Accepts top)) (sym (take-append-drop k lines)) p)
 
 -- ---- a line that breaks a rule
 
--- lines behind the first don't change the format
-pub same-format : (front : List (List ℕ)) (line : List ℕ) (more : List (List ℕ)) → is_macrocell ((front ++ line ∷ []) ++ more)
-    ≡ is_macrocell (front ++ line ∷ [])
+-- lines after the first don't change the format
+pub same-format : (prefix : List (List ℕ)) (line : List ℕ) (more : List (List ℕ)) → is_macrocell ((prefix ++ line ∷ []) ++ more)
+    ≡ is_macrocell (prefix ++ line ∷ [])
 same-format [] line more = refl
-same-format (first ∷ front) line more = refl
+same-format (first ∷ prefix) line more = refl
 
 pub none-some : (kind : Kind) (o : Option Kind) → o ≡ None → o ≡ Some kind → ⊥
 none-some kind o e f = cc
 
--- behind it there is no file
-pub for_good : (top : ℕ) (front : List (List ℕ)) (line : List ℕ) (kind : Kind) (more : List (List ℕ)) → Breaks top front line kind
-    → Accepts top ((front ++ line ∷ []) ++ more) → ⊥
-for_good top front line kind more b a = by (is_macrocell (front ++ line ∷ [])) refl b a.0 a.1
+-- after it there is no file
+pub for_good : (top : ℕ) (prefix : List (List ℕ)) (line : List ℕ) (kind : Kind) (more : List (List ℕ)) → Breaks top prefix line kind
+    → Accepts top ((prefix ++ line ∷ []) ++ more) → ⊥
+for_good top prefix line kind more b a = by (is_macrocell (prefix ++ line ∷ [])) refl b a.0 a.1
   where
-    at_once : (file : Macrocell) → AreMacrocell top ((front ++ line ∷ []) ++ more) file → broken_rule top front line ≡ Some kind → ⊥
+    at_once : (file : Macrocell) → AreMacrocell top ((prefix ++ line ∷ []) ++ more) file → broken_rule top prefix line ≡ Some kind → ⊥
     at_once file are h =
-        let e : (front ++ line ∷ []) ++ more ≡ front ++ line ∷ more = append_assoc front (line ∷ []) more in
-        let u : IsUnbrokenMacrocell top (front ++ line ∷ more) = subst (IsUnbrokenMacrocell top) e are.unbroken in
-        let v = u (length front) (omega (arith, length-append front (line ∷ more))) in
-        let w : broken_rule top front line ≡ None = rw (take-append_seam front (line ∷ more), get_or-append_seam front line more []) at v in
-        none-some kind (broken_rule top front line) w h
+        let e : (prefix ++ line ∷ []) ++ more ≡ prefix ++ line ∷ more = append_assoc prefix (line ∷ []) more in
+        let u : IsUnbrokenMacrocell top (prefix ++ line ∷ more) = subst (IsUnbrokenMacrocell top) e are.unbroken in
+        let v = u (length prefix) (omega (arith, length-append prefix (line ∷ more))) in
+        let w : broken_rule top prefix line ≡ None = rw (take-append_seam prefix (line ∷ more), get_or-append_seam prefix line more []) at v in
+        none-some kind (broken_rule top prefix line) w h
 
-    by : (m : Bool) → is_macrocell (front ++ line ∷ []) ≡ m → MatchBool m (broken_rule top front line ≡ Some kind) (BreaksRle top front line kind)
-        → (u : Universe) → Says top ((front ++ line ∷ []) ++ more) u → ⊥
+    by : (m : Bool) → is_macrocell (prefix ++ line ∷ []) ≡ m → MatchBool m (broken_rule top prefix line ≡ Some kind) (BreaksRle top prefix line kind)
+        → (u : Universe) → Says top ((prefix ++ line ∷ []) ++ more) u → ⊥
     by true e h _ (as_macrocell file are) = at_once file are h
-    by true e h _ (as_rle file is) = rle-first top _ file is (same-format front line more ∙ e)
-    by false e h _ (as_macrocell file are) = true_false _ (macrocell-first top _ file are) (same-format front line more ∙ e)
-    by false e h _ (as_rle file is) = (broken_for_good top front line kind h).2 more file is
+    by true e h _ (as_rle file is) = rle-first top _ file is (same-format prefix line more ∙ e)
+    by false e h _ (as_macrocell file are) = true_false _ (macrocell-first top _ file are) (same-format prefix line more ∙ e)
+    by false e h _ (as_rle file is) = (broken_for_good top prefix line kind h).2 more file is
 
 -- so it is the place of the refusal
-pub line-refused : (top : ℕ) (lines front : List (List ℕ)) (line : List ℕ) (more : List (List ℕ)) (fault : Fault) → lines ≡ front ++ line ∷ more
-    → Prefix (Accepts top) front
-    → Breaks top front line fault.kind → fault.place.line ≡ min (length front + 1) (2 ^ 64 - 1) → RefusesLines top lines fault
-line-refused top lines front line more fault e p b at =
-    let len : length lines ≡ length front + 1 + length more = ap length e ∙ omega (arith, length-append front (line ∷ more)) in
-    let split : lines ≡ (front ++ line ∷ []) ++ more = e ∙ sym (append_assoc front (line ∷ []) more) in
-    let less : length front + 1 - 1 ≡ length front = omega arith in
-    let fore : take (length front) lines ≡ front = ap (take (length front)) e ∙ take-append_seam front (line ∷ more) in
-    let item : slice_index_or lines (length front) [] ≡ line = ap (λ (ls : List (List ℕ)). slice_index_or ls (length front) []) e
-    ∙ get_or-append_seam front line more [] in
-    let whole : take (length front + 1) lines ≡ front ++ line ∷ [] =
-    (let long : length front + 1 ≡ length (front ++ line ∷ []) = omega (arith, length-append front (line ∷ [])) in
-    rw (split, long) (take-append_seam (front ++ line ∷ []) more)) in
+pub line-refused : (top : ℕ) (lines prefix : List (List ℕ)) (line : List ℕ) (more : List (List ℕ)) (fault : Fault) → lines ≡ prefix ++ line ∷ more
+    → Prefix (Accepts top) prefix
+    → Breaks top prefix line fault.kind → fault.place.line ≡ min (length prefix + 1) (2 ^ 64 - 1) → RefusesLines top lines fault
+line-refused top lines prefix line more fault e p b at =
+    let len : length lines ≡ length prefix + 1 + length more = ap length e ∙ omega (arith, length-append prefix (line ∷ more)) in
+    let split : lines ≡ (prefix ++ line ∷ []) ++ more = e ∙ sym (append_assoc prefix (line ∷ []) more) in
+    let less : length prefix + 1 - 1 ≡ length prefix = omega arith in
+    let fore : take (length prefix) lines ≡ prefix = ap (take (length prefix)) e ∙ take-append_seam prefix (line ∷ more) in
+    let item : slice_index_or lines (length prefix) [] ≡ line = ap (λ (ls : List (List ℕ)). slice_index_or ls (length prefix) []) e
+    ∙ get_or-append_seam prefix line more [] in
+    let whole : take (length prefix + 1) lines ≡ prefix ++ line ∷ [] =
+    (let long : length prefix + 1 ≡ length (prefix ++ line ∷ []) = omega (arith, length-append prefix (line ∷ [])) in
+    rw (split, long) (take-append_seam (prefix ++ line ∷ []) more)) in
     record {
-      refused = λ a. for_good top front line fault.kind more b (subst (Accepts top) split a);
-      n = length front + 1;
+      refused = λ a. for_good top prefix line fault.kind more b (subst (Accepts top) split a);
+      n = length prefix + 1;
       place = record {
         counted = omega arith;
         within = omega arith;
         before = λ k h.
-            let same : take k lines ≡ take k front = ap (take k) e ∙ take-append-le k front (line ∷ more) (omega arith) in
-            subst (Prefix (Accepts top)) (sym same) (taken-front top k front p);
-        here = λ h q. let r = subst (Prefix (Accepts top)) whole q in for_good top front line fault.kind (kept_lines r.0 continuations) b r.1;
+            let same : take k lines ≡ take k prefix = ap (take k) e ∙ take-append-le k prefix (line ∷ more) (omega arith) in
+            subst (Prefix (Accepts top)) (sym same) (consumed-prefix top k prefix p);
+        here = λ h q. let r = subst (Prefix (Accepts top)) whole q in for_good top prefix line fault.kind (kept_lines r.0 continuations) b r.1;
       };
       line = at;
       at_line = λ h.
           subst (λ (k : ℕ). Breaks top (take k lines) (slice_index_or lines k []) fault.kind) (sym less)
-          (subst (λ (f : List (List ℕ)). Breaks top f (slice_index_or lines (length front) []) fault.kind) (sym fore)
-          (subst (λ (l : List ℕ). Breaks top front l fault.kind) (sym item) b));
+          (subst (λ (f : List (List ℕ)). Breaks top f (slice_index_or lines (length prefix) []) fault.kind) (sym fore)
+          (subst (λ (l : List ℕ). Breaks top prefix l fault.kind) (sym item) b));
       at_end = λ h. absurd (omega arith);
     }
 
 -- the number of that line
-pub line-refused-n : (top : ℕ) (lines front : List (List ℕ)) (line : List ℕ) (more : List (List ℕ)) (fault : Fault) (e : lines ≡ front ++ line ∷ more)
-    (p : Prefix (Accepts top) front)
-    (b : Breaks top front line fault.kind) (at : fault.place.line ≡ min (length front + 1) (2 ^ 64 - 1))
-    → (line-refused top lines front line more fault e p b at).n ≡ length front + 1
+pub line-refused-n : (top : ℕ) (lines prefix : List (List ℕ)) (line : List ℕ) (more : List (List ℕ)) (fault : Fault) (e : lines ≡ prefix ++ line ∷ more)
+    (p : Prefix (Accepts top) prefix)
+    (b : Breaks top prefix line fault.kind) (at : fault.place.line ≡ min (length prefix + 1) (2 ^ 64 - 1))
+    → (line-refused top lines prefix line more fault e p b at).n ≡ length prefix + 1
 unfolding line-refused
-line-refused-n top lines front line more fault e p b at = refl
+line-refused-n top lines prefix line more fault e p b at = refl
 
 -- ---- lines without a header
 
@@ -136,7 +136,7 @@ end-refused top lines fault h format kind at = record {
   place = record {
     counted = omega arith;
     within = omega arith;
-    before = λ k l. taken-front top k lines (rle-front top lines ((fronts_are_files top lines).1 (inr h)));
+    before = λ k l. consumed-prefix top k lines (rle-prefix top lines ((prefixes_are_files top lines).1 (inr h)));
     here = λ l q. absurd (omega arith);
   };
   line = at;

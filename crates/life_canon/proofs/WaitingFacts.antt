@@ -68,7 +68,7 @@ module _ {knew knows : Id → Type 0} {was now : Id → Tree} where
           ne_level = ap depth ne.1 ∙ can.ne_level ∙ sym (ap depth nw.1);
           sw_level = ap depth sw.1 ∙ can.sw_level ∙ sym (ap depth nw.1);
           se_level = ap depth se.1 ∙ can.se_level ∙ sym (ap depth nw.1);
-          room = subst (λ (n : ℕ). n < MAX_LEVEL) (sym (ap depth nw.1)) can.room;
+          space = subst (λ (n : ℕ). n < MAX_LEVEL) (sym (ap depth nw.1)) can.space;
         },
         λ i. quad (nw.1 i) (ne.1 i) (sw.1 i) (se.1 i),
       )
@@ -146,7 +146,7 @@ kept-squares {knows} {content} lines ids h = record {
       (subst knows (get_or_from_slice_get ids index id id at) (h.known index id lt), e.0, e.1);
 }
 
--- a node line that names the first lines alone is a square behind them
+-- a node line that names the first lines alone is a square after them
 first-quarter : (rule : Rule) (lines : List Line) (n k number : ℕ) → IsQuarter rule lines (length lines) k number → (k ≡ 0) ⊎ (number ≤ n)
     → IsQuarter rule lines n k number
 first-quarter rule lines n zero number q h = q
@@ -179,7 +179,7 @@ first-square rule lines n square le is names =
     let valid = square-valid MAX_LEVEL rule lines (length lines) square (le_refl (length lines)) whole in
     valid-square MAX_LEVEL rule lines n square le (first-line rule lines n square valid names)
 
--- its square is the same behind more lines
+-- its square is the same after more lines
 pub first-tree : (rule : Rule) (generation : ℕ) (first more : List Line) (square : Line)
     → IsValidMacrocell MAX_LEVEL (record { rule = rule; generation = generation; lines = first ++ more })
     → IsSquare MAX_LEVEL rule (map level_of first) square
@@ -281,7 +281,7 @@ line-some P lines other (Quad level nw ne sw se) e p = subst P e p
 
 pub named-some : (P : Tree → Type 0) (lines : List (List ℕ)) (t : Tree) → IsOfNodeLine MAX_LEVEL lines t → P t → SomeOfLines MAX_LEVEL P lines
 named-some P lines t h p =
-    of_node_line h.before h.line h.behind h.square h.are h.front h.squares (some-line P (squares_of h.before) h.square (subst P h.tree p))
+    of_node_line h.before h.line h.behind h.square h.are h.prefix h.squares (some-line P (squares_of h.before) h.square (subst P h.tree p))
 
 pub waiting-some : {knows : Id → Type 0} {content : Id → Tree} (lines : List (List ℕ)) (ids : List Id) (waiting : List Quarters)
     → KeepsLines knows content lines ids waiting → (P : Tree → Type 0) → SomeOf P (quads_of content waiting) → SomeOfLines MAX_LEVEL P lines
@@ -294,7 +294,7 @@ named-more lines more t h = record {
   behind = h.behind ++ more;
   square = h.square;
   are = ap (λ (ls : List (List ℕ)). ls ++ more) h.are ∙ append_assoc h.before (h.line ∷ h.behind) more;
-  front = h.front;
+  prefix = h.prefix;
   squares = h.squares;
   tree = h.tree;
 }

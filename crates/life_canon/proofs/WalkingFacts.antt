@@ -25,7 +25,7 @@ use Rattle.life_base.proofs.Basics.{true_false}
 
 -- ---- lists that begin with another
 
--- the new list has more squares behind those of the old one
+-- the new list has more squares after those of the old one
 abbrev pub Behind : List Tree → List Tree → Type 0
 Behind old new = (more : List Tree) × (new ≡ old ++ more)
 
@@ -85,20 +85,20 @@ fresh m all new q t e full less h = elim (bool_cases (is_in new t)) [
 
 -- ---- what is taken
 
-front-more : (old new rest all : List Tree) (p : Behind old new) → all ≡ new ++ rest → all ≡ old ++ (p.0 ++ rest)
-front-more old new rest all p e = e ∙ ap (λ l. l ++ rest) p.1 ∙ append_assoc old p.0 rest
+prefix-more : (old new rest all : List Tree) (p : Behind old new) → all ≡ new ++ rest → all ≡ old ++ (p.0 ++ rest)
+prefix-more old new rest all p e = e ∙ ap (λ l. l ++ rest) p.1 ∙ append_assoc old p.0 rest
 
 module _ {A : Type 0} (took broke : A → A → List Line → Type 0) (rule : Rule) {a b : A} (old mid : List Tree) where
-  -- a walk that breaks behind a call
+  -- a walk that breaks after a call
   pub breaks-then : {c : A} (ws far : List Tree) → TakesOn took rule a b old mid → BreaksIn took broke rule b c mid (with_all mid ws)
       → Behind (with_all mid ws) far
       → BreaksIn took broke rule a c old far
   breaks-then ws far u v q = λ start all rest e w.
       let p = behind-all mid ws in
-      let more = front-more (with_all mid ws) far rest all q e in
-      v start all (q.0 ++ rest) more (u start all (p.0 ++ (q.0 ++ rest)) (front-more mid (with_all mid ws) (q.0 ++ rest) all p more) w)
+      let more = prefix-more (with_all mid ws) far rest all q e in
+      v start all (q.0 ++ rest) more (u start all (p.0 ++ (q.0 ++ rest)) (prefix-more mid (with_all mid ws) (q.0 ++ rest) all p more) w)
 
-  -- a line behind a call
+  -- a line after a call
   takes-line : {c : A} (new : List Tree) (t : Tree) (line : Line) → new ≡ mid ++ t ∷ [] → TakesOn took rule a b old mid
       → TakesNodeLine took b c line
       → ((all rest : List Tree) → all ≡ (mid ++ t ∷ []) ++ rest → line ≡ line_of rule all t) → TakesOn took rule a c old new
@@ -106,11 +106,11 @@ module _ {A : Type 0} (took broke : A → A → List Line → Type 0) (rule : Ru
       subst (took start c) (ap (λ r. map (line_of rule all) mid ++ r ∷ []) (is all rest e) ∙ sym (map-append (line_of rule all) mid (t ∷ [])))
       (v start (map (line_of rule all) mid) (u start all (t ∷ rest) (e ∙ append_assoc mid (t ∷ []) rest) w)))
 
-  -- a line that breaks behind a call
+  -- a line that breaks after a call
   breaks-line : {c : A} (far : List Tree) → TakesOn took rule a b old mid → BreaksOff took broke b c → Behind mid far
       → BreaksIn took broke rule a c old far
   breaks-line {c = c} far u v p = λ start all rest e w.
-      let more = front-more mid far rest all p e in
+      let more = prefix-more mid far rest all p e in
       subst (broke start c) (sym (map-append (line_of rule all) mid (p.0 ++ rest)) ∙ ap (map (line_of rule all)) (sym more))
       (v start (map (line_of rule all) mid) (map (line_of rule all) (p.0 ++ rest)) (u start all (p.0 ++ rest) more w))
 
@@ -151,19 +151,19 @@ known-skip rule all t h (inl e) = skip all t (least_level rule) (least-one rule)
     smaller m t le e = grind (arith, nat_tests)
 known-skip rule all t h (inr e) = skip all t (least_level rule) (least-one rule) h (inr e)
 
-pub walk-front : (ks xs ys : List Tree) → Behind (with_all ks xs) (with_all ks (xs ++ ys))
-walk-front ks xs ys = rw (with_all-append ks xs ys) (behind-all (with_all ks xs) ys)
+pub walk-prefix : (ks xs ys : List Tree) → Behind (with_all ks xs) (with_all ks (xs ++ ys))
+walk-prefix ks xs ys = rw (with_all-append ks xs ys) (behind-all (with_all ks xs) ys)
 
--- What was walked up to each quarter stands at the front of the whole walk.
-pub record Fronts (m : ℕ) (b c d : Tree) (all1 all2 all3 far : List Tree) : Type 0 where
+-- What was walked up to each quarter stands at the beginning of the whole walk.
+pub record Prefixes (m : ℕ) (b c d : Tree) (all1 all2 all3 far : List Tree) : Type 0 where
   pub one : Behind all1 far
   pub two : Behind (with_all all1 (walk b m)) far
   pub three : Behind (with_all all2 (walk c m)) far
   pub four : Behind (with_all all3 (walk d m)) far
 
-pub fronts : (m : ℕ) (t a b c d : Tree) (all all1 all2 all3 : List Tree) → is_small m t ≡ false → t ≡ quad a b c d → all1 ≡ with_all all (walk a m)
-    → all2 ≡ with_all all1 (walk b m) → all3 ≡ with_all all2 (walk c m) → Fronts m b c d all1 all2 all3 (with_all all (walk t m))
-fronts m t a b c d all all1 all2 all3 s e p1 p2 p3 =
+pub prefixes : (m : ℕ) (t a b c d : Tree) (all all1 all2 all3 : List Tree) → is_small m t ≡ false → t ≡ quad a b c d → all1 ≡ with_all all (walk a m)
+    → all2 ≡ with_all all1 (walk b m) → all3 ≡ with_all all2 (walk c m) → Prefixes m b c d all1 all2 all3 (with_all all (walk t m))
+prefixes m t a b c d all all1 all2 all3 s e p1 p2 p3 =
     let s' : is_small m (quad a b c d) ≡ false = subst (λ v. is_small m v ≡ false) e s in
     let end = quad a b c d ∷ [] in
     let q : with_all all (walk t m) ≡ with_all all1 (walk b m ++ (walk c m ++ (walk d m ++ end))) =
@@ -176,9 +176,9 @@ fronts m t a b c d all all1 all2 all3 s e p1 p2 p3 =
     q2 ∙ with_all-append all2 (walk c m) (walk d m ++ end) ∙ ap (λ l. with_all l (walk d m ++ end)) (sym p3) in
     record {
       one = rw q (behind-all all1 (walk b m ++ (walk c m ++ (walk d m ++ end))));
-      two = rw q (walk-front all1 (walk b m) (walk c m ++ (walk d m ++ end)));
-      three = rw q2 (walk-front all2 (walk c m) (walk d m ++ end));
-      four = rw q3 (walk-front all3 (walk d m) end);
+      two = rw q (walk-prefix all1 (walk b m) (walk c m ++ (walk d m ++ end)));
+      three = rw q2 (walk-prefix all2 (walk c m) (walk d m ++ end));
+      four = rw q3 (walk-prefix all3 (walk d m) end);
     }
 
 -- a quarter of a square above the level of a leaf has that level at least
@@ -241,7 +241,7 @@ leaf-walk : (rule : Rule) (t : Tree) (all new : List Tree) → is_small (least_l
     → new ≡ all ++ t ∷ [] → new ≡ with_all all (walk t (least_level rule))
 leaf-walk rule t all new small full l absent e = least-step t (least_level rule) all new (least-one rule) small full l (e ∙ sym (with_new-fresh all t absent))
 
--- a square isn't there behind its quarters
+-- a square isn't there after its quarters
 pub absent-still : (m : ℕ) (t a b c d : Tree) (all all1 all2 all3 all4 : List Tree) → IsFull t → t ≡ quad a b c d → all1 ≡ with_all all (walk a m)
     → all2 ≡ with_all all1 (walk b m)
     → all3 ≡ with_all all2 (walk c m) → all4 ≡ with_all all3 (walk d m) → is_in all t ≡ false → is_in all4 t ≡ false
@@ -252,7 +252,7 @@ absent-still m t a b c d all all1 all2 all3 all4 full e p1 p2 p3 p4 absent =
     (fresh m all2 all3 c t p3 f.2 (omega (arith, deep, f.5))
     (fresh m all1 all2 b t p2 f.1 (omega (arith, deep, f.4)) (fresh m all all1 a t p1 f.0 (omega (arith, deep)) absent)))
 
--- it is added behind them
+-- it is added after them
 pub quad-walk : (rule : Rule) (t a b c d : Tree) (all all1 all2 all3 all4 new : List Tree) → is_small (least_level rule) t ≡ false → t ≡ quad a b c d
     → all1 ≡ with_all all (walk a (least_level rule)) → all2 ≡ with_all all1 (walk b (least_level rule)) → all3 ≡ with_all all2 (walk c (least_level rule))
     → all4 ≡ with_all all3 (walk d (least_level rule))
@@ -328,23 +328,23 @@ module _ {A : Type 0} {knows : Id → Type 0} {took broke : A → A → List Lin
             (λ whole rest e. leaf-line rule t level (Leaf (rows_of t)) whole may.level is refl);
       })
 
--- ---- a square above the leaves: its quarters are walked one behind the other, and then it is added
+-- ---- a square above the leaves: its quarters are walked one after the other, and then it is added
 
--- a walk behind another
+-- a walk after another
 both : {A : Type 0} {knows : Id → Type 0} {took broke : A → A → List Line → Type 0} {content : Id → Tree} {rule : Rule} {a b c : A} {q : Id}
     {mid new : List Id} {n : ℕ} (old : List Id) → Walked knows content took broke rule q b c mid new (Ok n)
     → TakesOn took rule a b (map content old) (map content mid) → TakesOn took rule a c (map content old) (map content new)
 both {content = content} {rule = rule} {q = q} {mid = mid} {new = new} old v u = λ start all rest e w.
     let b = subst (Behind (map content mid)) (sym v.wrote.walked) (behind-all (map content mid) (walk (content q) (least_level rule))) in
-    v.wrote.lines start all rest e (u start all (b.0 ++ rest) (front-more (map content mid) (map content new) rest all b e) w)
+    v.wrote.lines start all rest e (u start all (b.0 ++ rest) (prefix-more (map content mid) (map content new) rest all b e) w)
 
 begun : {knows : Id → Type 0} {content : Id → Tree} {rule : Rule} {level : ℕ} {id nw ne sw se : Id} {old : List Id} (all1 all2 all3 : List Tree)
     → MayWalk knows content rule level id old → (1 ≤ depth (content id)) × (is_blank (content id) ≡ false)
     → content id ≡ quad (content nw) (content ne) (content sw) (content se) → all1 ≡ with_all (map content old) (walk (content nw) (least_level rule))
     → all2 ≡ with_all all1 (walk (content ne) (least_level rule)) → all3 ≡ with_all all2 (walk (content sw) (least_level rule))
-    → Fronts (least_level rule) (content ne) (content sw) (content se) all1 all2 all3 (with_all (map content old) (walk (content id) (least_level rule)))
+    → Prefixes (least_level rule) (content ne) (content sw) (content se) all1 all2 all3 (with_all (map content old) (walk (content id) (least_level rule)))
 begun {content = content} {rule = rule} {level = level} {id = id} {old = old} all1 all2 all3 may shown square =
-    fronts (least_level rule) (content id) _ _ _ _ (map content old) all1 all2 all3 (big rule (content id) level may.level may.high shown) square
+    prefixes (least_level rule) (content id) _ _ _ _ (map content old) all1 all2 all3 (big rule (content id) level may.level may.high shown) square
 
 module _ {A : Type 0} {knows : Id → Type 0} {took broke : A → A → List Line → Type 0} {content : Id → Tree} {rule : Rule} {level : ℕ} {id nw ne sw se : Id}
     {old : List Id} (may : MayWalk knows content rule level id old) (shown : (1 ≤ depth (content id)) × (is_blank (content id) ≡ false))
@@ -417,10 +417,10 @@ module _ {A : Type 0} (took broke : A → A → List Line → Type 0) (rule : Ru
     begun-none : (all : List Tree) → took a a (map (line_of rule all) old)
     begun-none all = subst (λ l. took a a (map (line_of rule all) l)) (sym none) begins
 
-    pub whole-taken : (new : List Tree) → new ≡ with_all old (walk root (least_level rule)) → TakesOn took rule a b old new
+    pub whole-consumed : (new : List Tree) → new ≡ with_all old (walk root (least_level rule)) → TakesOn took rule a b old new
         → took a b (lines_for rule (listed_squares root (least_level rule)))
     unfolding listed_squares
-    whole-taken new p w =
+    whole-consumed new p w =
         let all = with_all [] (walk root (least_level rule)) in
         let n : new ≡ all = p ∙ ap (λ l. with_all l (walk root (least_level rule))) none in
         subst (λ l. took a b (map (line_of rule all) l)) n (w a all [] (sym n ∙ sym (append-nil new)) (begun-none all))

@@ -13,8 +13,8 @@ use Rattle.life_quad.specs.Keeping.{AddsOnly}
 use Rattle.life_quad.specs.Store.{Nodes, stored_squares}
 use Rattle.life_quad.specs.declared.squares.Squares.{Ghosts}
 use Rattle.life_canon.specs.Files.{Accepted}
-use Rattle.life_canon.specs.Needs.{IsNew, LacksFor, LacksForFront, SomeOfFile, SomeOfLines}
-use Rattle.life_canon.specs.Room.{AddsFile, AddsLines, HoldsFile, HoldsFront, HoldsOnly, room_for}
+use Rattle.life_canon.specs.Needs.{IsNew, LacksFor, LacksForPrefix, SomeOfFile, SomeOfLines}
+use Rattle.life_canon.specs.Space.{AddsFile, AddsLines, HoldsFile, HoldsPrefix, HoldsOnly, sufficient_for}
 use Rattle.life_canon.specs.Store.{Keeps}
 
 -- The store is kept, and gets no square but such as the call needs; `full`, the error that tells that it holds its limit, comes only where it lacks
@@ -39,13 +39,13 @@ abbrev pub StoresFile : {A : Type 0} → List ℕ → Nodes → Nodes → Result
 StoresFile bytes old new result = Stores (fault_of Full) old new result (λ P. SomeOfFile MAX_LEVEL P (lines_of bytes))
 
 -- A call that reads a file into the store. Where it succeeds, the store holds every square of the file, and no others but those that it held before
--- (`all` and `adds`). A store that gets full lacks a square of the file, and its limit leaves less than the room for the file beside the squares that
+-- (`all` and `adds`). A store that gets full lacks a square of the file, and its limit leaves less than the squares for the file beside the squares that
 -- it held.
 pub record ReadsInto {A : Type 0} (bytes : List ℕ) (old new : Nodes) (result : Result A Fault) : Type 0 where
   pub all : OnOk result (HoldsFile bytes (stored_squares new))
   pub needed : result ≡ Err (fault_of Full) → LacksFor MAX_LEVEL bytes new
   pub adds : AddsFile bytes old new
-  pub room : result ≡ Err (fault_of Full) → old.limit < length (stored_squares old) + room_for (length bytes)
+  pub space : result ≡ Err (fault_of Full) → old.limit < length (stored_squares old) + sufficient_for (length bytes)
   pub keeps : Keeps old new
 
 -- a call that reads two files, one after the other
@@ -53,15 +53,16 @@ pub record ReadsBothInto {A : Type 0} (first second : List ℕ) (old new : Nodes
   pub all : OnOk result (HoldsFile first (stored_squares new) × HoldsFile second (stored_squares new))
   pub needed : result ≡ Err (fault_of Full) → LacksFor MAX_LEVEL first new ⊎ (Accepted MAX_LEVEL first × LacksFor MAX_LEVEL second new)
   pub adds : AddsOnly stored_squares (λ P. SomeOfFile MAX_LEVEL P (lines_of first) ⊎ SomeOfFile MAX_LEVEL P (lines_of second)) old new
-  pub room : result ≡ Err (fault_of Full) → old.limit < length (stored_squares old) + (room_for (length first) + room_for (length second))
+  pub space : result ≡ Err (fault_of Full) → old.limit < length (stored_squares old) + (sufficient_for (length first) + sufficient_for (length second))
   pub keeps : Keeps old new
 
--- A call that feeds a piece after these bytes. Whatever the store held before, it is full only where its limit is below that and the room for the bytes.
+-- A call that feeds a piece after these bytes. Whatever the store held before, it is full only where its limit is below that and the squares for the bytes.
 -- Which squares it has stored already is not said: a row of cells may wait for the rows below it, and `EndsInto` says that in the end all are stored.
 pub record FeedsInto {A : Type 0} (before piece : List ℕ) (old new : Nodes) (result : Result A Fault) : Type 0 where
-  pub needed : result ≡ Err (fault_of Full) → LacksForFront MAX_LEVEL (before ++ piece) new
+  pub needed : result ≡ Err (fault_of Full) → LacksForPrefix MAX_LEVEL (before ++ piece) new
   pub adds : AddsLines (whole_lines (before ++ piece)) old new
-  pub room : result ≡ Err (fault_of Full) → (base : List Tree) → HoldsFront base before old → old.limit < length base + room_for (length (before ++ piece))
+  pub space : result ≡ Err (fault_of Full) → (base : List Tree) → HoldsPrefix base before old
+      → old.limit < length base + sufficient_for (length (before ++ piece))
   pub keeps : Keeps old new
 
 -- the same of the call that ends the file: where it succeeds, the store holds every square of the file
@@ -69,5 +70,5 @@ pub record EndsInto {A : Type 0} (bytes : List ℕ) (old new : Nodes) (result : 
   pub all : OnOk result (HoldsFile bytes (stored_squares new))
   pub needed : result ≡ Err (fault_of Full) → LacksFor MAX_LEVEL bytes new
   pub adds : AddsFile bytes old new
-  pub room : result ≡ Err (fault_of Full) → (base : List Tree) → HoldsOnly base bytes old → old.limit < length base + room_for (length bytes)
+  pub space : result ≡ Err (fault_of Full) → (base : List Tree) → HoldsOnly base bytes old → old.limit < length base + sufficient_for (length bytes)
   pub keeps : Keeps old new

@@ -15,7 +15,7 @@ line_count counts (Leaf rows) = population (leaf_tree rows)
 line_count counts (Quad level nw ne sw se) =
     number_count counts level nw + number_count counts level ne + number_count counts level sw + number_count counts level se
 
--- those of the squares of some lines, behind those of the lines before
+-- those of the squares of some lines, after those of the lines before
 abbrev pub line_counts : List ℕ → List Line → List ℕ
 line_counts counts [] = counts
 line_counts counts (line ∷ lines) = line_counts (counts ++ line_count counts line ∷ []) lines

@@ -3,7 +3,7 @@
 --     bytes:   line 1 \n line 2 \n .. line n \n | rest
 --              taken, each as it ended            kept, at most 2^20 bytes
 --
--- A line is refused in the piece in which it ends, and a rest in the piece in which it grows too long. Behind the line that holds `!`
+-- A line is refused in the piece in which it ends, and a rest in the piece in which it grows too long. After the line that holds `!`
 -- all lines are free, and nothing is kept.
 use Rattle.std.specs.Prelude.{◌≡◌, ℕ, ◌≤◌, ◌⊎◌, Bool, false, List, [], ◌∷◌, ◌++◌, length, Contains, Some}
 use Rattle.life_base.specs.Lines.{whole_lines}
@@ -25,11 +25,11 @@ use Rattle.life_canon.specs.declared.progress.Progress.{Progress}
 use Rattle.life_canon.specs.declared.progress.Progress.TheVariants as progress
 
 -- Why no file goes on from these bytes: a line that has ended breaks a rule, or the last one is too long already.
-pub record RefusesFront (top : ℕ) (bytes : List ℕ) (fault : Fault) : Type 0 where
+pub record RefusesPrefix (top : ℕ) (bytes : List ℕ) (fault : Fault) : Type 0 where
   pub refuses : Refuses top bytes fault
-  pub told : (refuses.n ≤ length (whole_lines bytes)) ⊎ (fault.kind ≡ LineTooLong)
+  pub reported : (refuses.n ≤ length (whole_lines bytes)) ⊎ (fault.kind ≡ LineTooLong)
 
--- the bytes are those of an RLE file, behind the line that holds its `!`
+-- the bytes are those of an RLE file, after the line that holds its `!`
 abbrev pub IsOverAt : ℕ → List ℕ → Type 0
 IsOverAt top bytes = (is_macrocell (whole_lines bytes) ≡ false) × ((file : Rle) × IsMarked top (whole_lines bytes) file)
 

@@ -28,7 +28,7 @@ HasSquare S squares t = (id : Id) × S.knows squares id × (S.content squares id
 abbrev pub HasGrown : {X : Type 0} → Ghosts X → X → Tree → ℕ → Type 0
 HasGrown S squares t level = (more : ℕ) → depth t + suc more ≤ level → HasSquare S squares (grown_times (suc more) t)
 
--- what holds of all node lines whose squares these are and behind which this line may stand
+-- what holds of all node lines whose squares these are and after which this line may stand
 abbrev pub ForLines : {X : Type 0} → Ghosts X → X → List Id → Line → (List Line → Type 0) → Type 0
 ForLines S squares ids line Holds =
     (lines : List Line) (rule : Rule) → IsSquare MAX_LEVEL rule (map level_of lines) line → AreSquaresIn S squares lines ids → Holds lines

@@ -16,7 +16,7 @@ use Rattle.life_canon.specs.Universe.{Universe, IsSame, IsBlankOutside, IsOnPlan
 use Rattle.life_canon.specs.Files.{Says, Reads, Same, Refuses, RefusesLines, is_file_kind}
 use Rattle.life_canon.specs.Listing.{canonical_file, canon_text}
 use Rattle.life_canon.specs.Least.{IsRival, IsLeastLineCount, SquaresHaveNodeLines}
-use Rattle.life_canon.specs.Feeding.{Fed, KeepsIdsOf, RefusesFront, Stands}
+use Rattle.life_canon.specs.Feeding.{Fed, KeepsIdsOf, RefusesPrefix, Stands}
 use Rattle.life_canon.specs.Store.{Keeps, IsRead, IsTrimmed, universe_in}
 use Rattle.life_canon.specs.Texts.{AreCellsOf, IsRleOf}
 use Rattle.life_canon.specs.declared.pattern.Pattern.{Pattern}
@@ -131,9 +131,9 @@ PatternsTellFiles top =
 abbrev pub ReadersStand : Type 0
 ReadersStand = (old new : Nodes) (fed : Fed) → KeepsIdsOf fed old new → Stands old fed → Stands new fed
 
--- A fault that can be told of bytes is the fault of every longer input: it can be told of these bytes with any others behind them.
+-- A fault that can be reported of bytes is the fault of every longer input: it can be reported of these bytes with any others after them.
 abbrev pub FaultsStay : ℕ → Type 0
-FaultsStay top = (bytes more : List ℕ) (fault : Fault) → RefusesFront top bytes fault → RefusesFront top (bytes ++ more) fault
+FaultsStay top = (bytes more : List ℕ) (fault : Fault) → RefusesPrefix top bytes fault → RefusesPrefix top (bytes ++ more) fault
 
 -- An input of which more bytes came than may be read stays too long, whatever bytes follow: none that begins so is read to its end.
 abbrev pub LengthsStay : Type 0
@@ -141,12 +141,12 @@ LengthsStay =
     (most : ℕ) (input more : List ℕ) (after later : Option (List ℕ)) (bytes : List ℕ) → CameBeyond most (Some input) after
     → ReadAll most (Some (input ++ more)) later bytes → ⊥
 
--- What the first bytes of an input, as many as may be read, tell of its fault: a fault that can be told of them is the fault of the whole, and that
--- of the whole, where its line ends in them, can be told of them.
-pub record IsToldWithin (top most : ℕ) (input : List ℕ) (fault : Fault) : Type 0 where
-  pub stays : RefusesFront top (take most input) fault → Refuses top input fault
-  pub told : (refuses : Refuses top input fault) → refuses.n ≤ length (whole_lines (take most input)) → RefusesFront top (take most input) fault
+-- What the first bytes of an input, as many as may be read, say of its fault: a fault that can be reported of them is the fault of the whole, and that
+-- of the whole, where its line ends in them, can be reported of them.
+pub record IsReportedWithin (top most : ℕ) (input : List ℕ) (fault : Fault) : Type 0 where
+  pub stays : RefusesPrefix top (take most input) fault → Refuses top input fault
+  pub reported : (refuses : Refuses top input fault) → refuses.n ≤ length (whole_lines (take most input)) → RefusesPrefix top (take most input) fault
 
 -- the length of an input hides no fault of a line that ended before: its first bytes, as many as may be read, have that fault
 abbrev pub LengthHidesNoFault : ℕ → Type 0
-LengthHidesNoFault top = (most : ℕ) (input : List ℕ) (fault : Fault) → IsToldWithin top most input fault
+LengthHidesNoFault top = (most : ℕ) (input : List ℕ) (fault : Fault) → IsReportedWithin top most input fault

@@ -12,11 +12,11 @@ pub mod Filling
 pub mod Waiting
 pub mod Building
 pub mod Needs
-pub mod Room
+pub mod Space
 pub mod Calls
 pub mod Taking
 pub mod Feeding
-pub mod Fronts
+pub mod Prefixes
 pub mod Running
 pub mod ReadWhole
 pub mod Pieces

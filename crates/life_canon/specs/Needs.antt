@@ -24,18 +24,18 @@ use Rattle.life_canon.specs.Universe.{Universe, least_level, centred_square, who
 abbrev pub IsNew : Nodes → Tree → Type 0
 IsNew store t = (is_blank_tree t ≡ false) × ¬ Contains (stored_squares store) t
 
--- a square of a node line behind these has a property: the square of the line, or a part of a leaf
+-- a square of a node line after these has a property: the square of the line, or a part of a leaf
 abbrev pub SomeOfLine : (Tree → Type 0) → List Line → Line → Type 0
 SomeOfLine P lines (Leaf rows) = SomePart P (leaf_tree rows)
 SomeOfLine P lines (Quad level nw ne sw se) =
     P (quad (tree_of lines (level - 1) nw) (tree_of lines (level - 1) ne) (tree_of lines (level - 1) sw) (tree_of lines (level - 1) se))
 
--- a square of the front of a file has a property: of a node line, or of the runs so far
+-- a square of a prefix of a file has a property: of a node line, or of the runs so far
 pub data SomeOfLines (top : ℕ) (P : Tree → Type 0) (lines : List (List ℕ)) : Type 0 where
   of_node_line : (before : List (List ℕ)) (line : List ℕ) (behind : List (List ℕ)) (square : Line) → lines ≡ before ++ line ∷ behind
       → Prefix (AcceptsMacrocell top) (before ++ line ∷ []) → squares_of (before ++ line ∷ []) ≡ squares_of before ++ square ∷ []
       → SomeOfLine P (squares_of before) square → SomeOfLines top P lines
-  of_runs : (front behind : List (List ℕ)) (runs : List Run) → lines ≡ front ++ behind → HasRuns top front runs → SomeOfRuns P runs
+  of_runs : (prefix behind : List (List ℕ)) (runs : List Run) → lines ≡ prefix ++ behind → HasRuns top prefix runs → SomeOfRuns P runs
       → SomeOfLines top P lines
 
 -- a square of the node lines of a macrocell file has a property
@@ -74,8 +74,8 @@ pub data SomeOfFile (top : ℕ) (P : Tree → Type 0) (lines : List (List ℕ)) 
   at_end : SomeAtEnd top P lines → SomeOfFile top P lines
 
 -- the store lacks a square of the lines that have ended
-abbrev pub LacksForFront : ℕ → List ℕ → Nodes → Type 0
-LacksForFront top bytes store = SomeOfLines top (IsNew store) (whole_lines bytes)
+abbrev pub LacksForPrefix : ℕ → List ℕ → Nodes → Type 0
+LacksForPrefix top bytes store = SomeOfLines top (IsNew store) (whole_lines bytes)
 
 -- the store lacks a square of the file
 abbrev pub LacksFor : ℕ → List ℕ → Nodes → Type 0

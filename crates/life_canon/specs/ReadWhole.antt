@@ -4,7 +4,7 @@ use Rattle.life_base.specs.DeviceRuns.{SourceRun}
 use Rattle.life_base.specs.Inputs.{ReadAll}
 use Rattle.life_base.specs.declared.cell.TheConstants.{MAX_LEVEL}
 use Rattle.life_quad.specs.Store.{Nodes}
-use Rattle.life_canon.specs.Room.{AddsFile}
+use Rattle.life_canon.specs.Space.{AddsFile}
 use Rattle.life_canon.specs.Store.{IsRead}
 use Rattle.life_canon.specs.declared.pattern.Pattern.{Pattern}
 

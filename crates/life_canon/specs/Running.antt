@@ -11,8 +11,8 @@ use Rattle.life_base.specs.declared.fault.Fault.{Fault}
 use Rattle.life_base.specs.declared.kind.Kind.TheVariants.{Full, ReadFault, WriteFault, InputTooLong}
 use Rattle.life_quad.specs.Store.{Nodes, stored_squares}
 use Rattle.life_canon.specs.Files.{Refuses}
-use Rattle.life_canon.specs.Needs.{LacksFor, LacksForFront}
-use Rattle.life_canon.specs.Room.{AddsFile, HoldsFile, room_for}
+use Rattle.life_canon.specs.Needs.{LacksFor, LacksForPrefix}
+use Rattle.life_canon.specs.Space.{AddsFile, HoldsFile, sufficient_for}
 use Rattle.life_canon.specs.Store.{Keeps, IsRead, IsShortageOf}
 use Rattle.life_canon.specs.Texts.{IsCanonical}
 use Rattle.life_canon.specs.declared.pattern.Pattern.{Pattern}
@@ -49,23 +49,23 @@ pub data ReadRefuses (top most : ℕ) (store : Nodes) (source : SourceRun) (faul
 -- The store lacks a square which the bytes need that were read: what was left to read before, without what is left now. It is one of the
 -- lines that have ended, or, where all was read, of the file.
 pub data LacksForRead (top most : ℕ) (store : Nodes) (source : SourceRun) : Type 0 where
-  for_front : (bytes : List ℕ) → Consumes source.before source.after bytes → length bytes ≤ most → LacksForFront top bytes store
+  for_prefix : (bytes : List ℕ) → Consumes source.before source.after bytes → length bytes ≤ most → LacksForPrefix top bytes store
       → LacksForRead top most store source
   for_file : (bytes : List ℕ) → ReadAll most source.before source.after bytes → LacksFor top bytes store → LacksForRead top most store source
 
--- No square was stored but such as a front of the input needs: of what was left to read before.
+-- No square was stored but such as a prefix of the input needs: of what was left to read before.
 pub record AddsForRead (input : Option (List ℕ)) (old new : Nodes) : Type 0 where
   pub bytes : List ℕ
   pub left : Option (List ℕ)
   pub came : Consumes input left bytes
   pub adds : AddsFile bytes old new
 
--- The limit of the store leaves less than the room for the bytes that were read, beside the squares that it holds.
+-- The limit of the store leaves less than the squares for the bytes that were read, beside the squares that it holds.
 pub record IsTightForRead (most : ℕ) (store : Nodes) (source : SourceRun) : Type 0 where
   pub bytes : List ℕ
   pub came : Consumes source.before source.after bytes
   pub within : length bytes ≤ most
-  pub tight : store.limit < length (stored_squares store) + room_for (length bytes)
+  pub tight : store.limit < length (stored_squares store) + sufficient_for (length bytes)
 
 -- why a run is refused: nothing came of the input, or its text could not be written
 pub data RunRefuses (top most : ℕ) (store : Nodes) (source : SourceRun) (sink : SinkRun) (fault : Fault) : Type 0 where
@@ -85,14 +85,14 @@ pub record HoldsRead (most : ℕ) (store : Nodes) (source : SourceRun) : Type 0 
   pub all : HoldsFile bytes (stored_squares store)
 
 -- What a call leaves that reads an input of at most so many bytes into the store: where it succeeds, the store holds every square of the file; a store
--- that gets full lacks a square which the bytes need that were read, and its limit left less than the room for them; and a failure of the source is
--- told.
+-- that gets full lacks a square which the bytes need that were read, and its limit left less than the squares for them; and a failure of the source is
+-- reported.
 pub record ReadsSource {A : Type 0} (most : ℕ) (old new : Nodes) (source : SourceRun) (result : Result A Fault) : Type 0 where
   pub all : OnOk result (HoldsRead most new source)
   pub needed : result ≡ Err (fault_of Full) → LacksForRead MAX_LEVEL most new source
   pub adds : AddsForRead source.before old new
-  pub room : result ≡ Err (fault_of Full) → IsTightForRead most old source
-  pub told : source.failures ≡ 1 → IsErrAnd result (λ fault. fault.kind ≡ ReadFault)
+  pub space : result ≡ Err (fault_of Full) → IsTightForRead most old source
+  pub reported : source.failures ≡ 1 → IsErrAnd result (λ fault. fault.kind ≡ ReadFault)
   pub keeps : Keeps old new
 
 -- the call answers the pattern of the input
@@ -107,4 +107,4 @@ pub record RunsCanon {A : Type 0} (most : ℕ) (old new : Nodes) (source : Sourc
   pub ok : OnOk result (Ran MAX_LEVEL most source sink)
   pub err : IfErr result (RunRefuses MAX_LEVEL most new source sink)
   pub reads : ReadsSource most old new source result
-  pub write_told : (sink.failures ≡ 1) ⊎ (sink.stalled ≡ true) → IsErrAnd result (λ fault. fault.kind ≡ WriteFault)
+  pub write_reported : (sink.failures ≡ 1) ⊎ (sink.stalled ≡ true) → IsErrAnd result (λ fault. fault.kind ≡ WriteFault)

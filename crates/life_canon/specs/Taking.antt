@@ -16,21 +16,21 @@ use Rattle.life_canon.specs.Files.{Breaks, is_macrocell}
 use Rattle.life_canon.specs.Waiting.{KeepsLines}
 use Rattle.life_canon.specs.declared.progress.Progress.{Progress}
 use Rattle.life_canon.specs.declared.progress.Progress.TheVariants as progress
-use Rattle.life_canon.specs.declared.front.Front.{Front}
+use Rattle.life_canon.specs.declared.prefix.FilePrefix.{FilePrefix}
 
 -- ---- between two lines
 
--- the lines that were taken: all that came, but for those behind the one that holds `!`
-abbrev pub taken_lines : Progress → List (List ℕ)
-taken_lines progress.Undecided = []
-taken_lines (progress.Rle reader builder runs) = reader.lines
-taken_lines (progress.Macrocell reader ids waiting) = reader.lines
+-- the lines that were taken: all that came, but for those after the one that holds `!`
+abbrev pub consumed_lines : Progress → List (List ℕ)
+consumed_lines progress.Undecided = []
+consumed_lines (progress.Rle reader builder runs) = reader.lines
+consumed_lines (progress.Macrocell reader ids waiting) = reader.lines
 
 -- a file of a format was begun, its lines can be continued to one, and none was refused
 pub record IsBegun (macrocell : Bool) (Grammar : List (List ℕ) → Type 0) (lines : List (List ℕ)) (refused : Bool) : Type 0 where
   pub some : 0 < length lines
   pub format : is_macrocell lines ≡ macrocell
-  pub front : Prefix Grammar lines
+  pub prefix : Prefix Grammar lines
   pub unrefused : refused ≡ false
 
 -- the format is that of the first line, and no line was refused
@@ -57,7 +57,7 @@ StandsFor knows content progress.Undecided = Unit {0}
 StandsFor knows content (progress.Rle reader builder runs) = IsBuilt knows content (HasRuns MAX_LEVEL reader.lines) builder
 StandsFor knows content (progress.Macrocell reader ids waiting) = KeepsLines knows content reader.lines ids.items waiting.items
 
--- the fault of the line behind these, before which so many have ended
+-- the fault of the line after these, before which so many have ended
 pub record IsLineFault (top : ℕ) (lines : List (List ℕ)) (line : List ℕ) (ended : ℕ) (fault : Fault) : Type 0 where
   pub breaks : Breaks top lines line fault.kind
   pub place : fault.place.line ≡ min (ended + 1) (2 ^ 64 - 1)
@@ -68,31 +68,31 @@ pub record IsLineFault (top : ℕ) (lines : List (List ℕ)) (line : List ℕ) (
 abbrev pub bytes_of : List (List ℕ) → List ℕ
 bytes_of pieces = flat_map (λ piece. piece) pieces
 
--- the whole lines were taken and counted, and the bytes behind them are kept
+-- the whole lines were taken and counted, and the bytes after them are kept
 pub record IsGoing (bytes kept : List ℕ) (ended : ℕ) (lines : List (List ℕ)) : Type 0 where
   pub whole : lines ≡ whole_lines bytes
   pub rest : kept ≡ rest_line bytes
   pub count : ended ≡ min (length lines) (2 ^ 64 - 1)
 
--- the lines behind `!` are free, and nothing is kept
+-- the lines after `!` are free, and nothing is kept
 pub record HasFreeLines (bytes kept : List ℕ) (lines : List (List ℕ)) : Type 0 where
   pub free : List (List ℕ)
   pub whole : whole_lines bytes ≡ lines ++ free
   pub none : kept ≡ []
 
--- the front of a file, behind these bytes
-pub record IsFront (bytes kept : List ℕ) (ended : ℕ) (progress : Progress) : Type 0 where
+-- a prefix of a file, after these bytes
+pub record IsFilePrefix (bytes kept : List ℕ) (ended : ℕ) (progress : Progress) : Type 0 where
   pub short : length kept ≤ 2 ^ 20
   pub begun : IsOpen progress
-  pub going : (IsOver progress → ⊥) → IsGoing bytes kept ended (taken_lines progress)
-  pub over : IsOver progress → HasFreeLines bytes kept (taken_lines progress)
+  pub going : (IsOver progress → ⊥) → IsGoing bytes kept ended (consumed_lines progress)
+  pub over : IsOver progress → HasFreeLines bytes kept (consumed_lines progress)
 
 -- the same of the value that a reader keeps
-abbrev pub IsFrontOf : Front → Type 0
-IsFrontOf front = IsFront (bytes_of front.pieces.lines) front.kept.items front.ended front.progress
+abbrev pub IsFilePrefixOf : FilePrefix → Type 0
+IsFilePrefixOf prefix = IsFilePrefix (bytes_of prefix.pieces.lines) prefix.kept.items prefix.ended prefix.progress
 
--- the end of the input: its lines were taken, but for those behind `!`
+-- the end of the input: its lines were taken, but for those after `!`
 pub record IsEnd (bytes : List ℕ) (ended : ℕ) (progress : Progress) : Type 0 where
   pub begun : IsOpen progress
-  pub going : (IsOver progress → ⊥) → (lines_of bytes ≡ taken_lines progress) × (ended ≡ min (length (taken_lines progress)) (2 ^ 64 - 1))
-  pub over : IsOver progress → (free : List (List ℕ)) × (lines_of bytes ≡ taken_lines progress ++ free)
+  pub going : (IsOver progress → ⊥) → (lines_of bytes ≡ consumed_lines progress) × (ended ≡ min (length (consumed_lines progress)) (2 ^ 64 - 1))
+  pub over : IsOver progress → (free : List (List ℕ)) × (lines_of bytes ≡ consumed_lines progress ++ free)

@@ -27,14 +27,14 @@ pub record AreKeptOf (knows : Id → Type 0) (content : Id → Tree) (lines : Li
   pub can_join : All (CanJoin knows content) waiting
   pub few : length waiting ≤ MOST_WAITING
 
--- the square is that of a node line of the front of a file
+-- the square is that of a node line of a prefix of a file
 pub record IsOfNodeLine (top : ℕ) (lines : List (List ℕ)) (t : Tree) : Type 0 where
   pub before : List (List ℕ)
   pub line : List ℕ
   pub behind : List (List ℕ)
   pub square : Line
   pub are : lines ≡ before ++ line ∷ behind
-  pub front : Prefix (AcceptsMacrocell top) (before ++ line ∷ [])
+  pub prefix : Prefix (AcceptsMacrocell top) (before ++ line ∷ [])
   pub squares : squares_of (before ++ line ∷ []) ≡ squares_of before ++ square ∷ []
   pub tree : t ≡ line_tree (tree_of (squares_of before) (level_of square - 1)) square
 
@@ -49,7 +49,7 @@ pub record IsQuarterOfOne (waiting : List Quarters) (id : Id) : Type 0 where
   pub there : Contains waiting quarters
   pub is : (id ≡ quarters.nw) ⊎ (id ≡ quarters.ne) ⊎ (id ≡ quarters.sw) ⊎ (id ≡ quarters.se)
 
--- the squares of these quarters were joined, and their Ids stand behind the others
+-- the squares of these quarters were joined, and their Ids comes after the others
 pub record HasJoined {X : Type 0} (S : Ghosts X) (old new : X) (ids : List Id) (waiting : List Quarters) (all : List Id) : Type 0 where
   pub joined : List Id
   pub are : all ≡ ids ++ joined

@@ -9,7 +9,7 @@ use Rattle.life_mc.specs.Macrocell.{largest_state}
 use Rattle.life_mc.specs.Squares.{HasStatesUpTo}
 use Rattle.life_mc.specs.declared.line.Line.{Line}
 use Rattle.life_quad.specs.declared.id.Id.{Id}
-use Rattle.life_quad.specs.IdNumbers.{NumberRoom, HasNumberRoom}
+use Rattle.life_quad.specs.IdNumbers.{NumberRange, IsInNumberRange}
 use Rattle.life_canon.specs.Closed.{IsClosed}
 use Rattle.life_canon.specs.Listing.{line_of, number_of_quarter, with_all, walk}
 use Rattle.life_canon.specs.Universe.{is_life, least_level}
@@ -23,11 +23,11 @@ seen_in seen content id = seen (content id)
 abbrev pub TakesNodeLine : {A : Type 0} → (A → A → List Line → Type 0) → A → A → Line → Type 0
 TakesNodeLine {A} took before after line = (start : A) (lines : List Line) → took start before lines → took start after (lines ++ line ∷ [])
 
--- it took what it took before, and some of the lines behind, whatever these are
+-- it took what it took before, and some of the lines after, whatever these are
 abbrev pub BreaksOff : {A : Type 0} → (A → A → List Line → Type 0) → (A → A → List Line → Type 0) → A → A → Type 0
 BreaksOff {A} took broke before after = (start : A) (lines more : List Line) → took start before lines → broke start after (lines ++ more)
 
--- where it took the lines of the squares `old` before, it took those of `new` after, whatever squares come behind these
+-- where it took the lines of the squares `old` before, it took those of `new` after, whatever squares come after these
 abbrev pub TakesOn : {A : Type 0} → (A → A → List Line → Type 0) → Rule → A → A → List Tree → List Tree → Type 0
 TakesOn {A} took rule before after old new =
     (start : A) (all rest : List Tree) → all ≡ new ++ rest → took start before (map (line_of rule all) old) → took start after (map (line_of rule all) new)
@@ -38,7 +38,7 @@ pub record TakesWalk {A : Type 0} (took : A → A → List Line → Type 0) (con
   pub walked : map content new ≡ with_all (map content old) (walk (content q) (least_level rule))
   pub lines : TakesOn took rule before after (map content old) (map content new)
 
--- where it took the lines of `old`, it took some of all lines, whatever squares come behind `new`
+-- where it took the lines of `old`, it took some of all lines, whatever squares come after `new`
 abbrev pub BreaksIn : {A : Type 0} → (A → A → List Line → Type 0) → (A → A → List Line → Type 0) → Rule → A → A → List Tree → List Tree → Type 0
 BreaksIn {A} took broke rule before after old new =
     (start : A) (all rest : List Tree) → all ≡ new ++ rest → took start before (map (line_of rule all) old) → broke start after (map (line_of rule all) all)
@@ -67,14 +67,14 @@ pub record Walked {A : Type 0} (knows : Id → Type 0) (content : Id → Tree) (
   pub numbers : OnOk result (All knows new)
   pub closed : OnOk result (IsClosed (least_level rule) (map content new))
 
--- the Id of each square of this level or a higher one that isn't blank has room for its number
-abbrev pub HasRoomFrom : (Id → Type 0) → (Id → Tree) → ℕ → NumberRoom → Type 0
-HasRoomFrom knows content least room = (id : Id) → knows id → least ≤ depth (content id) → is_blank_tree (content id) ≡ false → HasNumberRoom room id
+-- the Id of each square of this level or a higher one that isn't blank has a number in the range
+abbrev pub HasNumbersFrom : (Id → Type 0) → (Id → Tree) → ℕ → NumberRange → Type 0
+HasNumbersFrom knows content least space = (id : Id) → knows id → least ≤ depth (content id) → is_blank_tree (content id) ≡ false → IsInNumberRange space id
 
 -- not each of them has
-abbrev pub LacksRoom : (Id → Type 0) → (Id → Tree) → ℕ → NumberRoom → Type 0
-LacksRoom knows content least room = ¬ HasRoomFrom knows content least room
+abbrev pub LacksNumbers : (Id → Type 0) → (Id → Tree) → ℕ → NumberRange → Type 0
+LacksNumbers knows content least space = ¬ HasNumbersFrom knows content least space
 
--- why it is refused: the sink refuses, or memory is refused where a square has no room for its number
-abbrev pub RefusesWalk : (Kind → Type 0) → (Id → Type 0) → (Id → Tree) → Rule → NumberRoom → Kind → Type 0
-RefusesWalk refuses knows content rule room kind = refuses kind ⊎ ((kind ≡ Memory) × LacksRoom knows content (least_level rule) room)
+-- why it is refused: the sink refuses, or memory is refused where a square has no number in the range
+abbrev pub RefusesWalk : (Kind → Type 0) → (Id → Type 0) → (Id → Tree) → Rule → NumberRange → Kind → Type 0
+RefusesWalk refuses knows content rule space kind = refuses kind ⊎ ((kind ≡ Memory) × LacksNumbers knows content (least_level rule) space)

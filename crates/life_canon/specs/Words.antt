@@ -14,10 +14,10 @@ pub use Rattle.life_base.specs.declared.rule.Rule.{Rule as RuleValue}
 pub use Rattle.life_canon.specs.Building.{IsBuilt}
 pub use Rattle.life_canon.specs.Calls.{EndsInto, FeedsInto, ReadsBothInto, ReadsInto, Stores, StoresFile, StoresIn, StoresLines}
 pub use Rattle.life_canon.specs.Counting.{CountsLines, line_count, number_count}
-pub use Rattle.life_canon.specs.Feeding.{IsOverAt, RefusesFront, Stands}
+pub use Rattle.life_canon.specs.Feeding.{IsOverAt, RefusesPrefix, Stands}
 pub use Rattle.life_canon.specs.Files.{Accepted, Breaks, is_macrocell, Refuses, Same, Says}
 pub use Rattle.life_canon.specs.Filling.{AreSquaresIn, ForLines, ForMacrocell, HasGrown}
-pub use Rattle.life_canon.specs.Fronts.{HasBytes, IsFrontIn, IsOpenIn, TakesLine}
+pub use Rattle.life_canon.specs.Prefixes.{HasBytes, IsFilePrefixIn, IsOpenIn, TakesLine}
 pub use Rattle.life_canon.specs.Laws.{BlankOutside, CanonicalIsLeast, CentredSquaresTellCells, FaultsAreUnique, FaultsStay, FilesAreOnPlane, FilesAreUnique}
 pub use Rattle.life_canon.specs.Laws.{FormatsDiffer, LengthHidesNoFault, LengthsStay, PatternsFit, PatternsStay, PatternsTellFiles, ReadersStand}
 pub use Rattle.life_canon.specs.Laws.{RefusalsHaveKinds, RleTextsAreFiles, RleTextsKeepPatterns, SquaresAreCentred, SquaresHavePlaces, TextsAreFiles}
@@ -26,18 +26,18 @@ pub use Rattle.life_canon.specs.Least.{IsLeastLineCount, IsLeastText}
 pub use Rattle.life_canon.specs.Lesser.{LesserHolds, IsLesser, IsLesserText, IsOldHeld, IsOldLesser, IsUpTo, IsWithinTexts, LinesCome}
 pub use Rattle.life_canon.specs.LesserLaws.{no-lines-come, old-is-lesser}
 pub use Rattle.life_canon.specs.Listing.{canon_text, canonical_file, is_in, is_small, lines_for, listed_squares, number_of_quarter, rows_of, square_file, square_text}
-pub use Rattle.life_canon.specs.Needs.{LacksForFront, SomeAtEnd, SomeGrown, SomeOfLine, SomeOfLines, SomeOfMacrocell, SomeOfRuns, SomeRoot}
+pub use Rattle.life_canon.specs.Needs.{LacksForPrefix, SomeAtEnd, SomeGrown, SomeOfLine, SomeOfLines, SomeOfMacrocell, SomeOfRuns, SomeRoot}
 pub use Rattle.life_canon.specs.PieceLaws.{piece-begins, piece-stops, no_failure}
-pub use Rattle.life_canon.specs.Pieces.{PieceBreaks, PieceTakes, WritesFront}
-pub use Rattle.life_canon.specs.Room.{AddsLines, FewSquares, FrontsHold, HoldsFile, HoldsFront, room_for, RoomSuffices}
+pub use Rattle.life_canon.specs.Pieces.{PieceBreaks, PieceTakes, WritesPart}
+pub use Rattle.life_canon.specs.Space.{AddsLines, FewSquares, PrefixesHold, HoldsFile, HoldsPrefix, sufficient_for, LimitSuffices}
 pub use Rattle.life_canon.specs.Rows.{row_of_four, row_of_two, rows_side_by_side, square_of_bits}
 pub use Rattle.life_canon.specs.Running.{AreWorking, ReadsPattern, RunsCanon}
 pub use Rattle.life_canon.specs.Store.{content, ForEachFile, IsKnown, IsOfFile, IsPatternOf, IsRead, IsTrimmed, IsShortageOf, Keeps, RefusesIn, universe_in}
-pub use Rattle.life_canon.specs.Taking.{bytes_of, IsEnd, IsFrontOf, IsOpen, IsOver, IsReadyToTake, StandsFor, taken_lines}
+pub use Rattle.life_canon.specs.Taking.{bytes_of, IsEnd, IsFilePrefixOf, IsOpen, IsOver, IsReadyToTake, StandsFor, consumed_lines}
 pub use Rattle.life_canon.specs.Texts.{AreOrdered, box_text, FileHasMoreCells, IsCanonical, IsOrdered, IsRleOf, IsShownText, show_text}
 pub use Rattle.life_canon.specs.Universe.{is_life, least_level, Universe}
 pub use Rattle.life_canon.specs.Waiting.{HasJoined, IsReadyFor, KeepsLines, NamesFirst}
-pub use Rattle.life_canon.specs.Walking.{BreaksOff, HasRoomFrom, MayWalk, MayWalkPattern, RefusesWalk, seen_in, Walked}
+pub use Rattle.life_canon.specs.Walking.{BreaksOff, HasNumbersFrom, MayWalk, MayWalkPattern, RefusesWalk, seen_in, Walked}
 pub use Rattle.life_canon.specs.declared.progress.TheConstants.{MOST_WAITING}
 pub use Rattle.life_mc.specs.Cells.{macrocell_cell, leaf_cell, node_lines, root_level}
 pub use Rattle.life_mc.specs.Macrocell.{is_quarter, IsSquare, IsValidMacrocell, largest_state, level_of, Macrocell}

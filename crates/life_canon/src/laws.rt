@@ -1,6 +1,6 @@
 //! Laws over the definitions alone.
 
-ghost use Rattle.life_canon.specs.Words.{MAX_LEVEL, TrimmingIgnoresGrowth, FormatsDiffer, FilesAreUnique, FilesAreOnPlane, BlankOutside, FaultsAreUnique, RefusalsHaveKinds, TextsTellUniverses, TextsTellPatterns, TextsAreFiles, TextsKeepPatterns, TextsAreFixed, RleTextsAreFiles, RleTextsKeepPatterns, CanonicalIsLeast, SquaresHavePlaces, WiderPlaneKeepsTexts, WiderPlanesKeepFiles, SquaresAreCentred, CentredSquaresTellCells, PatternsFit, PatternsStay, PatternsTellFiles, ReadersStand, FaultsStay, LengthsStay, LengthHidesNoFault, FewSquares, RoomSuffices, FrontsHold};
+ghost use Rattle.life_canon.specs.Words.{MAX_LEVEL, TrimmingIgnoresGrowth, FormatsDiffer, FilesAreUnique, FilesAreOnPlane, BlankOutside, FaultsAreUnique, RefusalsHaveKinds, TextsTellUniverses, TextsTellPatterns, TextsAreFiles, TextsKeepPatterns, TextsAreFixed, RleTextsAreFiles, RleTextsKeepPatterns, CanonicalIsLeast, SquaresHavePlaces, WiderPlaneKeepsTexts, WiderPlanesKeepFiles, SquaresAreCentred, CentredSquaresTellCells, PatternsFit, PatternsStay, PatternsTellFiles, ReadersStand, FaultsStay, LengthsStay, LengthHidesNoFault, FewSquares, LimitSuffices, PrefixesHold};
 
 /// No lines are a file of both formats.
 pub fn formats_differ()
@@ -146,11 +146,11 @@ pub fn few_squares()
 
 /// A store that lacks a square of a file, and holds only squares of a list and squares of the file, each once, holds fewer than the list has and
 /// 14 n + 264 more: so it is not full, if its limit allows these.
-pub fn room_suffices()
-    ensures { RoomSuffices }
+pub fn limit_suffices()
+    ensures { LimitSuffices }
 {}
 
 /// What a store holds besides a list, while a file comes in pieces, are squares of the lines that have ended, and so squares of the file.
-pub fn fronts_hold()
-    ensures { FrontsHold }
+pub fn prefixes_hold()
+    ensures { PrefixesHold }
 {}

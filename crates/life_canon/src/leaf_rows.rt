@@ -83,7 +83,7 @@ fn four_rows<S: Squares, O: Orientation>(squares: &S, orientation: &O, id: Id) -
 
 /// The rows of eight cells, by the four in the west and the four in the east of each.
 #[inline(always)]
-fn beside(west: [u8; 4], east: [u8; 4]) -> [u8; 4]
+fn adjacent(west: [u8; 4], east: [u8; 4]) -> [u8; 4]
     requires west { (y : ℕ) → slice_index west y < 16 }
     requires east { (y : ℕ) → slice_index east y < 16 }
     ensures { result ≡ (16 * slice_index west 0 + slice_index east 0)
@@ -100,7 +100,7 @@ fn beside(west: [u8; 4], east: [u8; 4]) -> [u8; 4]
 }
 
 /// The rows of eight cells of two squares of level 2 side by side, each cell looked up.
-fn rows_beside<S: Squares, O: Orientation>(
+fn rows_adjacent<S: Squares, O: Orientation>(
     squares: &S,
     orientation: &O,
     west: Id,
@@ -115,7 +115,7 @@ fn rows_beside<S: Squares, O: Orientation>(
     ensures { result ≡ rows_side_by_side (O.seen orientation.now (S.content squares.now west))
         (O.seen orientation.now (S.content squares.now east)) }
 {
-    beside(
+    adjacent(
         four_rows(squares, orientation, west),
         four_rows(squares, orientation, east),
     )
@@ -150,8 +150,8 @@ fn rows_of_quarters<S: Squares, O: Orientation>(
         ++ rows_side_by_side (O.seen orientation.now (S.content squares.now parts.now.sw))
         (O.seen orientation.now (S.content squares.now parts.now.se)) }
 {
-    let north = rows_beside(squares, orientation, parts.nw, parts.ne);
-    let south = rows_beside(squares, orientation, parts.sw, parts.se);
+    let north = rows_adjacent(squares, orientation, parts.nw, parts.ne);
+    let south = rows_adjacent(squares, orientation, parts.sw, parts.se);
     [
         north[0], north[1], north[2], north[3], south[0], south[1], south[2], south[3],
     ]

@@ -10,7 +10,7 @@ use crate::orientation::{Orientation, Upright};
 use crate::pattern::Pattern;
 use crate::writer::begin_numbers;
 use life_base::{Fault, Kind, MAX_LEVEL, begins_with};
-use life_mc::{Line, append_front, append_line};
+use life_mc::{Line, append_line, append_prefix};
 use life_quad::{Shared, SharedSquares, Turn};
 use std::alloc::Global;
 
@@ -145,7 +145,7 @@ fn begin(mut best: Vec<u8>, pattern: &Pattern) -> Result<LesserText, Kind>
     ensures kind { IfErr result IsMemory }
 {
     let end = best.len();
-    append_front(&mut best, &pattern.rule, pattern.generation)?;
+    append_prefix(&mut best, &pattern.rule, pattern.generation)?;
     let lesser = decide(&mut best, 0, end);
     Ok(LesserText {
         bytes: best,

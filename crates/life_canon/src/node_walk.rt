@@ -76,11 +76,11 @@ fn walk_square<S: SharedSquares, O: Orientation, D, L: LineSink<D>>(
     ensures walked { Walked (S.knows squares.now)
         (seen_in (O.seen orientation.now) (S.content squares.now)) L.took L.broke rule.now id
         (lines.old, device.old) (lines.new, device.new) numbers.old.ids numbers.new.ids result }
-    ensures places { OnOk result (numbers.new.room ≡ numbers.old.room) }
+    ensures places { OnOk result (numbers.new.space ≡ numbers.old.space) }
     ensures ready { OnOk result (L.ready (lines.new, device.new)) }
     ensures refused { IfErr result (RefusesWalk (L.refuses (lines.new, device.new))
         (S.knows squares.now) (seen_in (O.seen orientation.now) (S.content squares.now)) rule.now
-        numbers.old.room) }
+        numbers.old.space) }
 {
     if let Some(number) = known_number(squares, orientation, level, numbers, id) {
         return Ok(number);
@@ -122,11 +122,11 @@ fn walk_new_square<S: SharedSquares, O: Orientation, D, L: LineSink<D>>(
     ensures walked { Walked (S.knows squares.now)
         (seen_in (O.seen orientation.now) (S.content squares.now)) L.took L.broke rule.now id
         (lines.old, device.old) (lines.new, device.new) numbers.old.ids numbers.new.ids result }
-    ensures places { OnOk result (numbers.new.room ≡ numbers.old.room) }
+    ensures places { OnOk result (numbers.new.space ≡ numbers.old.space) }
     ensures ready { OnOk result (L.ready (lines.new, device.new)) }
     ensures refused { IfErr result (RefusesWalk (L.refuses (lines.new, device.new))
         (S.knows squares.now) (seen_in (O.seen orientation.now) (S.content squares.now)) rule.now
-        numbers.old.room) }
+        numbers.old.space) }
 {
     if is_leaf(rule, level) {
         let number = numbers.push(id)?;
@@ -213,7 +213,7 @@ pub(crate) fn walk_pattern<S: SharedSquares, O: Orientation, D, L: LineSink<D>>(
     ensures ready { OnOk result (L.ready (lines.new, device.new)) }
     ensures refused { IfErr result (RefusesWalk (L.refuses (lines.new, device.new))
         (S.knows squares.now) (seen_in (O.seen orientation.now) (S.content squares.now))
-        pattern.now.rule numbers.room) }
+        pattern.now.rule numbers.space) }
 {
     let level = orientation.level(squares, pattern.root);
     walk_square(

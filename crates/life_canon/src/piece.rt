@@ -1,7 +1,7 @@
 //! A piece of a text, which is written before it outgrows its capacity.
 
 ghost use Rattle.std.specs.Prelude.{refl, ◌≡◌, ◌⊎◌, ◌+◌, ◌++◌, ◌≤◌, take, length, true, vec_capacity, IfOk, OnOk, OnErr};
-ghost use Rattle.life_canon.specs.Words.{WriteFault, WritesPrefix, LeavesSink, node_text, WritesFront, PieceTakes, PieceBreaks, piece-begins, piece-stops, no_failure};
+ghost use Rattle.life_canon.specs.Words.{WriteFault, WritesPrefix, LeavesSink, node_text, WritesPart, PieceTakes, PieceBreaks, piece-begins, piece-stops, no_failure};
 
 use crate::line_sink::LineSink;
 use life_base::{Kind, Sink, write_text};
@@ -16,10 +16,10 @@ const FIRST_SPACE: usize = 1024;
 /// Adds zeros after what a piece has, so that it is more than twice as long, or as long as a piece gets. Short texts need few of them.
 fn lengthen(bytes: &mut Vec<u8>)
     requires { 65536 ≤ vec_capacity bytes.old }
-    ensures front { take (length bytes.old.items) bytes.new.items ≡ bytes.old.items }
+    ensures part { take (length bytes.old.items) bytes.new.items ≡ bytes.old.items }
     ensures longer { length bytes.old.items ≤ length bytes.new.items }
     ensures some { 1024 ≤ length bytes.new.items }
-    ensures room { 65536 ≤ vec_capacity bytes.new }
+    ensures capacity { 65536 ≤ vec_capacity bytes.new }
 {
     if bytes.len() >= PIECE {
         return;
@@ -32,15 +32,15 @@ fn lengthen(bytes: &mut Vec<u8>)
 /// holds is written. It is never inlined, so that a line that fits is written in few steps.
 #[inline(never)]
 fn make_space<W: Sink>(bytes: &mut Vec<u8>, end: usize, writer: &mut W) -> Result<usize, Kind>
-    requires room { 65536 ≤ vec_capacity bytes.old }
+    requires capacity { 65536 ≤ vec_capacity bytes.old }
     requires within { end ≤ length bytes.old.items }
     requires works { W.failures writer.old ≡ 0 }
-    ensures front { IfOk result (λ held. WritesFront (W.contents writer.old) (W.contents writer.new)
+    ensures part { IfOk result (λ held. WritesPart (W.contents writer.old) (W.contents writer.new)
         (take end bytes.old.items) (take held bytes.new.items)) }
     ensures space { IfOk result (λ held. held + 105 ≤ length bytes.new.items) }
     ensures prefix { OnErr result
         (WritesPrefix (W.contents writer.old) (W.contents writer.new) (take end bytes.old.items)) }
-    ensures room { 65536 ≤ vec_capacity bytes.new }
+    ensures capacity { 65536 ≤ vec_capacity bytes.new }
     ensures sink { LeavesSink W.failures W.stalled writer.old writer.new result }
 {
     lengthen(bytes);
@@ -54,15 +54,15 @@ fn make_space<W: Sink>(bytes: &mut Vec<u8>, end: usize, writer: &mut W) -> Resul
 /// Finds space for a line as `make_space` makes it, where there is none yet.
 #[inline(always)]
 fn find_space<W: Sink>(bytes: &mut Vec<u8>, end: usize, writer: &mut W) -> Result<usize, Kind>
-    requires room { 65536 ≤ vec_capacity bytes.old }
+    requires capacity { 65536 ≤ vec_capacity bytes.old }
     requires within { end ≤ length bytes.old.items }
     requires works { W.failures writer.old ≡ 0 }
-    ensures front { IfOk result (λ held. WritesFront (W.contents writer.old) (W.contents writer.new)
+    ensures part { IfOk result (λ held. WritesPart (W.contents writer.old) (W.contents writer.new)
         (take end bytes.old.items) (take held bytes.new.items)) }
     ensures space { IfOk result (λ held. held + 105 ≤ length bytes.new.items) }
     ensures prefix { OnErr result
         (WritesPrefix (W.contents writer.old) (W.contents writer.new) (take end bytes.old.items)) }
-    ensures room { 65536 ≤ vec_capacity bytes.new }
+    ensures capacity { 65536 ≤ vec_capacity bytes.new }
     ensures sink { LeavesSink W.failures W.stalled writer.old writer.new result }
 {
     if bytes.len() - end >= LONGEST_NODE_LINE {
@@ -79,15 +79,15 @@ fn add_line<W: Sink>(
     line: &Line,
     writer: &mut W,
 ) -> Result<usize, Kind>
-    requires room { 65536 ≤ vec_capacity bytes.old }
+    requires capacity { 65536 ≤ vec_capacity bytes.old }
     requires within { end ≤ length bytes.old.items }
     requires works { W.failures writer.old ≡ 0 }
-    ensures front { IfOk result (λ held. WritesFront (W.contents writer.old) (W.contents writer.new)
+    ensures part { IfOk result (λ held. WritesPart (W.contents writer.old) (W.contents writer.new)
         (take end bytes.old.items ++ node_text line.now) (take held bytes.new.items)) }
     ensures within { IfOk result (λ held. held ≤ length bytes.new.items) }
     ensures prefix { OnErr result
         (WritesPrefix (W.contents writer.old) (W.contents writer.new) (take end bytes.old.items)) }
-    ensures room { 65536 ≤ vec_capacity bytes.new }
+    ensures capacity { 65536 ≤ vec_capacity bytes.new }
     ensures sink { LeavesSink W.failures W.stalled writer.old writer.new result }
 {
     let at = find_space(bytes, end, writer)?;
@@ -107,7 +107,7 @@ impl Piece {
     /// A piece that holds a text.
     pub(crate) fn new(text: Vec<u8>) -> Piece
         ensures text { take result.end result.bytes.items ≡ text.items }
-        ensures room { vec_capacity result.bytes ≡ vec_capacity text }
+        ensures capacity { vec_capacity result.bytes ≡ vec_capacity text }
         ensures within { result.end ≤ length result.bytes.items }
     {
         let end = text.len();

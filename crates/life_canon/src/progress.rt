@@ -1,7 +1,7 @@
 //! The lines of a file of either format, put into a store as they come.
 
 ghost use Rattle.std.specs.Prelude.{◌≡◌, ◌↔◌, ◌⊎◌, ◌++◌, ◌∷◌, [], ◌<◌, ◌≤◌, ℤ, Some, IsTrue, false, ℕ, List, IfOk, IfErr, OnOk, max, length, All};
-ghost use Rattle.life_canon.specs.Words.{Full, NoHeader, Prefix, depth, tree_cell, macrocell_cell, root_level, Macrocell, IsValidMacrocell, AcceptsMacrocell, squares_of, broken_rule, Nodes, stored_squares, Grows, IsShortageKind, LacksHeader, HasRuns, BreaksRle, IsSomeRle, IsFilling, IsBuilt, Stores, StoresIn, Breaks, Says, is_macrocell, least_level, IsOpenIn, IsKnown, content, IsPatternOf, AreSquaresIn, ForMacrocell, HasGrown, HoldsFile, IsEnd, SomeAtEnd, SomeOfLines, SomeOfMacrocell, SomeRoot, IsOpen, IsOver, IsReadyToTake, StandsFor, taken_lines, Universe, CanJoin, HasJoined, IsReadyFor, KeepsLines, quads_of, SomeOf, MOST_WAITING};
+ghost use Rattle.life_canon.specs.Words.{Full, NoHeader, Prefix, depth, tree_cell, macrocell_cell, root_level, Macrocell, IsValidMacrocell, AcceptsMacrocell, squares_of, broken_rule, Nodes, stored_squares, Grows, IsShortageKind, LacksHeader, HasRuns, BreaksRle, IsSomeRle, IsFilling, IsBuilt, Stores, StoresIn, Breaks, Says, is_macrocell, least_level, IsOpenIn, IsKnown, content, IsPatternOf, AreSquaresIn, ForMacrocell, HasGrown, HoldsFile, IsEnd, SomeAtEnd, SomeOfLines, SomeOfMacrocell, SomeRoot, IsOpen, IsOver, IsReadyToTake, StandsFor, consumed_lines, Universe, CanJoin, HasJoined, IsReadyFor, KeepsLines, quads_of, SomeOf, MOST_WAITING};
 
 use crate::line_squares::{grow_to, line_quarters, names_first};
 use crate::pattern::{Pattern, least_level};
@@ -45,7 +45,7 @@ fn take_rle_line<S: Squares>(
         (HasRuns MAX_LEVEL lines.old.lines) builder.old }
     ensures lines { OnOk result
         (lines.new ≡ record { lines = lines.old.lines ++ line.now ∷ []; refused = false }) }
-    ensures front { OnOk result (Prefix (IsSomeRle MAX_LEVEL) lines.new.lines) }
+    ensures prefix { OnOk result (Prefix (IsSomeRle MAX_LEVEL) lines.new.lines) }
     ensures built { OnOk result (IsBuilt (S.knows squares.new) (S.content squares.new)
         (HasRuns MAX_LEVEL lines.new.lines) builder.new) }
     ensures fault { IfErr result (λ kind. IsShortageKind (S.stored squares.new) (S.most squares.new)
@@ -126,7 +126,7 @@ fn take_macrocell_line<S: Squares>(
     requires most { most ≤ MOST_WAITING }
     ensures lines { OnOk result
         (lines.new ≡ record { lines = lines.old.lines ++ line.now ∷ []; refused = false }) }
-    ensures front { OnOk result (Prefix (AcceptsMacrocell MAX_LEVEL) lines.new.lines) }
+    ensures prefix { OnOk result (Prefix (AcceptsMacrocell MAX_LEVEL) lines.new.lines) }
     ensures squares { OnOk result (KeepsLines (S.knows squares.new) (S.content squares.new)
         lines.new.lines ids.new.items waiting.new.items) }
     ensures fault { IfErr result (λ kind. IsShortageKind (S.stored squares.new) (S.most squares.new)
@@ -212,7 +212,7 @@ impl Progress {
     /// The format of a file whose first line this is.
     fn begun(alloc: Global, line: &[u8]) -> Progress
         ensures ready { IsReadyToTake line.now result }
-        ensures lines { taken_lines result ≡ [] }
+        ensures lines { consumed_lines result ≡ [] }
         ensures stands { (store : Nodes) → StandsFor (IsKnown store) (content store) result }
     {
         if begins_with(line, b"[M2]") {
@@ -226,7 +226,7 @@ impl Progress {
     fn begin(&mut self, alloc: Global, line: &[u8])
         requires { IsOpen self.old }
         ensures ready { IsReadyToTake line.now self.new }
-        ensures lines { taken_lines self.new ≡ taken_lines self.old }
+        ensures lines { consumed_lines self.new ≡ consumed_lines self.old }
         ensures stands { (store : Nodes) → StandsFor (IsKnown store) (content store) self.old
             → StandsFor (IsKnown store) (content store) self.new }
     {
@@ -254,12 +254,13 @@ impl Progress {
         line: &[u8],
     ) -> Result<(), Kind>
         requires { IsOpenIn store.old self.old }
-        ensures lines { OnOk result (taken_lines self.new ≡ taken_lines self.old ++ line.now ∷ []) }
+        ensures lines { OnOk result
+            (consumed_lines self.new ≡ consumed_lines self.old ++ line.now ∷ []) }
         ensures progress { OnOk result (IsOpenIn store.new self.new) }
         ensures fault { IfErr result (λ kind. IsShortageKind (stored_squares store.new)
-            store.new.limit kind ⊎ Breaks MAX_LEVEL (taken_lines self.old) line.now kind) }
+            store.new.limit kind ⊎ Breaks MAX_LEVEL (consumed_lines self.old) line.now kind) }
         ensures stores { Stores Full store.old store.new result
-            (λ P. SomeOfLines MAX_LEVEL P (taken_lines self.old ++ line.now ∷ [])) }
+            (λ P. SomeOfLines MAX_LEVEL P (consumed_lines self.old ++ line.now ∷ [])) }
     {
         self.begin(alloc, line);
         match self {
@@ -278,16 +279,16 @@ impl Progress {
     pub(crate) fn end(self, store: &mut Shared) -> Result<Pattern, Kind>
         requires { IsOpenIn store.old self }
         ensures pattern { IfOk result (λ pattern. (universe : Universe)
-            × Says MAX_LEVEL (taken_lines self) universe
+            × Says MAX_LEVEL (consumed_lines self) universe
             × IsPatternOf MAX_LEVEL (IsKnown store.new) (content store.new) universe pattern) }
         ensures all { OnOk result ((bytes : List ℕ) (ended : ℕ) → IsEnd bytes ended self
             → HoldsFile bytes (stored_squares store.new)) }
         ensures fault { IfErr result (λ kind. IsShortageKind (stored_squares store.new)
-            store.new.limit kind ⊎ ((kind ≡ NoHeader) × LacksHeader MAX_LEVEL (taken_lines self)
-            × (is_macrocell (taken_lines self) ≡ false))) }
+            store.new.limit kind ⊎ ((kind ≡ NoHeader) × LacksHeader MAX_LEVEL (consumed_lines self)
+            × (is_macrocell (consumed_lines self) ≡ false))) }
         ensures stores { Stores Full store.old store.new result
-            (λ P. SomeAtEnd MAX_LEVEL P (taken_lines self)
-            ⊎ SomeOfMacrocell MAX_LEVEL P (taken_lines self)) }
+            (λ P. SomeAtEnd MAX_LEVEL P (consumed_lines self)
+            ⊎ SomeOfMacrocell MAX_LEVEL P (consumed_lines self)) }
     {
         match self {
             Progress::Undecided => Err(Kind::NoHeader),

@@ -1,10 +1,10 @@
 //! A file of either format that comes in pieces.
 
 ghost use Rattle.std.specs.Prelude.{◌≡◌, ◌⊎◌, ◌++◌, [], true, false, IfOk, IfErr, OnOk, OnErr};
-ghost use Rattle.life_canon.specs.Words.{Spent, FaultValue, fault_of, Nodes, FeedsInto, EndsInto, RefusesFront, IsOverAt, Stands, IsRead, IsShortageOf, RefusesIn};
+ghost use Rattle.life_canon.specs.Words.{Spent, FaultValue, fault_of, Nodes, FeedsInto, EndsInto, RefusesPrefix, IsOverAt, Stands, IsRead, IsShortageOf, RefusesIn};
 
-use crate::front::Front;
 use crate::pattern::Pattern;
+use crate::prefix::FilePrefix;
 use life_base::{Fault, Kind, MAX_LEVEL};
 use life_quad::Shared;
 use std::alloc::Global;
@@ -16,20 +16,20 @@ use std::marker::Model;
 /// One store serves all calls: it must have each square that the reader keeps.
 #[derive(Drop)]
 pub struct Reader {
-    front: Front,
+    prefix: FilePrefix,
     spent: bool,
 }
 
 impl Model for Reader {
     ghost use Rattle.std.specs.Prelude.{◌≡◌, ◌≤◌, ◌^◌, false, length};
     ghost use Rattle.life_canon.specs.Feeding.{Fed};
-    ghost use Rattle.life_canon.specs.Taking.{IsFrontOf, bytes_of};
+    ghost use Rattle.life_canon.specs.Taking.{IsFilePrefixOf, bytes_of};
 
     ghost Value = { Fed };
 
-    ghost view = { λ r. record { bytes = bytes_of r.front.pieces.lines; kept = r.front.kept.items; spent = r.spent; progress = r.front.progress } };
+    ghost view = { λ r. record { bytes = bytes_of r.prefix.pieces.lines; kept = r.prefix.kept.items; spent = r.spent; progress = r.prefix.progress } };
 
-    ghost invariant = { λ r. (length r.front.kept.items ≤ 2 ^ 20) × (r.spent ≡ false → IsFrontOf r.front) };
+    ghost invariant = { λ r. (length r.prefix.kept.items ≤ 2 ^ 20) × (r.spent ≡ false → IsFilePrefixOf r.prefix) };
 }
 
 impl Reader {
@@ -40,7 +40,7 @@ impl Reader {
         ensures stands { (store : Nodes) → Stands store result }
     {
         Reader {
-            front: Front::new(alloc),
+            prefix: FilePrefix::new(alloc),
             spent: false,
         }
     }
@@ -54,7 +54,7 @@ impl Reader {
     /// each Id of the store names the square that it named.
     ///
     /// The calls of one reader aren't `Full` where the limit of the store is `14 * length + 264` squares above those that it held before the
-    /// first byte and those that other calls have stored since, or more, with the length of all bytes that are fed (`laws::fronts_hold`).
+    /// first byte and those that other calls have stored since, or more, with the length of all bytes that are fed (`laws::prefixes_hold`).
     pub fn feed(&mut self, store: &mut Shared, piece: &[u8]) -> Result<(), Fault>
         requires { self.old.spent ≡ false → Stands store.old self.old }
         ensures bytes { OnOk result (self.new.bytes ≡ self.old.bytes ++ piece.now) }
@@ -62,11 +62,11 @@ impl Reader {
         ensures stands { OnOk result (Stands store.new self.new) }
 
         // A line's fault is reported by the call in which the line ends or grows too long, and by no later one.
-        ensures front { OnOk result
-            ((fault : FaultValue) → RefusesFront MAX_LEVEL self.new.bytes fault → ⊥) }
+        ensures prefix { OnOk result
+            ((fault : FaultValue) → RefusesPrefix MAX_LEVEL self.new.bytes fault → ⊥) }
         ensures fault { self.old.spent ≡ false
             → IfErr result (λ fault. IsShortageOf store.new fault
-            ⊎ RefusesFront MAX_LEVEL (self.old.bytes ++ piece.now) fault) }
+            ⊎ RefusesPrefix MAX_LEVEL (self.old.bytes ++ piece.now) fault) }
         ensures feeds { FeedsInto self.old.bytes piece.now store.old store.new result }
         ensures refused { OnErr result (self.new.spent ≡ true) }
         ensures spent { self.old.spent ≡ true → IfErr result (λ fault. fault ≡ fault_of Spent) }
@@ -78,7 +78,7 @@ impl Reader {
             return Err(Fault::of(Kind::Spent));
         }
         self.spent = true;
-        match self.front.take_piece(store, piece) {
+        match self.prefix.take_piece(store, piece) {
             Ok(()) => {
                 self.spent = false;
                 Ok(())
@@ -107,11 +107,11 @@ impl Reader {
         ensures ends { EndsInto self.bytes store.old store.new result }
         ensures spent { self.spent ≡ true → IfErr result (λ fault. fault ≡ fault_of Spent) }
     {
-        let Reader { front, spent } = self;
+        let Reader { prefix, spent } = self;
         if spent {
             return Err(Fault::of(Kind::Spent));
         }
-        let answer = front.finish(store);
+        let answer = prefix.finish(store);
         // As in `feed`.
         let _ = store.len();
         answer

@@ -1,13 +1,13 @@
 //! From a source to a sink.
 
 ghost use Rattle.std.specs.Prelude.{◌≡◌, ◌≢◌, ◌⊎◌, ◌+◌, ◌<◌, ◌≤◌, ◌^◌, ℕ, List, length, true, false, IsTrue, ◌↔◌, IfOk, IfErr, OnOk, IfSome, Some, None, Err, ◌++◌};
-ghost use Rattle.life_canon.specs.Words.{source_run, sink_run, fault_of, ReadsPattern, RunsCanon, AreWorking, RefusesFront, Stands, whole_lines, Tree, LacksForFront, AddsLines, HoldsFront, room_for, Keeps, IsShortageOf};
+ghost use Rattle.life_canon.specs.Words.{source_run, sink_run, fault_of, ReadsPattern, RunsCanon, AreWorking, RefusesPrefix, Stands, whole_lines, Tree, LacksForPrefix, AddsLines, HoldsPrefix, sufficient_for, Keeps, IsShortageOf};
 ghost use Rattle.life_canon.specs.ReadWhole.{ReadsWhole};
 
 use crate::pattern::Pattern;
 use crate::piece::PIECE;
 use crate::reader::Reader;
-use crate::room::ReservePlan;
+use crate::space::ReservePlan;
 use crate::writer::{begin_text, deliver_squares};
 use life_base::{Fault, Kind, MAX_LEVEL, Sink, Source};
 use life_quad::Shared;
@@ -38,15 +38,15 @@ fn feed_piece(
         × (reader.new.spent ≡ false) × (reader.new.bytes ≡ reader.old.bytes ++ piece.now)
         × Stands store.new reader.new) }
     ensures refused { IfOk result (λ next. IfSome next (λ fault. (refused ≡ Some fault)
-        ⊎ ((refused ≡ None) × RefusesFront MAX_LEVEL (reader.old.bytes ++ piece.now) fault))) }
+        ⊎ ((refused ≡ None) × RefusesPrefix MAX_LEVEL (reader.old.bytes ++ piece.now) fault))) }
     ensures want { IfErr result (IsShortageOf store.new) }
     ensures needed { result ≡ Err (fault_of Kind.Full)
-        → (refused ≡ None) × LacksForFront MAX_LEVEL (reader.old.bytes ++ piece.now) store.new }
+        → (refused ≡ None) × LacksForPrefix MAX_LEVEL (reader.old.bytes ++ piece.now) store.new }
     ensures adds { (bytes : List ℕ) → (refused ≡ None → reader.old.bytes ≡ bytes)
         → AddsLines (whole_lines (bytes ++ piece.now)) store.old store.new }
-    ensures room { result ≡ Err (fault_of Kind.Full) → (base : List Tree)
-        → HoldsFront base reader.old.bytes store.old
-        → store.old.limit < length base + room_for (length (reader.old.bytes ++ piece.now)) }
+    ensures space { result ≡ Err (fault_of Kind.Full) → (base : List Tree)
+        → HoldsPrefix base reader.old.bytes store.old
+        → store.old.limit < length base + sufficient_for (length (reader.old.bytes ++ piece.now)) }
     ensures keeps { Keeps store.old store.new }
 {
     match refused {
@@ -77,7 +77,7 @@ fn read_by_pieces<R: Source>(
         (source_run R.remaining R.failures source.old source.new)) }
 {
     let mut reader = Reader::new(alloc);
-    let mut room = ReservePlan::new(store, source.expected());
+    let mut space = ReservePlan::new(store, source.expected());
     let mut refused = None;
     let mut total = 0u64;
     loop {
@@ -90,7 +90,7 @@ fn read_by_pieces<R: Source>(
             return Err(Fault::of(Kind::InputTooLong));
         }
         refused = feed_piece(&mut reader, store, refused, &piece[..count])?;
-        room.make(store, total);
+        space.make(store, total);
     }
     match refused {
         Some(fault) => Err(fault),
@@ -175,8 +175,8 @@ pub fn run_canon_within<R: Source, W: Sink>(
         (λ fault. fault.kind ≢ Kind.WriteFault → writer.new ≡ writer.old) }
 {
     let pattern = read_source(alloc, store, reader, most)?;
-    let (numbers, front) = begin_text(alloc, store, &pattern)?;
-    deliver_squares(store, &pattern, numbers, front, writer)?;
+    let (numbers, prefix) = begin_text(alloc, store, &pattern)?;
+    deliver_squares(store, &pattern, numbers, prefix, writer)?;
     Ok(())
 }
 

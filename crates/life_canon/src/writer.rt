@@ -3,7 +3,7 @@
 ghost use Rattle.std.proofs.Common.{sym};
 ghost use Rattle.std.specs.Prelude.{◌≡◌, ◌++◌, ◌≤◌, [], true, flat_map, vec_capacity, OnOk, IfOk, IfErr};
 ghost use Rattle.std.proofs.lemmas.List.{append-nil};
-ghost use Rattle.life_canon.specs.Words.{Memory, fault_of, WritesText, LeavesSink, depth, Knows, largest_state, HasStatesUpTo, header_lines_text, node_text, least_level, listed_squares, lines_for, canon_text, IsTrimmed, universe_in, content, HasRoomFrom, IsMemory};
+ghost use Rattle.life_canon.specs.Words.{Memory, fault_of, WritesText, LeavesSink, depth, Knows, largest_state, HasStatesUpTo, header_lines_text, node_text, least_level, listed_squares, lines_for, canon_text, IsTrimmed, universe_in, content, HasNumbersFrom, IsMemory};
 
 use crate::line_sink::LineSink;
 use crate::node_walk::walk_pattern;
@@ -11,12 +11,12 @@ use crate::orientation::Upright;
 use crate::pattern::{Pattern, least_level};
 use crate::piece::{PIECE, Piece};
 use life_base::{Fault, Kind, MAX_LEVEL, Rule, Sink, deliver};
-use life_mc::{Line, append_front, append_line};
+use life_mc::{Line, append_line, append_prefix};
 use life_quad::{IdNumbers, Shared, SharedSquares, Squares};
 use std::alloc::Global;
 
 /// How many bytes the first lines of most files have at most.
-const SHORT_FRONT: usize = 256;
+const SHORT_PREFIX: usize = 256;
 
 /// How many bytes the text of a small pattern has at most.
 const SHORT_TEXT: usize = 512;
@@ -60,7 +60,7 @@ pub fn text_of(alloc: Global, store: &Shared, pattern: &Pattern) -> Result<Vec<u
     ensures memory { IfErr result (λ fault. fault ≡ fault_of Memory) }
 {
     let mut text = Text {
-        bytes: front_with_room(alloc, pattern, SHORT_TEXT)?,
+        bytes: prefix_with_space(alloc, pattern, SHORT_TEXT)?,
     };
     let numbers = begin_numbers(alloc, store, pattern)?;
     walk_pattern(store, &Upright, pattern, numbers, &mut text, &mut ())?;
@@ -68,26 +68,26 @@ pub fn text_of(alloc: Global, store: &Shared, pattern: &Pattern) -> Result<Vec<u
 }
 
 /// The first lines of a pattern's text. Capacity for so many bytes was reserved at once.
-fn front_with_room(alloc: Global, pattern: &Pattern, room: usize) -> Result<Vec<u8>, Kind>
-    ensures front { IfOk result
-        (λ front. front.items ≡ header_lines_text pattern.now.rule pattern.now.generation) }
+fn prefix_with_space(alloc: Global, pattern: &Pattern, space: usize) -> Result<Vec<u8>, Kind>
+    ensures prefix { IfOk result
+        (λ prefix. prefix.items ≡ header_lines_text pattern.now.rule pattern.now.generation) }
     ensures kind { IfErr result IsMemory }
 {
-    let mut front = Vec::with_capacity(alloc, room)?;
-    append_front(&mut front, &pattern.rule, pattern.generation)?;
-    Ok(front)
+    let mut prefix = Vec::with_capacity(alloc, space)?;
+    append_prefix(&mut prefix, &pattern.rule, pattern.generation)?;
+    Ok(prefix)
 }
 
 /// The same, with space for a piece after them.
-fn begin_front(alloc: Global, pattern: &Pattern) -> Result<Vec<u8>, Kind>
-    ensures front { IfOk result
-        (λ front. front.items ≡ header_lines_text pattern.now.rule pattern.now.generation) }
-    ensures room { IfOk result (λ front. 65536 ≤ vec_capacity front) }
+fn begin_prefix(alloc: Global, pattern: &Pattern) -> Result<Vec<u8>, Kind>
+    ensures prefix { IfOk result
+        (λ prefix. prefix.items ≡ header_lines_text pattern.now.rule pattern.now.generation) }
+    ensures space { IfOk result (λ prefix. 65536 ≤ vec_capacity prefix) }
     ensures kind { IfErr result IsMemory }
 {
-    let mut front = front_with_room(alloc, pattern, PIECE + SHORT_FRONT)?;
-    front.reserve(PIECE)?;
-    Ok(front)
+    let mut prefix = prefix_with_space(alloc, pattern, PIECE + SHORT_PREFIX)?;
+    prefix.reserve(PIECE)?;
+    Ok(prefix)
 }
 
 /// Numbers for a walk over a pattern's squares that may be refused memory: no square has one yet. Under a B/S rule there is capacity for all of a store's
@@ -113,16 +113,16 @@ pub(crate) fn begin_text(
     pattern: &Pattern,
 ) -> Result<(IdNumbers, Vec<u8>), Kind>
     ensures none { IfOk result (λ p. p.0.ids ≡ []) }
-    ensures bound { IfOk result (λ p. HasRoomFrom (Knows store.now) (content store.now)
-        (least_level pattern.now.rule) p.0.room) }
-    ensures front { IfOk result
+    ensures bound { IfOk result (λ p. HasNumbersFrom (Knows store.now) (content store.now)
+        (least_level pattern.now.rule) p.0.space) }
+    ensures prefix { IfOk result
         (λ p. p.1.items ≡ header_lines_text pattern.now.rule pattern.now.generation) }
-    ensures room { IfOk result (λ p. 65536 ≤ vec_capacity p.1) }
+    ensures space { IfOk result (λ p. 65536 ≤ vec_capacity p.1) }
     ensures kind { IfErr result IsMemory }
 {
     let numbers = IdNumbers::new(alloc, store, least_level(&pattern.rule))?;
-    let front = begin_front(alloc, pattern)?;
-    Ok((numbers, front))
+    let prefix = begin_prefix(alloc, pattern)?;
+    Ok((numbers, prefix))
 }
 
 /// Writes the header lines and then the lines of the squares of a pattern, in their order, and flushes. There is capacity for the number of each
@@ -131,7 +131,7 @@ pub(crate) fn deliver_squares<S: SharedSquares, W: Sink>(
     squares: &S,
     pattern: &Pattern,
     numbers: IdNumbers,
-    front: Vec<u8>,
+    prefix: Vec<u8>,
     writer: &mut W,
 ) -> Result<(), Kind>
     requires known { S.knows squares.now pattern.now.root }
@@ -139,18 +139,18 @@ pub(crate) fn deliver_squares<S: SharedSquares, W: Sink>(
     requires states { HasStatesUpTo (largest_state pattern.now.rule)
         (S.content squares.now pattern.now.root) }
     requires none { numbers.ids ≡ [] }
-    requires bound { HasRoomFrom (S.knows squares.now) (S.content squares.now)
-        (least_level pattern.now.rule) numbers.room }
-    requires room { 65536 ≤ vec_capacity front }
+    requires bound { HasNumbersFrom (S.knows squares.now) (S.content squares.now)
+        (least_level pattern.now.rule) numbers.space }
+    requires space { 65536 ≤ vec_capacity prefix }
     requires works { W.failures writer.old ≡ 0 }
     ensures text { WritesText (W.contents writer.old) (W.contents writer.new)
-        (front.items ++ flat_map node_text (lines_for pattern.now.rule
+        (prefix.items ++ flat_map node_text (lines_for pattern.now.rule
         (listed_squares (S.content squares.now pattern.now.root) (least_level pattern.now.rule))))
         result }
     ensures sink { LeavesSink W.failures W.stalled writer.old writer.new result }
     ensures flushed { OnOk result (W.flushed writer.new ≡ true) }
 {
-    let mut piece = Piece::new(front);
+    let mut piece = Piece::new(prefix);
     walk_pattern(squares, &Upright, pattern, numbers, &mut piece, writer)?;
     deliver(writer, piece.text())
 }

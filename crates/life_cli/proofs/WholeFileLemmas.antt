@@ -23,9 +23,9 @@ module _ (bytes : List ℕ) (source : SourceRun) (read : ReadAll (2 ^ 30) source
   reads-source r into = record {
     all = whole r into;
     needed = λ full. for_file bytes read (into.needed full);
-    adds = record { bytes = bytes; left = source.after; came = read.taken; adds = into.adds };
-    room = λ full. record { bytes = bytes; came = read.taken; within = read.within; tight = into.room full };
-    told = λ failed. let bad : 0 ≡ 1 = sym works ∙ failed in absurd cc;
+    adds = record { bytes = bytes; left = source.after; came = read.consumed; adds = into.adds };
+    space = λ full. record { bytes = bytes; came = read.consumed; within = read.within; tight = into.space full };
+    reported = λ failed. let bad : 0 ≡ 1 = sym works ∙ failed in absurd cc;
     keeps = into.keeps;
   }
 
@@ -54,5 +54,5 @@ module _ (bytes : List ℕ) (source : SourceRun) (read : ReadAll (2 ^ 30) source
 pub unread : {X : Type 0} (items : X → List ℕ) (gives : List ℕ → List ℕ → Type 0) (refuses : List ℕ → Fault → Type 0) (source : SourceRun) (fault : Fault)
     → InputRefuses source fault ⊎ (fault ≡ fault_of Memory) → (source.failures ≡ 1 → fault.kind ≡ ReadFault)
     → ComesOf {A = X} items gives refuses source (Err fault)
-unread items gives refuses source fault (inl input) told = record { ok = tt; err = by_input input; told = told }
-unread items gives refuses source fault (inr memory) told = record { ok = tt; err = by_want (inl memory); told = told }
+unread items gives refuses source fault (inl input) reported = record { ok = tt; err = by_input input; reported = reported }
+unread items gives refuses source fault (inr memory) reported = record { ok = tt; err = by_want (inl memory); reported = reported }

@@ -18,7 +18,7 @@ use Rattle.life_canon.specs.Files.{Accepted, Reads, Refuses, is_file_kind}
 use Rattle.life_canon.specs.Laws.{RefusalsHaveKinds}
 use Rattle.life_canon.specs.Needs.{IsNew}
 use Rattle.life_canon.specs.ReadWhole.{ReadsWhole}
-use Rattle.life_canon.specs.Room.{IsSquareOfFile}
+use Rattle.life_canon.specs.Space.{IsSquareOfFile}
 use Rattle.life_canon.specs.Running.{AddsForRead, HasRead, ReadRefuses, ReadsPattern, ReadsSource}
 use Rattle.life_canon.specs.Running as reading
 use Rattle.life_canon.specs.Store.{IsRead, IsShortageOf, content}
@@ -48,7 +48,7 @@ use Rattle.pattern_sources.specs.Sources.{InputRefuses, by_length, by_source, Ha
 use Rattle.pattern_sources.proofs.SourceLemmas.{holds_more, holds_one}
 use Rattle.life_step.proofs.NeedFacts.{step-lacks}
 
--- no text for want of memory, or with too many cells
+-- no text for lack of memory, or with too many cells
 pub refused_lines : {X : Type 0} (source : SourceRun) (r : Result X Fault) → IfErr r (λ fault. fault ≡ fault_of Memory)
     → IfErr r (HasNoText (Refuses MAX_LEVEL) source)
 refused_lines source (Ok x) h = tt
@@ -100,7 +100,7 @@ no_squares : (source : SourceRun) (bytes : List ℕ) → ReadAll (2 ^ 30) source
 no_squares source bytes read = record {
   bytes = bytes;
   left = source.after;
-  came = read.taken;
+  came = read.consumed;
   distinct = λ i j d before within. absurd (below_none j within);
   not_blank = λ t is. absurd (below_none is.0 is.1);
   needed = λ t is. absurd (below_none is.0 is.1);
@@ -256,12 +256,12 @@ pub made_of_text : {X : Type 0} (make : X → Made) (items : X → List ℕ) (gi
     → ComesOf items gives refuses first r → IfOk r (λ x. m ≡ Ok (make x)) → IfErr r (λ f. m ≡ Err (refusal_of f)) → MadeOf task first second m
 made_of_text make items gives refuses task first second (Ok x) m is works alone writes refused comes made failed =
     let answer = made_of_file gives task first second [] (items x) comes.ok (λ has. absurd (alone has)) (λ bytes. writes bytes (items x)) in
-    let told = subst (HasAnswer task first second 0) (sym (is x).1) answer in
+    let reported = subst (HasAnswer task first second 0) (sym (is x).1) answer in
     subst (MadeOf task first second) (sym made) (record {
-      ok = subst (λ n. HasAnswer task first second n (made_text (make x))) (sym (is x).0) told;
+      ok = subst (λ n. HasAnswer task first second n (made_text (make x))) (sym (is x).0) reported;
       err = tt;
-      told = λ e. elim e [
-        | inl f ↦ absurd (comes.told f)
+      reported = λ e. elim e [
+        | inl f ↦ absurd (comes.reported f)
         | inr f ↦ let bad : 0 ≡ 1 = sym works ∙ f in absurd cc
       ];
     })
@@ -269,8 +269,8 @@ made_of_text make items gives refuses task first second (Err fault) m is works a
     subst (MadeOf task first second) (sym failed) (record {
       ok = tt;
       err = λ output. refused output (refusal_of fault) (refl, comes.err);
-      told = λ e. elim e [
-        | inl f ↦ comes.told f
+      reported = λ e. elim e [
+        | inl f ↦ comes.reported f
         | inr f ↦ let bad : 0 ≡ 1 = sym works ∙ f in absurd cc
       ];
     })
@@ -280,10 +280,10 @@ pub made_of_comparison : (form : Form) (first second : SourceRun) (r : Result Bo
     → IfOk r (λ is_same. TaskMakes (Same form) first second (Comparison is_same)) → IfErr r (AreUncompared form first second)
     → ((first.failures ≡ 1) ⊎ (second.failures ≡ 1) → IsErrAnd r (λ fault. fault.kind ≡ ReadFault))
     → IfOk r (λ is_same. m ≡ Ok (Comparison is_same)) → IfErr r (λ f. m ≡ Err (refusal_of f)) → MadeOf (Same form) first second m
-made_of_comparison form first second (Ok is_same) m makes refuses told made failed =
-    subst (MadeOf (Same form) first second) (sym made) (record { ok = makes; err = tt; told = λ e. absurd (told e) })
-made_of_comparison form first second (Err fault) m makes refuses told made failed =
-    subst (MadeOf (Same form) first second) (sym failed) (record { ok = tt; err = λ output. (refl, by_comparing refuses); told = told })
+made_of_comparison form first second (Ok is_same) m makes refuses reported made failed =
+    subst (MadeOf (Same form) first second) (sym made) (record { ok = makes; err = tt; reported = λ e. absurd (reported e) })
+made_of_comparison form first second (Err fault) m makes refuses reported made failed =
+    subst (MadeOf (Same form) first second) (sym failed) (record { ok = tt; err = λ output. (refl, by_comparing refuses); reported = reported })
 
 -- of a task by a table, where `gives` relates the bytes of a file to its text by a table
 pub made_of_step : {X : Type 0} (make : X → Made) (items : X → List ℕ) (gives : Table → List ℕ → List ℕ → Type 0) (refuses : Refusal → Type 0)
@@ -294,17 +294,17 @@ pub made_of_step : {X : Type 0} (make : X → Made) (items : X → List ℕ) (gi
     → IfOk r (λ x. (table : Table) × HasTable second table × HasText (gives table) first (items x)) → IfErr r refuses
     → ((first.failures ≡ 1) ⊎ (second.failures ≡ 1) → IsErrAnd r (λ refusal. refusal.fault.kind ≡ ReadFault))
     → IfOk r (λ x. m ≡ Ok (make x)) → IfErr r (λ refusal. m ≡ Err refusal) → MadeOf task first second m
-made_of_step make items gives refuses task first second (Ok x) m is writes refused has none told made failed =
+made_of_step make items gives refuses task first second (Ok x) m is writes refused has none reported made failed =
     let answer = made_of_file (gives has.0) task first second has.1.bytes (items x) has.2 (λ _. has.1.read)
     (λ bytes stepped. writes has.0 bytes has.1.bytes (items x) has.1.is stepped) in
     let text = subst (HasAnswer task first second 0) (sym (is x).1) answer in
     subst (MadeOf task first second) (sym made) (record {
       ok = subst (λ n. HasAnswer task first second n (made_text (make x))) (sym (is x).0) text;
       err = tt;
-      told = λ e. absurd (told e);
+      reported = λ e. absurd (reported e);
     })
-made_of_step make items gives refuses task first second (Err refusal) m is writes refused has none told made failed =
-    subst (MadeOf task first second) (sym failed) (record { ok = tt; err = λ output. refused output refusal none; told = told })
+made_of_step make items gives refuses task first second (Err refusal) m is writes refused has none reported made failed =
+    subst (MadeOf task first second) (sym failed) (record { ok = tt; err = λ output. refused output refusal none; reported = reported })
 
 -- a test that answers no
 pub not_so : (answer : Bool) (P : Type 0) → IsTrue answer ↔ P → answer ≡ false → ¬ P
@@ -417,23 +417,23 @@ pub ran_canonical : (task : Task) (first second : SourceRun) (output : SinkRun) 
     → IfErr r (OfFile (CanonRefuses first output)) → (first.failures ≡ 1 → IsErrAnd r (λ refusal. refusal.fault.kind ≡ ReadFault))
     → ((output.failures ≡ 1) ⊎ (output.stalled ≡ true) → IsErrAnd r (λ refusal. refusal.fault.kind ≡ WriteFault))
     → TaskRan task first second output r
-ran_canonical task first second output (Ok status) is works zero done refused told broken = record {
+ran_canonical task first second output (Ok status) is works zero done refused reported broken = record {
   done = (omega (arith, zero), worked_canonical task first second output (Ok status) is zero done);
   refused = tt;
-  read_told = λ e. elim e [
-    | inl f ↦ absurd (told f)
+  read_reported = λ e. elim e [
+    | inl f ↦ absurd (reported f)
     | inr f ↦ let bad : 0 ≡ 1 = sym works ∙ f in absurd cc
   ];
-  write_told = broken;
+  write_reported = broken;
 }
-ran_canonical task first second output (Err refusal) is works zero done refused told broken = record {
+ran_canonical task first second output (Err refusal) is works zero done refused reported broken = record {
   done = tt;
   refused = canonical_refused task first second output refusal is refused;
-  read_told = λ e. elim e [
-    | inl f ↦ told f
+  read_reported = λ e. elim e [
+    | inl f ↦ reported f
     | inr f ↦ let bad : 0 ≡ 1 = sym works ∙ f in absurd cc
   ];
-  write_told = broken;
+  write_reported = broken;
 }
 
 -- of one that made nothing
@@ -442,8 +442,8 @@ pub ran_unmade : (task : Task) (first second : SourceRun) (output : SinkRun) (re
 ran_unmade task first second output refusal makes works takes = record {
   done = tt;
   refused = makes.err output;
-  read_told = makes.told;
-  write_told = λ e. elim e [
+  read_reported = makes.reported;
+  write_reported = λ e. elim e [
     | inl f ↦ let bad : 0 ≡ 1 = sym works ∙ f in absurd cc
     | inr f ↦ let bad : false ≡ true = sym takes ∙ f in absurd cc
   ];
@@ -455,8 +455,8 @@ pub ran_unwritten : (task : Task) (first second : SourceRun) (output : SinkRun) 
 ran_unwritten task first second output made refusal other makes broken = record {
   done = tt;
   refused = unwritten task first second output made refusal other makes.ok broken;
-  read_told = λ e. absurd (makes.told e);
-  write_told = λ e. ap (λ (fault : Fault). fault.kind) broken.1.is;
+  read_reported = λ e. absurd (makes.reported e);
+  write_reported = λ e. ap (λ (fault : Fault). fault.kind) broken.1.is;
 }
 
 -- of one that was done
@@ -466,6 +466,6 @@ pub ran_done : (task : Task) (first second : SourceRun) (output : SinkRun) (made
 ran_done task first second output made makes written works = record {
   done = (small_status made, worked task first second output made makes.ok written);
   refused = tt;
-  read_told = λ e. absurd (makes.told e);
-  write_told = works;
+  read_reported = λ e. absurd (makes.reported e);
+  write_reported = works;
 }

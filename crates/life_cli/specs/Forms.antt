@@ -16,7 +16,7 @@ pub record SayRelated (relates : Universe → Universe → Type 0) (top : ℕ) (
   pub reads_second : Reads top b second
   pub related : relates first second
 
--- both are files of one pattern, or one that a shift takes to the other, or a shift behind a turn
+-- both are files of one pattern, or one that a shift takes to the other, or a shift after a turn
 abbrev pub AreSameIn : Form → ℕ → List ℕ → List ℕ → Type 0
 AreSameIn Placed top a b = Same top a b
 AreSameIn Moved top a b = SayRelated IsShift top a b

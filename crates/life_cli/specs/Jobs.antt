@@ -12,7 +12,7 @@ use Rattle.life_base.specs.declared.cell.TheConstants.{MAX_LEVEL}
 use Rattle.life_base.specs.declared.kind.Kind.TheVariants.{Full, Memory, ReadFault, WriteFault}
 use Rattle.life_quad.specs.Store.{Nodes}
 use Rattle.life_canon.specs.Files.{Accepted, Reads, Refuses}
-use Rattle.life_canon.specs.Room.{AddsFile, IsSquareOfFile}
+use Rattle.life_canon.specs.Space.{AddsFile, IsSquareOfFile}
 use Rattle.life_canon.specs.Running.{RunRefuses}
 use Rattle.life_canon.specs.Store.{IsRead, IsShortageOf}
 use Rattle.life_canon.specs.Texts.{IsCanonical, IsRleOf, IsShownText}
@@ -122,7 +122,7 @@ abbrev pub RefusesSame : Form → List ℕ → List ℕ → Fault → Type 0
 RefusesSame form a b fault = (fault ≡ fault_of Full) × HasTooLarge form MAX_LEVEL a b
 
 -- Why two files aren't compared: the first isn't read; all of it was read, and the second isn't; all of both was read, and the first is no
--- file, or it is one and the second isn't, or both are, and aren't compared in the form; or room or memory is wanted for the first, or, once all
+-- file, or it is one and the second isn't, or both are, and aren't compared in the form; or the store is full or memory is refused for the first, or, once all
 -- of it was read, for the second.
 pub data AreUncompared (form : Form) (first second : SourceRun) (fault : Fault) : Type 0 where
   by_first : InputRefuses first fault → AreUncompared form first second fault
@@ -146,7 +146,7 @@ abbrev pub CanonRefuses : SourceRun → SinkRun → Fault → Type 0
 CanonRefuses first output fault = (store : Nodes) × (store.limit ≡ 2 ^ 31) × RunRefuses MAX_LEVEL (2 ^ 30) store first output fault
     × (fault ≡ fault_of Full → IsTooSmallFor [] first store)
 
--- why bytes aren't stepped under their own rule: they are no file, room or memory is wanted, or they are one whose pattern has no next
+-- why bytes aren't stepped under their own rule: they are no file, the store is full or memory is refused, or they are one whose pattern has no next
 -- generation
 abbrev pub RefusesLifeStep : List ℕ → Fault → Type 0
 RefusesLifeStep bytes fault =
@@ -250,11 +250,11 @@ TaskRefuses (LaterTable n) first second output refusal = HasNoTextLaterByTable n
 pub record MadeOf (task : Task) (first second : SourceRun) (result : Result Made Refusal) : Type 0 where
   pub ok : IfOk result (TaskMakes task first second)
   pub err : IfErr result (λ refusal. (output : SinkRun) → TaskRefuses task first second output refusal)
-  pub told : (first.failures ≡ 1) ⊎ (second.failures ≡ 1) → IsErrAnd result (λ refusal. refusal.fault.kind ≡ ReadFault)
+  pub reported : (first.failures ≡ 1) ⊎ (second.failures ≡ 1) → IsErrAnd result (λ refusal. refusal.fault.kind ≡ ReadFault)
 
 -- what became of a task: it was done, with its status; or why it was refused; and a device that failed, or took no bytes, is reported
 pub record TaskRan (task : Task) (first second : SourceRun) (output : SinkRun) (result : Result ℕ Refusal) : Type 0 where
   pub done : IfOk result (λ status. (status < 2) × Worked task status first second output)
   pub refused : IfErr result (TaskRefuses task first second output)
-  pub read_told : (first.failures ≡ 1) ⊎ (second.failures ≡ 1) → IsErrAnd result (λ refusal. refusal.fault.kind ≡ ReadFault)
-  pub write_told : (output.failures ≡ 1) ⊎ (output.stalled ≡ true) → IsErrAnd result (λ refusal. refusal.fault.kind ≡ WriteFault)
+  pub read_reported : (first.failures ≡ 1) ⊎ (second.failures ≡ 1) → IsErrAnd result (λ refusal. refusal.fault.kind ≡ ReadFault)
+  pub write_reported : (output.failures ≡ 1) ⊎ (output.stalled ≡ true) → IsErrAnd result (λ refusal. refusal.fault.kind ≡ WriteFault)

@@ -57,7 +57,7 @@ fn write_whole<W: Sink>(writer: &mut W, text: &[u8]) -> Result<(), Refusal>
     ensures err { IfErr result (OfFile
         (IsWrittenInPart (sink_run W.contents W.failures W.stalled writer.old writer.new)
         text.now)) }
-    ensures told { (W.failures writer.new ≡ 1) ⊎ (W.stalled writer.new ≡ true)
+    ensures reported { (W.failures writer.new ≡ 1) ⊎ (W.stalled writer.new ≡ true)
         → IsErrAnd result (λ refusal. refusal.fault.kind ≡ Kind.WriteFault) }
 {
     match deliver(writer, text) {
@@ -117,7 +117,7 @@ fn pattern_in<A: Source>(
         ⊎ IsShortageFor (stored_squares store.old)
         (source_run A.remaining A.failures source.old source.new)
         store.new fault) }
-    ensures told { A.failures source.new ≡ 1
+    ensures reported { A.failures source.new ≡ 1
         → IsErrAnd result (λ fault. fault.kind ≡ Kind.ReadFault) }
     ensures squares { AreOfInput (stored_squares store.old) (A.remaining source.old)
         (stored_squares store.new) }
@@ -147,7 +147,7 @@ fn compared<A: Source, B: Source>(
     ensures err { IfErr result (AreUncompared form
         (source_run A.remaining A.failures one.old one.new)
         (source_run B.remaining B.failures other.old other.new)) }
-    ensures told { (A.failures one.new ≡ 1) ⊎ (B.failures other.new ≡ 1)
+    ensures reported { (A.failures one.new ≡ 1) ⊎ (B.failures other.new ≡ 1)
         → IsErrAnd result (λ fault. fault.kind ≡ Kind.ReadFault) }
 {
     patterns_stay();
@@ -257,9 +257,9 @@ fn run_canonical<A: Source, O: Sink>(
         (sink_run O.contents O.failures O.stalled out.old out.new))) }
     ensures unwritten { IfErr result
         (λ refusal. refusal.fault.kind ≢ Kind.WriteFault → out.new ≡ out.old) }
-    ensures read_told { A.failures first.new ≡ 1
+    ensures read_reported { A.failures first.new ≡ 1
         → IsErrAnd result (λ refusal. refusal.fault.kind ≡ Kind.ReadFault) }
-    ensures write_told { (O.failures out.new ≡ 1) ⊎ (O.stalled out.new ≡ true)
+    ensures write_reported { (O.failures out.new ≡ 1) ⊎ (O.stalled out.new ≡ true)
         → IsErrAnd result (λ refusal. refusal.fault.kind ≡ Kind.WriteFault) }
 {
     let mut store = Shared::seeded(alloc, seeds.squares, MOST_SQUARES);
@@ -334,10 +334,10 @@ pub fn work_seeded<A: Source, B: Source, O: Sink, E: Sink>(
         × ((O.failures out.new ≡ 1) ⊎ (O.stalled out.new ≡ true)
         → refusal.fault.kind ≡ Kind.WriteFault)
         × Reports (sink_run E.contents E.failures E.stalled err.old err.new) (fault_line refusal) }
-    ensures first_told { A.failures first.new ≡ 1 → result ≡ status_of Kind.ReadFault }
-    ensures second_told { IfSome second.new
+    ensures first_reported { A.failures first.new ≡ 1 → result ≡ status_of Kind.ReadFault }
+    ensures second_reported { IfSome second.new
         (λ b. B.failures b ≡ 1 → result ≡ status_of Kind.ReadFault) }
-    ensures write_told { (O.failures out.new ≡ 1) ⊎ (O.stalled out.new ≡ true)
+    ensures write_reported { (O.failures out.new ≡ 1) ⊎ (O.stalled out.new ≡ true)
         → result ≡ status_of Kind.WriteFault }
 {
     match carry_out(alloc, seeds, task, first, second, out) {
@@ -382,10 +382,10 @@ pub fn work<A: Source, B: Source, O: Sink, E: Sink>(
         × ((O.failures out.new ≡ 1) ⊎ (O.stalled out.new ≡ true)
         → refusal.fault.kind ≡ Kind.WriteFault)
         × Reports (sink_run E.contents E.failures E.stalled err.old err.new) (fault_line refusal) }
-    ensures first_told { A.failures first.new ≡ 1 → result ≡ status_of Kind.ReadFault }
-    ensures second_told { IfSome second.new
+    ensures first_reported { A.failures first.new ≡ 1 → result ≡ status_of Kind.ReadFault }
+    ensures second_reported { IfSome second.new
         (λ b. B.failures b ≡ 1 → result ≡ status_of Kind.ReadFault) }
-    ensures write_told { (O.failures out.new ≡ 1) ⊎ (O.stalled out.new ≡ true)
+    ensures write_reported { (O.failures out.new ≡ 1) ⊎ (O.stalled out.new ≡ true)
         → result ≡ status_of Kind.WriteFault }
 {
     let task = Task::from(*job);

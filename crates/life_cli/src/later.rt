@@ -94,7 +94,7 @@ fn later_by<A: Source>(
     ensures err { IfErr result (λ refusal. (refusal.in_table ≡ false)
         × HasNoTextLater table.now generations
         (source_run A.remaining A.failures first.old first.new) refusal) }
-    ensures told { A.failures first.new ≡ 1
+    ensures reported { A.failures first.new ≡ 1
         → IsErrAnd result (λ refusal. refusal.fault.kind ≡ Kind.ReadFault) }
 {
     let text = text_of_source(alloc, seeds, Form::Placed, first)?;
@@ -117,7 +117,7 @@ pub(crate) fn later_by_table_of<A: Source, B: Source>(
     ensures err { IfErr result (HasNoTextLaterByTable generations
         (source_run A.remaining A.failures first.old first.new)
         (source_run B.remaining B.failures second.old second.new)) }
-    ensures told { (A.failures first.new ≡ 1) ⊎ (B.failures second.new ≡ 1)
+    ensures reported { (A.failures first.new ≡ 1) ⊎ (B.failures second.new ≡ 1)
         → IsErrAnd result (λ refusal. refusal.fault.kind ≡ Kind.ReadFault) }
 {
     let table = match table_of(alloc, seeds, second) {

@@ -11,7 +11,7 @@ use pattern_sources::refuse;
 /// Writes the line of words that are at fault, and returns the status.
 fn misuse<E: Sink>(err: &mut E, line: &[u8]) -> u8
     requires { E.failures err.old ≡ 0 }
-    ensures told { Reports (sink_run E.contents E.failures E.stalled err.old err.new) line.now }
+    ensures reported { Reports (sink_run E.contents E.failures E.stalled err.old err.new) line.now }
     ensures status { result ≡ 5 }
 {
     let _ = write_text(err, line);
@@ -41,7 +41,7 @@ fn is_out_of_memory(kind: ErrorKind) -> bool
 /// Writes the line that comes after a text of `clap`, and returns the status.
 fn report_text<E: Sink>(err: &mut E, kind: ErrorKind, is_printed: bool) -> u8
     requires { E.failures err.old ≡ 0 }
-    ensures told { Reports (sink_run E.contents E.failures E.stalled err.old err.new)
+    ensures reported { Reports (sink_run E.contents E.failures E.stalled err.old err.new)
         (text_line kind is_printed) }
     ensures status { result ≡ text_status kind is_printed }
 {
@@ -57,7 +57,7 @@ fn report_text<E: Sink>(err: &mut E, kind: ErrorKind, is_printed: bool) -> u8
 /// Writes the line that an error of `clap` gets besides its text, and returns the status.
 fn report_words<E: Sink>(err: &mut E, kind: ErrorKind, is_printed: bool) -> u8
     requires { E.failures err.old ≡ 0 }
-    ensures told { Reports (sink_run E.contents E.failures E.stalled err.old err.new)
+    ensures reported { Reports (sink_run E.contents E.failures E.stalled err.old err.new)
         (words_line kind is_printed) }
     ensures status { result ≡ words_status kind is_printed }
 {
@@ -72,7 +72,7 @@ fn report_words<E: Sink>(err: &mut E, kind: ErrorKind, is_printed: bool) -> u8
 /// gets the line `Memory` instead.
 pub fn report<E: Sink>(err: &mut E, usage: &Usage, is_printed: bool) -> u8
     requires { E.failures err.old ≡ 0 }
-    ensures told { Reports (sink_run E.contents E.failures E.stalled err.old err.new)
+    ensures reported { Reports (sink_run E.contents E.failures E.stalled err.old err.new)
         (usage_line usage.now is_printed) }
     ensures status { result ≡ usage_status usage.now is_printed }
 {

@@ -58,7 +58,7 @@ fn table_in<B: Source>(alloc: Global, seeds: &Seeds, source: &mut B) -> Result<T
     ensures ok { IfOk result (HasTable (source_run B.remaining B.failures source.old source.new)) }
     ensures err { IfErr result
         (HasNoTable (source_run B.remaining B.failures source.old source.new)) }
-    ensures told { B.failures source.new ≡ 1
+    ensures reported { B.failures source.new ≡ 1
         → IsErrAnd result (λ fault. fault.kind ≡ Kind.ReadFault) }
 {
     let bytes = read_whole(alloc, source)?;
@@ -75,7 +75,7 @@ pub(crate) fn table_of<B: Source>(
     ensures ok { IfOk result (HasTable (source_run B.remaining B.failures source.old source.new)) }
     ensures err { IfErr result
         (OfTable (HasNoTable (source_run B.remaining B.failures source.old source.new))) }
-    ensures told { B.failures source.new ≡ 1
+    ensures reported { B.failures source.new ≡ 1
         → IsErrAnd result (λ refusal. refusal.fault.kind ≡ Kind.ReadFault) }
 {
     match table_in(alloc, seeds, source) {
@@ -103,7 +103,7 @@ pub(crate) fn next_by_table_of<A: Source, B: Source>(
     ensures err { IfErr result (HasNoTextByTable
         (source_run A.remaining A.failures first.old first.new)
         (source_run B.remaining B.failures second.old second.new)) }
-    ensures told { (A.failures first.new ≡ 1) ⊎ (B.failures second.new ≡ 1)
+    ensures reported { (A.failures first.new ≡ 1) ⊎ (B.failures second.new ≡ 1)
         → IsErrAnd result (λ refusal. refusal.fault.kind ≡ Kind.ReadFault) }
 {
     let table = table_of(alloc, seeds, second)?;

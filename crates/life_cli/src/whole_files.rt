@@ -33,7 +33,7 @@ pub(crate) fn read_whole<R: Source>(alloc: Global, reader: &mut R) -> Result<Vec
         (source_run R.remaining R.failures reader.old reader.new) fault
         ⊎ (fault ≡ fault_of Kind.Memory)) }
     ensures works { OnOk result (R.failures reader.new ≡ 0) }
-    ensures told { R.failures reader.new ≡ 1
+    ensures reported { R.failures reader.new ≡ 1
         → IsErrAnd result (λ fault. fault.kind ≡ Kind.ReadFault) }
 {
     Ok(read_within(alloc, reader, LONGEST_FILE)?)

@@ -7,7 +7,7 @@ use Rattle.life_base.specs.declared.cell.TheConstants.{MAX_LEVEL}
 use Rattle.life_mc.specs.Squares.{HasStatesUpTo}
 use Rattle.life_quad.specs.Refused.{SomePart}
 use Rattle.life_canon.specs.Universe.{Universe, IsBlankOutside, whole}
-use Rattle.life_canon.proofs.RoomLists.{Among, among-left, among-right, contains-among}
+use Rattle.life_canon.proofs.SpaceLists.{Among, among-left, among-right, contains-among}
 use Rattle.life_canon.proofs.Sameness.{same-is_one}
 use Rattle.life_forms.specs.Forms.{IsMoved}
 use Rattle.life_forms.specs.Needed.{HasLargerForm, SomeOfMovedForm}

@@ -59,10 +59,10 @@ roots-tell store x y h k = (
   λ same. (same.rule, same.generation, same-roots store x y h k same),
 )
 
-pub shifts-told : (u v : Universe) (mid new : Nodes) (first second : Pattern) (answer : Bool) → IsBlankOutside MAX_LEVEL u.cell → Keeps mid new
+pub shifts-reported : (u v : Universe) (mid new : Nodes) (first second : Pattern) (answer : Bool) → IsBlankOutside MAX_LEVEL u.cell → Keeps mid new
     → IsTrimmed mid first → IsMoved MAX_LEVEL u (universe_in mid first) → IsTrimmed new second → IsMoved MAX_LEVEL v (universe_in new second)
     → (IsTrue answer ↔ HaveOneRoot first second) → IsTrue answer ↔ IsShift u v
-shifts-told u v mid new first second answer outside l one moved two also test =
+shifts-reported u v mid new first second answer outside l one moved two also test =
     let x = universe_in new first in
     let y = universe_in new second in
     let p = subst (λ (w : Universe). IsMoved MAX_LEVEL u w) (sym (stays-same mid new first l one)) moved in
@@ -85,8 +85,8 @@ on-plane store p h rule generation = record {
   outside = outside-blank (content store p.root) (known_squares_are_full store p.root h.known.0).1;
 }
 
-pub turns-told : TextsTellUniverses MAX_LEVEL → (u v : Universe) (first second : List ℕ) → IsOnPlane MAX_LEVEL u → IsOnPlane MAX_LEVEL v
+pub turns-reported : TextsTellUniverses MAX_LEVEL → (u v : Universe) (first second : List ℕ) → IsOnPlane MAX_LEVEL u → IsOnPlane MAX_LEVEL v
     → IsTurnedText MAX_LEVEL u first → IsTurnedText MAX_LEVEL v second → (first ≡ second) ↔ IsTurnedShift u v
-turns-told tells u v first second plane other h k =
-    let told = turned-texts MAX_LEVEL (canon_text MAX_LEVEL) tells (lit≤ tt) u v h.form k.form plane other h.turned k.turned in
-    (λ e. told.0 (sym h.is ∙ e ∙ k.is), λ s. h.is ∙ told.1 s ∙ sym k.is)
+turns-reported tells u v first second plane other h k =
+    let reported = turned-texts MAX_LEVEL (canon_text MAX_LEVEL) tells (lit≤ tt) u v h.form k.form plane other h.turned k.turned in
+    (λ e. reported.0 (sym h.is ∙ e ∙ k.is), λ s. h.is ∙ reported.1 s ∙ sym k.is)

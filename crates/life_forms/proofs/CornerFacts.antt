@@ -399,8 +399,8 @@ module _ (t : Tree) (box : Bounds) (least : IsBoundingBoxOfTree t box) (deep : 3
       record { low = omega (arith, ints, n, from, half); high = omega (arith, ints, s, to) }
 
   -- and one that doesn't is blank
-  pub beside-columns : (x y : ℤ) → (box.right <ℤ x) ⊎ ((x +ℤ pos 7) <ℤ box.left) → eight 0 ≡ square (tree_cell t) 3 x y
-  beside-columns x y out = no-cells (tree_cell t) 3 x y (λ u v w e n s. zero_unless _ (λ some.
+  pub adjacent-columns : (x y : ℤ) → (box.right <ℤ x) ⊎ ((x +ℤ pos 7) <ℤ box.left) → eight 0 ≡ square (tree_cell t) 3 x y
+  adjacent-columns x y out = no-cells (tree_cell t) 3 x y (λ u v w e n s. zero_unless _ (λ some.
       let i = least.inside u v some in
       let from = i.0 in
       let to = i.1 in
@@ -409,8 +409,8 @@ module _ (t : Tree) (box : Bounds) (least : IsBoundingBoxOfTree t box) (deep : 3
         | inr a ↦ omega (arith, ints, w, e, a, from, to)
       ]))
 
-  pub beside-rows : (x y : ℤ) → (box.bottom <ℤ y) ⊎ ((y +ℤ pos 7) <ℤ box.top) → eight 0 ≡ square (tree_cell t) 3 x y
-  beside-rows x y out = no-cells (tree_cell t) 3 x y (λ u v w e n s. zero_unless _ (λ some.
+  pub adjacent-rows : (x y : ℤ) → (box.bottom <ℤ y) ⊎ ((y +ℤ pos 7) <ℤ box.top) → eight 0 ≡ square (tree_cell t) 3 x y
+  adjacent-rows x y out = no-cells (tree_cell t) 3 x y (λ u v w e n s. zero_unless _ (λ some.
       let i = least.inside u v some in
       let from = i.2 in
       let to = i.3 in

@@ -63,7 +63,7 @@ none-levels P t h = absurd (true≢false (sym h))
 
 -- ---- numbers
 
--- what is in front of a list stays at its place
+-- what is before a list stays at its place
 abbrev Begins : List Tree → List Tree → Type 0
 Begins known all = (rest : List Tree) × (all ≡ known ++ rest)
 
@@ -310,10 +310,10 @@ lines-of : (words : List ℕ) → map leaf_line words ≡ map (λ t. Leaf (rows_
 lines-of [] = refl
 lines-of (w ∷ ws) = ap (λ (l : List Line). leaf_line w ∷ l) (lines-of ws)
 
-module _ (rule : Rule) (life : is_life rule ≡ true) (low : least_level rule ≡ 3) (generation : ℕ) (front text : List ℕ)
-    (begins : front ≡ header_lines_text rule generation) where
+module _ (rule : Rule) (life : is_life rule ≡ true) (low : least_level rule ≡ 3) (generation : ℕ) (prefix text : List ℕ)
+    (begins : prefix ≡ header_lines_text rule generation) where
   -- the text that the code writes for a root that is a leaf
-  pub written-four : (leaf : ℕ) → is_blank_tree (eight leaf) ≡ false → text ≡ front ++ node_text (leaf_line leaf)
+  pub written-four : (leaf : ℕ) → is_blank_tree (eight leaf) ≡ false → text ≡ prefix ++ node_text (leaf_line leaf)
       → text ≡ square_text rule generation (eight leaf)
   written-four leaf live is =
       is ∙ ap (λ (l : List ℕ). l ++ node_text (leaf_line leaf)) begins
@@ -321,7 +321,7 @@ module _ (rule : Rule) (life : is_life rule ≡ true) (low : least_level rule �
       (four_of (leaf / 65536 % 65536)) (four_of (leaf % 65536)) refl refl refl refl live)
 
   -- for one below the root
-  pub written-eight : (leaf : ℕ) → is_blank_tree (eight leaf) ≡ false → text ≡ (front ++ node_text (leaf_line leaf)) ++ node_text (Quad 4 0 0 0 1)
+  pub written-eight : (leaf : ℕ) → is_blank_tree (eight leaf) ≡ false → text ≡ (prefix ++ node_text (leaf_line leaf)) ++ node_text (Quad 4 0 0 0 1)
       → text ≡ square_text rule generation (seated (eight leaf))
   written-eight leaf live is =
       is ∙ ap (λ (l : List ℕ). (l ++ node_text (leaf_line leaf)) ++ node_text (Quad 4 0 0 0 1)) begins
@@ -335,7 +335,7 @@ module _ (rule : Rule) (life : is_life rule ≡ true) (low : least_level rule �
       → n2 ≡ number_of_quarter (map eight k2) (eight ne) → n3 ≡ number_of_quarter (map eight k3) (eight sw)
       → n4 ≡ number_of_quarter (map eight k4) (eight se) → is_blank_tree (quad (eight nw) (eight ne) (eight sw) (eight se)) ≡ false
       → text
-      ≡ ((front ++ flat_map node_text (map leaf_line k4)) ++ node_text (Quad 4 n1 n2 n3 n4)) ++ node_text (Quad 5 0 0 0 (length k4 + 1))
+      ≡ ((prefix ++ flat_map node_text (map leaf_line k4)) ++ node_text (Quad 4 n1 n2 n3 n4)) ++ node_text (Quad 5 0 0 0 (length k4 + 1))
       → text ≡ square_text rule generation (seated (quad (eight nw) (eight ne) (eight sw) (eight se)))
   written-sixteen nw ne sw se k1 k2 k3 k4 n1 n2 n3 n4 is1 is2 is3 is4 num1 num2 num3 num4 live is =
       let header = header_lines_text rule generation in

@@ -212,11 +212,11 @@ module _ (rule : Rule) (life : is_life rule ≡ true) (low : least_level rule �
   pub up-to-first : (t : Tree) → walk f 3 ≡ f ∷ [] → Begins f t → IsUpTo (square_text rule generation f) (square_text rule generation t)
   up-to-first t alone h =
       let list = list-begins f t h in
-      let front = node_text (Leaf (rows_of f)) in
+      let prefix = node_text (Leaf (rows_of f)) in
       let more = flat_map node_text (map (line_of rule (listed_squares t 3)) list.0) in
       subst (IsUpTo (square_text rule generation f)) (sym (text-by-list t list.0 list.1))
-      (subst (λ (text : List ℕ). IsUpTo text (header_lines_text rule generation ++ (front ++ more))) (sym (text-by-list f [] (list-alone f alone)))
-      (up-to-behind (header_lines_text rule generation) (front ++ []) (front ++ more) (up-to-behind front [] more (up-to-longer [] more))))
+      (subst (λ (text : List ℕ). IsUpTo text (header_lines_text rule generation ++ (prefix ++ more))) (sym (text-by-list f [] (list-alone f alone)))
+      (up-to-behind (header_lines_text rule generation) (prefix ++ []) (prefix ++ more) (up-to-behind prefix [] more (up-to-longer [] more))))
 
 -- the text of a leaf
 pub text-of-leaf : (rule : Rule) → is_life rule ≡ true → least_level rule ≡ 3 → (generation : ℕ) (a b c d : Tree) → depth a ≡ 2 → depth b ≡ 2 → depth c ≡ 2
@@ -235,7 +235,7 @@ pub record IsAtCorner (cell : ℤ → ℤ → ℕ) (k : ℕ) : Type 0 where
   pub states : (x y : ℤ) → cell x y < 256
   pub inside : (x y : ℤ) → cell x y ≢ 0 → (pos 0 ≤ℤ x) × (x <ℤ pos (2 ^ k)) × (pos 0 ≤ℤ y) × (y <ℤ pos (2 ^ k))
 
--- one of them is behind so many columns or rows
+-- one of them is after so many columns or rows
 pub record HasFarCell (cell : ℤ → ℤ → ℕ) (n : ℕ) : Type 0 where
   pub column : ℤ
   pub row : ℤ

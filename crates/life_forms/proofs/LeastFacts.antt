@@ -63,7 +63,7 @@ turned-forms-exist top text tells some u plane =
 pub turned-on-plane : (top : ℕ) (text : Universe → List ℕ) → TurnedFormsAreOnPlane top text
 turned-on-plane top text some u v plane turned = moved-on-plane top (image turned.turn u) v (images-stay-on-plane top some turned.turn u plane) turned.moved
 
--- ---- shifts behind turns
+-- ---- shifts after turns
 
 pub turned-shift-sym : (u v : Universe) → IsTurnedShift u v → IsTurnedShift v u
 turned-shift-sym u v s = record {
@@ -71,12 +71,12 @@ turned-shift-sym u v s = record {
   shift = shift-trans _ _ _ (images-keep-shifts (inverse_turn s.turn) _ _ (shift-sym _ _ s.shift)) (still _ _ (turns-have-inverses s.turn u));
 }
 
--- what a shift behind a turn takes to v has among its images that of u
+-- what a shift after a turn takes to v has among its images that of u
 image-too : (u v : Universe) (s : IsTurnedShift u v) (t : Turn) → IsShift (image t u) (image (turn_after (inverse_turn s.turn) t) v)
 image-too u v s t =
     let g = s.turn in
-    let taken = shift-trans _ _ _ (still _ _ (same-sym _ _ (turns-have-inverses g u))) (images-keep-shifts (inverse_turn g) _ _ s.shift) in
-    shift-trans _ _ _ (images-keep-shifts t _ _ taken) (still _ _ (turns-are-closed (inverse_turn g) t v))
+    let consumed = shift-trans _ _ _ (still _ _ (same-sym _ _ (turns-have-inverses g u))) (images-keep-shifts (inverse_turn g) _ _ s.shift) in
+    shift-trans _ _ _ (images-keep-shifts t _ _ consumed) (still _ _ (turns-are-closed (inverse_turn g) t v))
 
 -- so the least text of v is no greater
 below : (top : ℕ) (text : Universe → List ℕ) → SeparatesPatterns top text → 1 ≤ top → (u v x y : Universe) → IsOnPlane top u → IsOnPlane top v
@@ -92,7 +92,7 @@ below top text tells some u v x y plane other first second s =
     (same-sym _ _ (forms-of-shifts top _ _ _ _ p.outside first.moved form.1 there)))
     (second.least h form.0 form.1)
 
--- two forms of one text are those of patterns that a shift behind a turn takes to each other
+-- two forms of one text are those of patterns that a shift after a turn takes to each other
 shift-of-texts : (top : ℕ) (text : Universe → List ℕ) → SeparatesPatterns top text → 1 ≤ top → (u v x y : Universe) → IsOnPlane top u → IsOnPlane top v
     → IsTurned top text u x → IsTurned top text v y → text x ≡ text y → IsTurnedShift u v
 shift-of-texts top text tells some u v x y plane other first second e =

@@ -94,7 +94,7 @@ text_of lines = mc_text (record { rule = life; generation = 0; lines = lines })
 abbrev lesser : List ℕ → List ℕ → List ℕ
 lesser a b = if is_gt (slice_cmp nat_cmp a b) then b else a
 
--- of the eight texts this one is the least: `....*$....*.*$....**$` behind four empty rows
+-- of the eight texts this one is the least: `....*$....*.*$....**$` after four empty rows
 row_turned_glider : fold lesser (text_of (leaf_of 4 2 14)) (map text_of leaves) ≡ codes "[M2] (canonical 1)\n#R B3/S23\n$$$$....*$....*.*$....**$$\n"
 unfolding leaf_row_text
 row_turned_glider = refl

@@ -130,7 +130,7 @@ one-more p low n c o = record { from = omega (arith, ints); to = omega (arith, i
 none-more : (p : ℤ → Bool) (low : ℤ) (n : ℕ) → p low ≡ false → NoneFrom p (low +ℤ pos 1) n → NoneFrom p low (suc n)
 none-more p low n e none x h k = elim (at-or-above low x h) [ inl here ↦ ap p here ∙ e | inr above ↦ none x above (omega (arith, ints)) ]
 
--- none of n numbers from low on passes the test, or one is such; and so it is with one number more in front
+-- none of n numbers from low on passes the test, or one is such; and so it is with one number more at the beginning
 abbrev Found : (ℤ → Bool) → (ℤ → ℕ → ℤ → Type 0) → ℤ → ℕ → Type 0
 Found p Is low n = NoneFrom p low n ⊎ ((c : ℤ) × Is low n c)
 

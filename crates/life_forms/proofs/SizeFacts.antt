@@ -19,8 +19,8 @@ use Rattle.life_quad.specs.declared.id.Id.{Id}
 use Rattle.life_canon.specs.Needs.{IsNew}
 use Rattle.life_canon.specs.Store.{IsKnown}
 use Rattle.life_canon.specs.Universe.{Universe, least_level, square_universe}
-use Rattle.life_canon.proofs.RoomCount.{Found, found-as, find-part}
-use Rattle.life_canon.proofs.RoomLists.{Among, among-contains, contains-among, distinct-pairs, pigeons}
+use Rattle.life_canon.proofs.SpaceCount.{Found, found-as, find-part}
+use Rattle.life_canon.proofs.SpaceLists.{Among, among-contains, contains-among, distinct-pairs, pigeons}
 use Rattle.life_canon.proofs.Sameness.{same-sym}
 use Rattle.life_canon.proofs.Known.{part-blank}
 use Rattle.life_forms.specs.Forms.{IsShift, IsTurnedShift}

@@ -104,8 +104,8 @@ module _ (centre : SquaresAreCentred) (store : Nodes) (pattern : Pattern) (trimm
   outside : IsBlankOutside MAX_LEVEL u.cell
   outside = outside-blank t (known_squares_are_full store pattern.root trimmed.known.0).1
 
-  room : 65552 + most_parts 11 ≤ most
-  room = let parts : most_parts 11 ≡ 1398101 = refl in omega (arith, parts, enough)
+  space : 65552 + most_parts 11 ≤ most
+  space = let parts : most_parts 11 ≡ 1398101 = refl in omega (arith, parts, enough)
 
   little : (k : ℕ) → HasSidesUpTo (pos (2 ^ k)) box → IsLittle k box
   little k short = record { wide = short.wide; tall = short.tall }
@@ -114,7 +114,7 @@ module _ (centre : SquaresAreCentred) (store : Nodes) (pattern : Pattern) (trimm
       → IsSquareAt u 3 (square_start c box.left box.right 4 3) (square_start r box.top box.bottom 4 3) (eight leaf) → IsCorner most u c r (Four leaf)
   four-corner short c r leaf is = record {
     small = λ e. image-small centre u life (life-low u.rule life) low binary outside box (box-of-square t box least) 2 (lit≤ tt) (lit≤ tt) (little 2 short)
-        e c r most room;
+        e c r most space;
     life = life;
     live = is.live;
     text = λ e. leaf-image centre u life (life-low u.rule life) low binary outside box (box-of-square t box least) 2 (lit≤ tt) (lit≤ tt) (little 2 short)
@@ -125,7 +125,7 @@ module _ (centre : SquaresAreCentred) (store : Nodes) (pattern : Pattern) (trimm
       → IsSquareAt u 3 (square_start c box.left box.right 0 7) (square_start r box.top box.bottom 0 7) (eight leaf) → IsCorner most u c r (Eight leaf)
   eight-corner short far c r leaf is = record {
     small = λ e. image-small centre u life (life-low u.rule life) low binary outside box (box-of-square t box least) 3 (lit≤ tt) (lit≤ tt) (little 3 short)
-        e c r most room;
+        e c r most space;
     life = life;
     live = is.live;
     text = λ e. seated-image centre u life (life-low u.rule life) low binary outside box (box-of-square t box least) 3 (lit≤ tt) (lit≤ tt) (little 3 short)
@@ -137,7 +137,7 @@ module _ (centre : SquaresAreCentred) (store : Nodes) (pattern : Pattern) (trimm
       → IsCorner most u c r (Sixteen block)
   sixteen-corner short far c r block is = record {
     small = λ e. image-small centre u life (life-low u.rule life) low binary outside box (box-of-square t box least) 4 (lit≤ tt) (lit≤ tt) (little 4 short)
-        e c r most room;
+        e c r most space;
     life = life;
     live = is.live;
     text = λ e. seated-image centre u life (life-low u.rule life) low binary outside box (box-of-square t box least) 4 (lit≤ tt) (lit≤ tt) (little 4 short)

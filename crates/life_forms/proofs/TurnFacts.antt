@@ -38,11 +38,12 @@ counted-twice true false x = refl
 counted-twice true true x = backwards-twice x
 
 -- the turn t takes the place (v, w) to the place that the turn q takes (x, y) to
-abbrev pub IsTaken : Turn → ℤ → ℤ → Turn → ℤ → ℤ → Type 0
-IsTaken t v w q x y = (turned_column t v w ≡ turned_column q x y) × (turned_row t v w ≡ turned_row q x y)
+abbrev pub IsConsumed : Turn → ℤ → ℤ → Turn → ℤ → ℤ → Type 0
+IsConsumed t v w q x y = (turned_column t v w ≡ turned_column q x y) × (turned_row t v w ≡ turned_row q x y)
 
 placed-after : (fe fc fr se sc sr : Bool) (x y : ℤ)
-    → IsTaken (turn_of fe fc fr) (turned_column (turn_of se sc sr) x y) (turned_row (turn_of se sc sr) x y) (turn_after (turn_of fe fc fr) (turn_of se sc sr)) x
+    → IsConsumed (turn_of fe fc fr) (turned_column (turn_of se sc sr) x y) (turned_row (turn_of se sc sr) x y)
+    (turn_after (turn_of fe fc fr) (turn_of se sc sr)) x
     y
 placed-after false fc fr se sc sr x y = (counted-twice fc sc _, counted-twice fr sr _)
 placed-after true fc fr true sc sr x y = (counted-twice fc sr x, counted-twice fr sc y)
@@ -62,7 +63,7 @@ counted-back false x = refl
 counted-back true x = backwards-twice x
 
 pub placed-back : (e c r : Bool) (x y : ℤ)
-    → IsTaken (turn_of e c r) (turned_column (inverse_turn (turn_of e c r)) x y) (turned_row (inverse_turn (turn_of e c r)) x y) upright x y
+    → IsConsumed (turn_of e c r) (turned_column (inverse_turn (turn_of e c r)) x y) (turned_row (inverse_turn (turn_of e c r)) x y) upright x y
 placed-back false c r x y = (counted-back c x, counted-back r y)
 placed-back true c r x y = (counted-back c x, counted-back r y)
 

@@ -16,7 +16,7 @@ use Rattle.life_forms.specs.declared.corners.Block.{Block}
 use Rattle.life_forms.specs.declared.corners.Corner.{Corner}
 use Rattle.life_forms.specs.declared.corners.Corner.TheVariants.{Four, Eight, Sixteen}
 
--- the list, and behind it the square if it isn't blank and isn't there yet
+-- the list, and after it the square if it isn't blank and isn't there yet
 abbrev pub with_leaf : List Tree → Tree → List Tree
 with_leaf known t = if is_blank_tree t then known else with_new known t
 

@@ -396,15 +396,15 @@ fn append_leaves(text: &mut Vec<u8>, leaves: &[u64]) -> Result<(), Kind>
 }
 
 /// The text of the square of level 4 whose south-eastern quarter is this leaf, and whose other quarters are blank, after the header lines of a B/S rule.
-fn text_of_eight(alloc: Global, front: &[u8], leaf: u64) -> Result<Vec<u8>, Kind>
+fn text_of_eight(alloc: Global, prefix: &[u8], leaf: u64) -> Result<Vec<u8>, Kind>
     requires live { is_blank_tree (eight leaf) ≡ false }
     ensures text { IfOk result (λ text. (rule : Rule) (generation : ℕ) → is_life rule ≡ true
-        → front.now ≡ header_lines_text rule generation
+        → prefix.now ≡ header_lines_text rule generation
         → text.items ≡ square_text rule generation (seated (eight leaf))) }
     ensures memory { IfErr result IsMemory }
 {
-    let mut text = Vec::with_capacity(alloc, front.len() + BYTES_OF_EIGHT)?;
-    text.extend_from_slice(front)?;
+    let mut text = Vec::with_capacity(alloc, prefix.len() + BYTES_OF_EIGHT)?;
+    text.extend_from_slice(prefix)?;
     append_line(&mut text, &Line::Leaf(leaf_rows(leaf)))?;
     let root = Line::Quad {
         level: 4,
@@ -418,10 +418,10 @@ fn text_of_eight(alloc: Global, front: &[u8], leaf: u64) -> Result<Vec<u8>, Kind
 }
 
 /// The text of the square of level 5 whose south-eastern quarter is this square, and whose other quarters are blank, after the header lines of a B/S rule.
-fn text_of_sixteen(alloc: Global, front: &[u8], block: Block) -> Result<Vec<u8>, Kind>
+fn text_of_sixteen(alloc: Global, prefix: &[u8], block: Block) -> Result<Vec<u8>, Kind>
     requires live { is_blank_tree (block_tree block) ≡ false }
     ensures text { IfOk result (λ text. (rule : Rule) (generation : ℕ) → is_life rule ≡ true
-        → front.now ≡ header_lines_text rule generation
+        → prefix.now ≡ header_lines_text rule generation
         → text.items ≡ square_text rule generation (seated (block_tree block))) }
     ensures memory { IfErr result IsMemory }
 {
@@ -430,8 +430,8 @@ fn text_of_sixteen(alloc: Global, front: &[u8], block: Block) -> Result<Vec<u8>,
     let ne = numbered(&mut known, block.ne)?;
     let sw = numbered(&mut known, block.sw)?;
     let se = numbered(&mut known, block.se)?;
-    let mut text = Vec::with_capacity(alloc, front.len() + BYTES_OF_SIXTEEN)?;
-    text.extend_from_slice(front)?;
+    let mut text = Vec::with_capacity(alloc, prefix.len() + BYTES_OF_SIXTEEN)?;
+    text.extend_from_slice(prefix)?;
     append_leaves(&mut text, &known)?;
     let quarter = Line::Quad {
         level: 4,
@@ -453,24 +453,24 @@ fn text_of_sixteen(alloc: Global, front: &[u8], block: Block) -> Result<Vec<u8>,
 }
 
 /// The text of the image by a turn of a pattern with these cells from the corner on where the image begins, after the header lines of its B/S rule.
-fn text_of_corner(alloc: Global, front: &[u8], turn: Turn, corner: Corner) -> Result<Vec<u8>, Kind>
+fn text_of_corner(alloc: Global, prefix: &[u8], turn: Turn, corner: Corner) -> Result<Vec<u8>, Kind>
     requires live { is_blank_tree (corner_tree corner) ≡ false }
     ensures text { IfOk result (λ text. (rule : Rule) (generation : ℕ) → is_life rule ≡ true
-        → front.now ≡ header_lines_text rule generation
+        → prefix.now ≡ header_lines_text rule generation
         → text.items ≡ square_text rule generation (corner_root turn corner)) }
     ensures memory { IfErr result IsMemory }
 {
     match corner {
-        Corner::Four(leaf) => leaf_text(alloc, front, turned_leaf(turn, leaf)),
-        Corner::Eight(leaf) => text_of_eight(alloc, front, turned_leaf(turn, leaf)),
-        Corner::Sixteen(block) => text_of_sixteen(alloc, front, turned_block(turn, block)),
+        Corner::Four(leaf) => leaf_text(alloc, prefix, turned_leaf(turn, leaf)),
+        Corner::Eight(leaf) => text_of_eight(alloc, prefix, turned_leaf(turn, leaf)),
+        Corner::Sixteen(block) => text_of_sixteen(alloc, prefix, turned_block(turn, block)),
     }
 }
 
 /// The least of a text and of those of the two images that begin in a corner of a pattern's box, after the header lines of its B/S rule.
 pub(crate) fn lesser_text_of_corner(
     alloc: Global,
-    front: &[u8],
+    prefix: &[u8],
     corner: Corner,
     columns: bool,
     rows: bool,
@@ -478,7 +478,7 @@ pub(crate) fn lesser_text_of_corner(
 ) -> Result<Vec<u8>, Kind>
     requires live { is_blank_tree (corner_tree corner) ≡ false }
     ensures text { IfOk result (λ text. (rule : Rule) (generation : ℕ) → is_life rule ≡ true
-        → front.now ≡ header_lines_text rule generation
+        → prefix.now ≡ header_lines_text rule generation
         → IsLesserOfThree best.items
         (square_text rule generation (corner_root (turn_of false columns rows) corner))
         (square_text rule generation (corner_root (turn_of true columns rows) corner))
@@ -495,7 +495,7 @@ pub(crate) fn lesser_text_of_corner(
         columns,
         rows,
     };
-    let first = text_of_corner(alloc, front, turn, corner)?;
-    let second = text_of_corner(alloc, front, exchanged, corner)?;
+    let first = text_of_corner(alloc, prefix, turn, corner)?;
+    let second = text_of_corner(alloc, prefix, exchanged, corner)?;
     Ok(lesser_of(lesser_of(best, first), second))
 }

@@ -4,7 +4,7 @@ ghost use Rattle.std.specs.Prelude.{◌≡◌, ◌^◌, ℕ, List, true, false, 
 ghost use Rattle.life_forms.specs.Words.{MAX_LEVEL, Memory, fault_of, content, header_lines_text, is_blank_tree, IsCorner, square_text, turn_of, turned_tree, IsImageText, IsTrimmed, IsSquareBox, universe_in, IsLeastOfTwo, IsLesserOfTwo, IsLesserText, IsLowerBound, IsUpTo, AreSmall, IsTurnedText, HasLargeImage, RefusesTurning};
 
 use crate::corners::{Corner, corner_of, lesser_text_of_corner};
-use crate::lower_bounds::{above_texts, front_of, lower_bound};
+use crate::lower_bounds::{above_texts, lower_bound, prefix_of};
 use crate::order::is_up_to;
 use crate::patterns::corner_form;
 use life_base::{Bounds, Fault};
@@ -81,14 +81,14 @@ fn lesser_small_text(
     alloc: Global,
     store: &Shared,
     pattern: &Pattern,
-    front: &[u8],
+    prefix: &[u8],
     corner: Corner,
     columns: bool,
     rows: bool,
     best: Vec<u8>,
 ) -> Result<Vec<u8>, Fault>
     requires trimmed { IsTrimmed store.now pattern.now }
-    requires front { front.now ≡ header_lines_text pattern.now.rule pattern.now.generation }
+    requires prefix { prefix.now ≡ header_lines_text pattern.now.rule pattern.now.generation }
     requires corner { IsCorner (min (2 ^ 21) store.now.limit) (universe_in store.now pattern.now)
         columns rows corner }
     ensures text { IfOk result (λ text. IsLesserOfTwo MAX_LEVEL
@@ -99,7 +99,7 @@ fn lesser_small_text(
         (universe_in store.now pattern.now) columns rows) }
     ensures fault { IfErr result (RefusesTurning store.now pattern.now) }
 {
-    let text = lesser_text_of_corner(alloc, front, corner, columns, rows, best)?;
+    let text = lesser_text_of_corner(alloc, prefix, corner, columns, rows, best)?;
     Ok(text)
 }
 
@@ -108,14 +108,14 @@ fn lesser_image_text(
     alloc: Global,
     store: &Shared,
     pattern: &Pattern,
-    front: &[u8],
+    prefix: &[u8],
     found: &Option<Bounds>,
     columns: bool,
     rows: bool,
     best: Vec<u8>,
 ) -> Result<Vec<u8>, Fault>
     requires trimmed { IsTrimmed store.now pattern.now }
-    requires front { front.now ≡ header_lines_text pattern.now.rule pattern.now.generation }
+    requires prefix { prefix.now ≡ header_lines_text pattern.now.rule pattern.now.generation }
     requires bounds { MatchOption found.now
         (is_blank_tree (content store.now pattern.now.root) ≡ true)
         (IsSquareBox (content store.now pattern.now.root)) }
@@ -129,7 +129,7 @@ fn lesser_image_text(
 {
     match corner_of(store, pattern, found, columns, rows) {
         Some(corner) => lesser_small_text(
-            alloc, store, pattern, front, corner, columns, rows, best,
+            alloc, store, pattern, prefix, corner, columns, rows, best,
         ),
         None => lesser_form_text(alloc, store, pattern, found, columns, rows, best),
     }
@@ -140,13 +140,13 @@ fn image_text(
     alloc: Global,
     store: &Shared,
     pattern: &Pattern,
-    front: &[u8],
+    prefix: &[u8],
     found: &Option<Bounds>,
     columns: bool,
     rows: bool,
 ) -> Result<Vec<u8>, Fault>
     requires trimmed { IsTrimmed store.now pattern.now }
-    requires front { front.now ≡ header_lines_text pattern.now.rule pattern.now.generation }
+    requires prefix { prefix.now ≡ header_lines_text pattern.now.rule pattern.now.generation }
     requires bounds { MatchOption found.now
         (is_blank_tree (content store.now pattern.now.root) ≡ true)
         (IsSquareBox (content store.now pattern.now.root)) }
@@ -157,7 +157,7 @@ fn image_text(
     ensures fault { IfErr result (RefusesTurning store.now pattern.now) }
 {
     let above = above_texts(alloc)?;
-    lesser_image_text(alloc, store, pattern, front, found, columns, rows, above)
+    lesser_image_text(alloc, store, pattern, prefix, found, columns, rows, above)
 }
 
 /// The same as `lesser_image_text`, where the two texts may have a lower bound: if the text is no greater than that, no form is made.
@@ -165,7 +165,7 @@ fn bounded_image_text(
     alloc: Global,
     store: &Shared,
     pattern: &Pattern,
-    front: &[u8],
+    prefix: &[u8],
     found: &Option<Bounds>,
     columns: bool,
     rows: bool,
@@ -173,7 +173,7 @@ fn bounded_image_text(
     best: Vec<u8>,
 ) -> Result<Vec<u8>, Fault>
     requires trimmed { IsTrimmed store.now pattern.now }
-    requires front { front.now ≡ header_lines_text pattern.now.rule pattern.now.generation }
+    requires prefix { prefix.now ≡ header_lines_text pattern.now.rule pattern.now.generation }
     requires bounds { MatchOption found.now
         (is_blank_tree (content store.now pattern.now.root) ≡ true)
         (IsSquareBox (content store.now pattern.now.root)) }
@@ -191,7 +191,7 @@ fn bounded_image_text(
             return Ok(best);
         }
     }
-    lesser_image_text(alloc, store, pattern, front, found, columns, rows, best)
+    lesser_image_text(alloc, store, pattern, prefix, found, columns, rows, best)
 }
 
 /// The least text of the eight images, moved, where the first two are those with columns and rows counted from these sides, and the other texts may have
@@ -200,7 +200,7 @@ fn least_text_from(
     alloc: Global,
     store: &Shared,
     pattern: &Pattern,
-    front: &[u8],
+    prefix: &[u8],
     found: &Option<Bounds>,
     columns: bool,
     rows: bool,
@@ -209,7 +209,7 @@ fn least_text_from(
     fourth: &Option<Vec<u8>>,
 ) -> Result<Vec<u8>, Fault>
     requires trimmed { IsTrimmed store.now pattern.now }
-    requires front { front.now ≡ header_lines_text pattern.now.rule pattern.now.generation }
+    requires prefix { prefix.now ≡ header_lines_text pattern.now.rule pattern.now.generation }
     requires bounds { MatchOption found.now
         (is_blank_tree (content store.now pattern.now.root) ≡ true)
         (IsSquareBox (content store.now pattern.now.root)) }
@@ -227,15 +227,15 @@ fn least_text_from(
     ensures small { OnOk result (¬ HasLargeImage store.now pattern.now) }
     ensures fault { IfErr result (RefusesTurning store.now pattern.now) }
 {
-    let least = image_text(alloc, store, pattern, front, found, columns, rows)?;
+    let least = image_text(alloc, store, pattern, prefix, found, columns, rows)?;
     let two = bounded_image_text(
-        alloc, store, pattern, front, found, !columns, rows, second, least,
+        alloc, store, pattern, prefix, found, !columns, rows, second, least,
     )?;
     let three = bounded_image_text(
-        alloc, store, pattern, front, found, !columns, !rows, third, two,
+        alloc, store, pattern, prefix, found, !columns, !rows, third, two,
     )?;
     bounded_image_text(
-        alloc, store, pattern, front, found, columns, !rows, fourth, three,
+        alloc, store, pattern, prefix, found, columns, !rows, fourth, three,
     )
 }
 
@@ -270,27 +270,27 @@ pub fn turned_text(alloc: Global, store: &Shared, pattern: &Pattern) -> Result<V
     ensures fault { IfErr result (RefusesTurning store.now pattern.now) }
 {
     let found = bounds(alloc, store, pattern.root)?;
-    let front = front_of(alloc, pattern)?;
-    let nw = lower_bound(alloc, store, pattern, &front, &found, false, false);
-    let ne = lower_bound(alloc, store, pattern, &front, &found, true, false);
-    let sw = lower_bound(alloc, store, pattern, &front, &found, false, true);
-    let se = lower_bound(alloc, store, pattern, &front, &found, true, true);
+    let prefix = prefix_of(alloc, pattern)?;
+    let nw = lower_bound(alloc, store, pattern, &prefix, &found, false, false);
+    let ne = lower_bound(alloc, store, pattern, &prefix, &found, true, false);
+    let sw = lower_bound(alloc, store, pattern, &prefix, &found, false, true);
+    let se = lower_bound(alloc, store, pattern, &prefix, &found, true, true);
     let east_of_north = is_less(&ne, &nw);
     let east_of_south = is_less(&se, &sw);
     let north = if east_of_north { &ne } else { &nw };
     let south = if east_of_south { &se } else { &sw };
     match (is_less(south, north), east_of_north, east_of_south) {
         (false, false, _) => least_text_from(
-            alloc, store, pattern, &front, &found, false, false, &ne, &se, &sw,
+            alloc, store, pattern, &prefix, &found, false, false, &ne, &se, &sw,
         ),
         (false, true, _) => least_text_from(
-            alloc, store, pattern, &front, &found, true, false, &nw, &sw, &se,
+            alloc, store, pattern, &prefix, &found, true, false, &nw, &sw, &se,
         ),
         (true, _, false) => least_text_from(
-            alloc, store, pattern, &front, &found, false, true, &se, &ne, &nw,
+            alloc, store, pattern, &prefix, &found, false, true, &se, &ne, &nw,
         ),
         (true, _, true) => least_text_from(
-            alloc, store, pattern, &front, &found, true, true, &sw, &nw, &ne,
+            alloc, store, pattern, &prefix, &found, true, true, &sw, &nw, &ne,
         ),
     }
 }

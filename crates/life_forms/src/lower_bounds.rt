@@ -9,7 +9,7 @@ use crate::patterns::most_squares;
 use life_base::{Bounds, Kind, Rule};
 use life_canon::Pattern;
 use life_canon::laws::squares_are_centred;
-use life_mc::{Line, append_front, append_line};
+use life_mc::{Line, append_line, append_prefix};
 use life_quad::{Shared, Turn};
 use life_slide::leaf_at;
 use std::alloc::Global;
@@ -22,7 +22,7 @@ pub(crate) const SQUARES_OF_LEVEL_13: u64 = 1_463_653;
 const FIRST_BYTES: usize = 1 << 10;
 
 /// Header lines have capacity for so many bytes at once: those of most rules need no more.
-const FRONT_BYTES: usize = 1 << 6;
+const PREFIX_BYTES: usize = 1 << 6;
 
 /// `append_line` needs capacity for so many bytes, whatever line it writes.
 const LEAF_BYTES: usize = 105;
@@ -124,24 +124,24 @@ pub(crate) fn lesser_of(first: Vec<u8>, second: Vec<u8>) -> Vec<u8>
 }
 
 /// The header lines of a pattern's text.
-pub(crate) fn front_of(alloc: Global, pattern: &Pattern) -> Result<Vec<u8>, Kind>
+pub(crate) fn prefix_of(alloc: Global, pattern: &Pattern) -> Result<Vec<u8>, Kind>
     ensures text { IfOk result (λ text. text.items
         ≡ header_lines_text pattern.now.rule pattern.now.generation) }
     ensures memory { IfErr result IsMemory }
 {
-    let mut text = Vec::with_capacity(alloc, FRONT_BYTES)?;
-    append_front(&mut text, &pattern.rule, pattern.generation)?;
+    let mut text = Vec::with_capacity(alloc, PREFIX_BYTES)?;
+    append_prefix(&mut text, &pattern.rule, pattern.generation)?;
     Ok(text)
 }
 
 /// The header lines, and the line of a leaf.
-pub(crate) fn leaf_text(alloc: Global, front: &[u8], leaf: u64) -> Result<Vec<u8>, Kind>
+pub(crate) fn leaf_text(alloc: Global, prefix: &[u8], leaf: u64) -> Result<Vec<u8>, Kind>
     ensures text { IfOk result (λ text. text.items
-        ≡ front.now ++ node_text (Leaf (rows_of (eight leaf)))) }
+        ≡ prefix.now ++ node_text (Leaf (rows_of (eight leaf)))) }
     ensures memory { IfErr result IsMemory }
 {
-    let mut text = Vec::with_capacity(alloc, front.len() + LEAF_BYTES)?;
-    text.extend_from_slice(front)?;
+    let mut text = Vec::with_capacity(alloc, prefix.len() + LEAF_BYTES)?;
+    text.extend_from_slice(prefix)?;
     append_line(&mut text, &Line::Leaf(leaf_rows(leaf)))?;
     Ok(text)
 }
@@ -149,18 +149,18 @@ pub(crate) fn leaf_text(alloc: Global, front: &[u8], leaf: u64) -> Result<Vec<u8
 /// The lesser of the texts of a leaf, turned by two turns, after the header lines of a B/S rule.
 fn lesser_leaf_text(
     alloc: Global,
-    front: &[u8],
+    prefix: &[u8],
     leaf: u64,
     columns: bool,
     rows: bool,
 ) -> Result<Vec<u8>, Kind>
     requires live { is_blank_tree (eight leaf) ≡ false }
     ensures first { IfOk result (λ text. (rule : Rule) (generation : ℕ) → is_life rule ≡ true
-        → front.now ≡ header_lines_text rule generation
+        → prefix.now ≡ header_lines_text rule generation
         → IsUpTo text.items (square_text rule generation
         (turned_tree (turn_of false columns rows) (eight leaf)))) }
     ensures second { IfOk result (λ text. (rule : Rule) (generation : ℕ) → is_life rule ≡ true
-        → front.now ≡ header_lines_text rule generation
+        → prefix.now ≡ header_lines_text rule generation
         → IsUpTo text.items (square_text rule generation
         (turned_tree (turn_of true columns rows) (eight leaf)))) }
 {
@@ -174,25 +174,25 @@ fn lesser_leaf_text(
         columns,
         rows,
     };
-    let first = leaf_text(alloc, front, turned_leaf(turn, leaf))?;
-    let second = leaf_text(alloc, front, turned_leaf(exchanged, leaf))?;
+    let first = leaf_text(alloc, prefix, turned_leaf(turn, leaf))?;
+    let second = leaf_text(alloc, prefix, turned_leaf(exchanged, leaf))?;
     Ok(lesser_of(first, second))
 }
 
 /// A text that those of two images of a pattern, moved, are no less than, if one is found: with columns and rows counted from the other side or not, and with
-/// both exchanged. It is that of the first leaf of the one or the other image, after the header lines `front`, which all have. Where there is one, neither
+/// both exchanged. It is that of the first leaf of the one or the other image, after the header lines `prefix`, which all have. Where there is one, neither
 /// image has more squares than a form may have.
 pub(crate) fn lower_bound(
     alloc: Global,
     store: &Shared,
     pattern: &Pattern,
-    front: &[u8],
+    prefix: &[u8],
     found: &Option<Bounds>,
     columns: bool,
     rows: bool,
 ) -> Option<Vec<u8>>
     requires trimmed { IsTrimmed store.now pattern.now }
-    requires front { front.now ≡ header_lines_text pattern.now.rule pattern.now.generation }
+    requires prefix { prefix.now ≡ header_lines_text pattern.now.rule pattern.now.generation }
     requires bounds { MatchOption found.now
         (is_blank_tree (content store.now pattern.now.root) ≡ true)
         (IsSquareBox (content store.now pattern.now.root)) }
@@ -202,7 +202,7 @@ pub(crate) fn lower_bound(
     let Some(found) = found else {
         return None;
     };
-    lower_bound_in(alloc, store, pattern, front, found, columns, rows)
+    lower_bound_in(alloc, store, pattern, prefix, found, columns, rows)
 }
 
 /// The same of a pattern with this box.
@@ -210,13 +210,13 @@ fn lower_bound_in(
     alloc: Global,
     store: &Shared,
     pattern: &Pattern,
-    front: &[u8],
+    prefix: &[u8],
     found: &Bounds,
     columns: bool,
     rows: bool,
 ) -> Option<Vec<u8>>
     requires trimmed { IsTrimmed store.now pattern.now }
-    requires front { front.now ≡ header_lines_text pattern.now.rule pattern.now.generation }
+    requires prefix { prefix.now ≡ header_lines_text pattern.now.rule pattern.now.generation }
     requires bounds { IsSquareBox (content store.now pattern.now.root) found.now }
     ensures { IfSome result (λ text. IsLowerBound MAX_LEVEL (min (2 ^ 21) store.now.limit)
         (universe_in store.now pattern.now) columns rows text.items) }
@@ -229,7 +229,7 @@ fn lower_bound_in(
         return None;
     }
     let leaf = corner_leaf(store, pattern, found, columns, rows)?;
-    match lesser_leaf_text(alloc, front, leaf, columns, rows) {
+    match lesser_leaf_text(alloc, prefix, leaf, columns, rows) {
         Ok(text) => Some(text),
         Err(_) => None,
     }

@@ -35,7 +35,7 @@ pub(crate) fn most_squares(store: &Shared) -> u64
 /// Where a store that is bounded by memory alone is full, memory was refused.
 pub(crate) fn without_limit(kind: Kind) -> Kind
     ensures kind { (result ≡ kind) ⊎ (result ≡ Memory) }
-    ensures room { result ≢ Kind.Full }
+    ensures space { result ≢ Kind.Full }
 {
     match kind {
         Kind::Full => Kind::Memory,

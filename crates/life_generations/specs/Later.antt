@@ -25,7 +25,7 @@ pub record IsLaterBy (n : ℕ) (before later : Universe) : Type 0 where
   pub generation : later.generation ≡ before.generation + n
   pub cells : (x y : ℤ) → IsStateAfter n before.rule before.cell x y (later.cell x y)
 
--- why a pattern under this rule isn't taken n generations further without a table, if it isn't
+-- why a pattern under this rule isn't advanced by n generations without a table, if it isn't
 abbrev pub LaterRuleRefusal : ℕ → Rule → Universe → Option Fault → Type 0
 LaterRuleRefusal n (Named name) u refusal = IfElse (n ≡ 0) (refusal ≡ None) (refusal ≡ Some (fault_of kinds.NeedsTable))
 LaterRuleRefusal n (Life rule) u refusal =
@@ -35,6 +35,6 @@ LaterRuleRefusal n (Life rule) u refusal =
 abbrev pub LaterRefusal : ℕ → Universe → Option Fault → Type 0
 LaterRefusal n u refusal = LaterRuleRefusal n u.rule u refusal
 
--- the bytes are a file whose pattern can be taken n generations further under its B/S rule, and the text is the canonical text of that generation
+-- the bytes are a file whose pattern can be advanced by n generations under its B/S rule, and the text is the canonical text of that generation
 abbrev pub IsTextLater : ℕ → List ℕ → List ℕ → Type 0
 IsTextLater n bytes text = (u : Universe) × Reads MAX_LEVEL bytes u × LaterRefusal n u None × IsTextWith MAX_LEVEL (IsLaterBy n u) text

@@ -41,11 +41,11 @@ course-then rule m n k t u v sum first second =
     }
 
 -- one leap further
-pub next-course : (rule : OuterTotalistic) (generations left taken : ℕ) (t u v : Tree) → left ≤ generations → taken ≤ left
-    → IsCourse rule (generations - left) t u → 3 ≤ depth v → ((x y : ℤ) → tree_cell v x y ≡ after rule taken (tree_cell u) x y)
-    → ¬ (LeavesWithin rule taken (tree_cell u)) → IsCourse rule (generations - (left - taken)) t v
-next-course rule generations left taken t u v most few first low later stays =
-    course-then rule (generations - left) taken (generations - (left - taken)) t u v (omega (arith, most, few)) first
+pub next-course : (rule : OuterTotalistic) (generations left consumed : ℕ) (t u v : Tree) → left ≤ generations → consumed ≤ left
+    → IsCourse rule (generations - left) t u → 3 ≤ depth v → ((x y : ℤ) → tree_cell v x y ≡ after rule consumed (tree_cell u) x y)
+    → ¬ (LeavesWithin rule consumed (tree_cell u)) → IsCourse rule (generations - (left - consumed)) t v
+next-course rule generations left consumed t u v most few first low later stays =
+    course-then rule (generations - left) consumed (generations - (left - consumed)) t u v (omega (arith, most, few)) first
     (record { low = low; later = later; stays = stays })
 
 -- one stage further

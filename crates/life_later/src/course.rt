@@ -79,7 +79,7 @@ fn leap<S: SharedSquares>(
     requires states { (x y : ℤ) → tree_cell (S.content squares.old root) x y < 2 }
     requires some { 1 ≤ left }
     requires inside { IsBoundingBoxOfTree (S.content squares.old root) bounding_box.now }
-    ensures taken { IfOk result (λ r. (1 ≤ r.0) × (r.0 ≤ left)) }
+    ensures consumed { IfOk result (λ r. (1 ≤ r.0) × (r.0 ≤ left)) }
     ensures remembers { IfOk result
         (λ _. RemembersLeaps (S.knows squares.new)
         (S.content squares.new) rule.now FASTEST (value_of_id memory.new)) }
@@ -122,7 +122,7 @@ fn leap_trimmed<S: SharedSquares>(
     requires states { (x y : ℤ) → tree_cell (S.content squares.old root) x y < 2 }
     requires some { 1 ≤ left }
     requires inside { IsBoundingBoxOfTree (S.content squares.old root) bounding_box.now }
-    ensures taken { IfOk result (λ r. (1 ≤ r.0) × (r.0 ≤ left)) }
+    ensures consumed { IfOk result (λ r. (1 ≤ r.0) × (r.0 ≤ left)) }
     ensures remembers { IfOk result
         (λ _. RemembersLeaps (S.knows squares.new)
         (S.content squares.new) rule.now FASTEST (value_of_id memory.new)) }
@@ -138,9 +138,9 @@ fn leap_trimmed<S: SharedSquares>(
 {
     trimming_keeps_cells();
     trimming_stops();
-    let (taken, next) = leap(alloc, squares, memory, rule, root, bounding_box, left)?;
+    let (consumed, next) = leap(alloc, squares, memory, rule, root, bounding_box, left)?;
     let trimmed = trim(squares, next, LEAST_LEVEL)?;
-    Ok((taken, trimmed))
+    Ok((consumed, trimmed))
 }
 
 /// The next leap of a course, and the square after it without blank outer parts. A square without cells stays so for all generations that are left.
@@ -158,7 +158,7 @@ pub(crate) fn next_leap<S: SharedSquares>(
     requires low { 3 ≤ depth (S.content squares.old root) }
     requires states { (x y : ℤ) → tree_cell (S.content squares.old root) x y < 2 }
     requires some { 1 ≤ left }
-    ensures taken { IfOk result (λ r. (1 ≤ r.0) × (r.0 ≤ left)) }
+    ensures consumed { IfOk result (λ r. (1 ≤ r.0) × (r.0 ≤ left)) }
     ensures remembers { IfOk result
         (λ _. RemembersLeaps (S.knows squares.new)
         (S.content squares.new) rule.now FASTEST (value_of_id memory.new)) }
@@ -210,8 +210,8 @@ pub fn later<S: SharedSquares>(
     let mut left = generations;
     let mut now = root;
     while left > 0 {
-        let (taken, next) = next_leap(alloc, squares, &mut memory, rule, now, left)?;
-        left -= taken;
+        let (consumed, next) = next_leap(alloc, squares, &mut memory, rule, now, left)?;
+        left -= consumed;
         now = next;
     }
     Ok(now)

@@ -59,8 +59,8 @@ fn stage(
     let mut left = generations;
     let mut now = root;
     while left > 0 {
-        let (taken, next) = next_leap(alloc, squares, &mut memory, rule, now, left)?;
-        left -= taken;
+        let (consumed, next) = next_leap(alloc, squares, &mut memory, rule, now, left)?;
+        left -= consumed;
         now = next;
         if squares.len() > most {
             return Ok((left, now));

@@ -30,10 +30,10 @@ both-test cells P Q R false q all first second h k =
     }
 
 -- two boxes side by side, and one above the other
-pub beside-tests : (cells : ℤ → ℤ → ℕ) (west middle north east south : ℤ) (p q : Bool) → west ≤ℤ middle → middle ≤ℤ east
+pub adjacent-tests : (cells : ℤ → ℤ → ℕ) (west middle north east south : ℤ) (p q : Bool) → west ≤ℤ middle → middle ≤ℤ east
     → TestsBlank cells (IsInBox west north middle south) p → TestsBlank cells (IsInBox middle north east south) q
     → TestsBlank cells (IsInBox west north east south) (p && q)
-beside-tests cells west middle north east south p q a b =
+adjacent-tests cells west middle north east south p q a b =
     both-test cells _ _ _ p q
     (λ x y h k r.
     by_lt_z x middle (λ l. h (record { west_of = r.west_of; east_of = l; north_of = r.north_of; south_of = r.south_of }))
@@ -171,7 +171,7 @@ module _ (cells : ℤ → ℤ → ℕ) (k : ℕ) (x y : ℤ) (t nw ne sw se : Tr
 
   pub north-half : TestsBlank cells (IsInBox x y (step_ahead x (2 ^ (k + 1))) (step_ahead y (2 ^ k))) (is_blank_tree nw && is_blank_tree ne)
   north-half =
-      beside-tests cells x (step_ahead x (2 ^ k)) y _ _ _ _ (near x) (further x) (square-tests cells nw k x y parts.0 level p.0)
+      adjacent-tests cells x (step_ahead x (2 ^ k)) y _ _ _ _ (near x) (further x) (square-tests cells nw k x y parts.0 level p.0)
       (subst (λ e. TestsBlank cells (IsInBox (step_ahead x (2 ^ k)) y e (step_ahead y (2 ^ k))) (is_blank_tree ne)) (far x)
       (square-tests cells ne k (step_ahead x (2 ^ k)) y parts.1 (parts.4 ∙ level) p.1))
 
@@ -179,7 +179,7 @@ module _ (cells : ℤ → ℤ → ℕ) (k : ℕ) (x y : ℤ) (t nw ne sw se : Tr
       (is_blank_tree sw && is_blank_tree se)
   south-half =
       subst (λ s. TestsBlank cells (IsInBox x (step_ahead y (2 ^ k)) (step_ahead x (2 ^ (k + 1))) s) (is_blank_tree sw && is_blank_tree se)) (far y)
-      (beside-tests cells x (step_ahead x (2 ^ k)) (step_ahead y (2 ^ k)) _ _ _ _ (near x) (further x)
+      (adjacent-tests cells x (step_ahead x (2 ^ k)) (step_ahead y (2 ^ k)) _ _ _ _ (near x) (further x)
       (square-tests cells sw k x (step_ahead y (2 ^ k)) parts.2 (parts.5 ∙ level) p.2)
       (subst (λ e. TestsBlank cells (IsInBox (step_ahead x (2 ^ k)) (step_ahead y (2 ^ k)) e (step_ahead (step_ahead y (2 ^ k)) (2 ^ k)))
       (is_blank_tree se)) (far x)
@@ -207,8 +207,8 @@ pub row-tests : (cells : ℤ → ℤ → ℕ) (x north south : ℤ) (side : ℕ)
     → TestsBlank cells (IsInBox (step_ahead (step_ahead x side) side) north (step_ahead (step_ahead (step_ahead x side) side) side) south) r
     → TestsBlank cells (IsInBox x north (step_ahead (step_ahead (step_ahead x side) side) side) south) (p && (q && r))
 row-tests cells x north south side p q r a b c =
-    beside-tests cells x (step_ahead x side) north _ south p (q && r) (omega (arith, ints)) (omega (arith, ints)) a
-    (beside-tests cells (step_ahead x side) (step_ahead (step_ahead x side) side) north _ south q r (omega (arith, ints)) (omega (arith, ints)) b c)
+    adjacent-tests cells x (step_ahead x side) north _ south p (q && r) (omega (arith, ints)) (omega (arith, ints)) a
+    (adjacent-tests cells (step_ahead x side) (step_ahead (step_ahead x side) side) north _ south q r (omega (arith, ints)) (omega (arith, ints)) b c)
 
 pub column-tests : (cells : ℤ → ℤ → ℕ) (west y east : ℤ) (side : ℕ) (p q r : Bool) → TestsBlank cells (IsInBox west y east (step_ahead y side)) p
     → TestsBlank cells (IsInBox west (step_ahead y side) east (step_ahead (step_ahead y side) side)) q

@@ -51,9 +51,9 @@ no_other (a ∷ []) h = absurd (no (a == 35) (left_of_and _ _ h))
     no true e = cc
     no false e = cc
 no_other (a ∷ b ∷ rest) h =
-    let front : ((a == 35) && ((b == 71) && true)) ≡ true = left_of_and _ _ h in
-    let hash : a ≡ 35 = eqb-true a 35 (left_of_and _ _ front) in
-    let letter : b ≡ 71 = eqb-true b 71 (left_of_and _ _ (right_of_and (a == 35) _ front)) in (
+    let prefix : ((a == 35) && ((b == 71) && true)) ≡ true = left_of_and _ _ h in
+    let hash : a ≡ 35 = eqb-true a 35 (left_of_and _ _ prefix) in
+    let letter : b ≡ 71 = eqb-true b 71 (left_of_and _ _ (right_of_and (a == 35) _ prefix)) in (
       ap (λ n. is_whitespace n && is_blank (b ∷ rest)) hash,
       ap (λ n. ((n == 35) && ((b == 82) && true)) && is_blank (take 1 rest)) hash ∙ ap (λ n. ((n == 82) && true) && is_blank (take 1 rest)) letter,
     )
@@ -88,11 +88,11 @@ module _ (top : ℕ) (before : List (List ℕ)) (line : List ℕ) where
       (is_letter_command 71 line) late n.0 n.1 g h in
       number_fits (is_digit_text (trim (drop 2 line))) (nat_le (value_of (trim (drop 2 line))) (2 ^ 64 - 1)) (value_of (trim (drop 2 line))) refl c
 
-behind : (top : ℕ) (header : List ℕ) (front : List (List ℕ)) (line : List ℕ) → broken_rule top (header ∷ front) line ≡ None
-    → broken_rule_after top (header ∷ front) line
+behind : (top : ℕ) (header : List ℕ) (prefix : List (List ℕ)) (line : List ℕ) → broken_rule top (header ∷ prefix) line ≡ None
+    → broken_rule_after top (header ∷ prefix) line
     ≡ None
 unfolding broken_rule
-behind top header front line h = passed (is_too_long line) LineTooLong _ h
+behind top header prefix line h = passed (is_too_long line) LineTooLong _ h
 
 generation_said : (line : List ℕ) (n : ℕ) → generation_on line ≡ Some n → (is_letter_command 71 line ≡ true → value_of (trim (drop 2 line)) < 2 ^ 64)
     → n < 2 ^ 64

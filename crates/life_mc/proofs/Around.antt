@@ -1,4 +1,4 @@
--- Lines and their parts: what stands at the front, between whitespace, and word by word.
+-- Lines and their parts: what stands at the beginning, between whitespace, and word by word.
 use Rattle.std.proofs.Common.{◌≡◌, ℕ, List, [], ◌∷◌, ◌++◌, length, take, drop, Bool, true, false, cond, ◌&&◌, refl, ap, sym, ◌∙◌, true≢false, not, arith, codes, slice_index, None, take-append-drop, append-nil}
 use mathlib.Core.Bool.{and-false}
 use Rattle.std.specs.List.{list_all}
@@ -13,19 +13,19 @@ use Rattle.life_mc.specs.Grammar.{Begins, IsCommand, Separates}
 use Rattle.life_mc.specs.Reading.{is_letter_command, is_leaf_byte, square_on, square_of_text}
 use Rattle.life_base.proofs.WordEnds.{trimmed_words}
 use Rattle.life_base.proofs.Basics.{right_of_and, left_of_and}
-use Rattle.life_base.proofs.Texts.{blank_front, step_to, blank_words, blank_no_words, take_blank}
+use Rattle.life_base.proofs.Texts.{blank_prefix, step_to, blank_words, blank_no_words, take_blank}
 
--- ---- at the front
+-- ---- at the beginning
 
-pub begins : (front line : List ℕ) → begins_with line front ≡ true → Begins front line
-begins front line h = (
-  drop (length front) line,
-  sym (take-append-drop (length front) line)
-      ∙ ap (λ (t : List ℕ). t ++ drop (length front) line) ((bytes_eq-Decides (take (length front) line) front).0 h),
+pub begins : (prefix line : List ℕ) → begins_with line prefix ≡ true → Begins prefix line
+begins prefix line h = (
+  drop (length prefix) line,
+  sym (take-append-drop (length prefix) line)
+      ∙ ap (λ (t : List ℕ). t ++ drop (length prefix) line) ((bytes_eq-Decides (take (length prefix) line) prefix).0 h),
 )
 
-pub begun : (front line : List ℕ) → Begins front line → begins_with line front ≡ true
-begun front line b = (bytes_eq-Decides (take (length front) line) front).1 (ap (take (length front)) b.1 ∙ take-append_seam front b.0)
+pub begun : (prefix line : List ℕ) → Begins prefix line → begins_with line prefix ≡ true
+begun prefix line b = (bytes_eq-Decides (take (length prefix) line) prefix).1 (ap (take (length prefix)) b.1 ∙ take-append_seam prefix b.0)
 
 pub commands : (letter : ℕ) (line : List ℕ) → is_letter_command letter line ≡ true → IsCommand (35 ∷ letter ∷ []) (drop 2 line) line
 commands letter line h = (
@@ -53,7 +53,7 @@ end_split (b ∷ text) = by (is_blank (b ∷ text)) refl (end_split text)
     by false e s = (s.0, ap (λ (t : List ℕ). b ∷ t) s.1, s.2)
 
 pub blank_trimmed : (line : List ℕ) → is_blank line ≡ true → trim line ≡ []
-blank_trimmed line h = ap trim (sym (append-nil line)) ∙ ap trim_end (blank_front line [] h)
+blank_trimmed line h = ap trim (sym (append-nil line)) ∙ ap trim_end (blank_prefix line [] h)
 
 -- ---- words
 

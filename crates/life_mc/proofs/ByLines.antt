@@ -18,10 +18,10 @@ module _ (top : ℕ) where
   header_line zero h = refl
   header_line (suc k) h = absurd (omega arith)
 
-  front : (lines : List (List ℕ)) → UnbrokenBelow (AcceptsMacrocell top) (broken_rule top) missing_macrocell_part lines (length lines)
+  prefix : (lines : List (List ℕ)) → UnbrokenBelow (AcceptsMacrocell top) (broken_rule top) missing_macrocell_part lines (length lines)
       → Prefix (AcceptsMacrocell top) lines
-  front [] u = (true ∷ [], accepted (codes "[M2]" ∷ []) (omega arith) header_line)
-  front (line ∷ lines) u = ([], subst (AcceptsMacrocell top) (sym (append-nil (line ∷ lines))) (accepted (line ∷ lines) (omega arith) u))
+  prefix [] u = (true ∷ [], accepted (codes "[M2]" ∷ []) (omega arith) header_line)
+  prefix (line ∷ lines) u = ([], subst (AcceptsMacrocell top) (sym (append-nil (line ∷ lines))) (accepted (line ∷ lines) (omega arith) u))
 
   pub by_lines : IsByLines (AcceptsMacrocell top) (broken_rule top) missing_macrocell_part
-  by_lines = record { sound = λ lines g. g.1.unbroken; complete = front }
+  by_lines = record { sound = λ lines g. g.1.unbroken; complete = prefix }

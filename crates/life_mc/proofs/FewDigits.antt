@@ -1,4 +1,4 @@
--- Numbers of few digits in front of a text.
+-- Numbers of few digits at the beginning of a text.
 use Rattle.std.proofs.Common.{◌≡◌, ℕ, zero, suc, ◌+◌, ◌-◌, ◌*◌, ◌%◌, ◌^◌, ◌<◌, ◌≤◌, true, false, ◌&&◌, List, [], ◌∷◌, take, drop, get_or, length, length-drop, refl, ap, sym, ◌∙◌, add-one, arith, drop-drop, get_or-drop}
 use Rattle.std.specs.Char.{is_ascii_digit, digit_value}
 use Rattle.std.specs.List.{list_all}
@@ -38,9 +38,9 @@ pub one_more : (text : List ℕ) (i n : ℕ) → i < length text → is_ascii_di
     → n * 10 + (get_or text i 0 - 48) ≡ value_of (take (i + 1) text)
 one_more text i n h d e = omega (arith, digits_value_more 10 text i h, digit_is (get_or text i 0) d, e)
 
--- ---- behind a place
+-- ---- after a place
 
--- the byte at a place behind another
+-- the byte at a place after another
 at_place : (text : List ℕ) (from i : ℕ) → from ≤ i → get_or (drop from text) (i - from) 0 ≡ get_or text i 0
 at_place text from i h =
     let e : from + (i - from) ≡ i = omega (arith, h) in
@@ -82,15 +82,15 @@ goes_on b rest h n = rw (h, n) refl
 no_blank : (b : ℕ) (rest : List ℕ) → is_whitespace b ≡ false → is_blank (take 1 (b ∷ rest)) ≡ false
 no_blank b rest h = rw h refl
 
--- digits in front, behind which no word goes on, are a word
-pub word_in_front : (n : ℕ) (text : List ℕ) → 0 < n → n ≤ length text → list_all is_ascii_digit (take n text) ≡ true → is_blank (take 1 (drop n text)) ≡ true
+-- digits at the beginning, after which no word goes on, are a word
+pub word_in_prefix : (n : ℕ) (text : List ℕ) → 0 < n → n ≤ length text → list_all is_ascii_digit (take n text) ≡ true → is_blank (take 1 (drop n text)) ≡ true
     → words_of text ≡ take n text ∷ words_of (drop n text)
-word_in_front zero text h l d e = absurd (omega (arith, h))
-word_in_front (suc n) [] h l d e = absurd (omega (arith, l))
-word_in_front (suc zero) (b ∷ text) h l d e = rw (digit_no_space b (and_parts _ _ d).0, e) refl
-word_in_front (suc (suc n)) (b ∷ []) h l d e = absurd (omega (arith, l))
-word_in_front (suc (suc n)) (b ∷ a ∷ text) h l d e =
-    let ih = word_in_front (suc n) (a ∷ text) (omega arith) (omega (arith, l)) (and_parts _ _ d).1 e in
+word_in_prefix zero text h l d e = absurd (omega (arith, h))
+word_in_prefix (suc n) [] h l d e = absurd (omega (arith, l))
+word_in_prefix (suc zero) (b ∷ text) h l d e = rw (digit_no_space b (and_parts _ _ d).0, e) refl
+word_in_prefix (suc (suc n)) (b ∷ []) h l d e = absurd (omega (arith, l))
+word_in_prefix (suc (suc n)) (b ∷ a ∷ text) h l d e =
+    let ih = word_in_prefix (suc n) (a ∷ text) (omega arith) (omega (arith, l)) (and_parts _ _ d).1 e in
     goes_on b (a ∷ text) (digit_no_space b (and_parts _ _ d).0) (no_blank a text (digit_no_space a (and_parts _ _ (and_parts _ _ d).1).0))
     ∙ ap (onto_first b) ih
 
@@ -111,7 +111,7 @@ some_digits zero text h l d = absurd (omega (arith, h))
 some_digits (suc n) [] h l d = absurd (omega (arith, l))
 some_digits (suc n) (b ∷ text) h l d = d
 
--- digits between two places are a word, where a space is behind them
+-- digits between two places are a word, where a space is after them
 pub spaced_word : (text : List ℕ) (from end : ℕ) → from < end → end < length text → list_all is_ascii_digit (take (end - from) (drop from text)) ≡ true
     → get_or text end 0 ≡ 32 → words_of (drop from text) ≡ take (end - from) (drop from text) ∷ words_of (drop (end + 1) text)
 spaced_word text from end h l d s =
@@ -119,18 +119,18 @@ spaced_word text from end h l d s =
     let word = take (end - from) rest in
     let left : drop (end - from) rest ≡ get_or text end 0 ∷ drop (end + 1) text = left_at text from end (omega (arith, h)) ∙ drop_more text end 0 l in
     let space : is_whitespace (get_or text end 0) ≡ true = rw s refl in
-    word_in_front (end - from) rest (omega (arith, h)) (omega (arith, h, l, length-drop from text)) d
+    word_in_prefix (end - from) rest (omega (arith, h)) (omega (arith, h, l, length-drop from text)) d
     (ap (λ (r : List ℕ). is_blank (take 1 r)) left ∙ blank_first (get_or text end 0) (drop (end + 1) text) space)
     ∙ ap (λ (words : List (List ℕ)). word ∷ words) (ap words_of left ∙ passed (get_or text end 0) (drop (end + 1) text) space)
 
--- and where nothing is behind them
+-- and where nothing is after them
 pub last_word : (text : List ℕ) (from end : ℕ) → from < end → end ≡ length text → list_all is_ascii_digit (take (end - from) (drop from text)) ≡ true
     → words_of (drop from text) ≡ take (end - from) (drop from text) ∷ []
 last_word text from end h l d =
     let rest = drop from text in
     let word = take (end - from) rest in
     let none : drop (end - from) rest ≡ [] = left_at text from end (omega (arith, h)) ∙ ap (λ n. drop n text) l ∙ drop-length text in
-    word_in_front (end - from) rest (omega (arith, h)) (omega (arith, h, l, length-drop from text)) d (ap (λ (r : List ℕ). is_blank (take 1 r)) none)
+    word_in_prefix (end - from) rest (omega (arith, h)) (omega (arith, h, l, length-drop from text)) d (ap (λ (r : List ℕ). is_blank (take 1 r)) none)
     ∙ ap (λ (r : List ℕ). word ∷ words_of r) none
 
 pub digit_text_between : (text : List ℕ) (from end : ℕ) → from < end → end ≤ length text → list_all is_ascii_digit (take (end - from) (drop from text)) ≡ true
@@ -172,7 +172,7 @@ digit_next text from count number digit held within is value =
     let next : from + count + 1 ≡ from + (count + 1) = omega arith in
     rw (sym next) (digit_more text from (from + count) number digit held within is value)
 
--- fewer than 19 digits write a number that has room for one more
+-- fewer than 19 digits write a number that has space for one more
 pub few_written : (text : List ℕ) (from at number : ℕ) → WritesBetween text from at number → at - from < 19 → number < 1000000000000000000
 few_written text from at number held few = short number (at - from) held.small few
 
@@ -198,9 +198,9 @@ last_is text from at number held few some whole = (
 -- ---- digits in parts of four
 
 -- in a part that has begun its bytes are there
-pub begun_room : (from count n : ℕ) → from + count + 4 ≤ n + count % 4 → from + count < n
-begun_room from count n h = omega (arith, h)
+pub begun_space : (from count n : ℕ) → from + count + 4 ≤ n + count % 4 → from + count < n
+begun_space from count n h = omega (arith, h)
 
--- and they are still there behind one of them, unless that is the last
-pub room_left : (from count n : ℕ) → from + count + 4 ≤ n + count % 4 → 0 < (count + 1) % 4 → from + (count + 1) + 4 ≤ n + (count + 1) % 4
-room_left from count n h more = omega (arith, h, more)
+-- and they are still there after one of them, unless that is the last
+pub space_left : (from count n : ℕ) → from + count + 4 ≤ n + count % 4 → 0 < (count + 1) % 4 → from + (count + 1) + 4 ≤ n + (count + 1) % 4
+space_left from count n h more = omega (arith, h, more)

@@ -1,7 +1,7 @@
 -- The laws of the macrocell format.
 use Rattle.std.proofs.Common.{ℕ, List, ap, sym, ◌∙◌}
 use Rattle.life_base.specs.declared.rule.Rule.{Rule}
-use Rattle.life_base.proofs.Refusals.{front_unbroken, refusal_unique}
+use Rattle.life_base.proofs.Refusals.{prefix_unbroken, refusal_unique}
 use Rattle.life_mc.specs.Reading.{AcceptsMacrocell, broken_rule, missing_macrocell_part}
 use Rattle.life_mc.specs.Laws.{MacrocellsAreUnique, MacrocellFaultsAreUnique, MacrocellPrefixesAreUnbroken, MacrocellPrefixesAreFiles}
 use Rattle.life_mc.specs.declared.line.Line.{Line}
@@ -16,15 +16,15 @@ files_are_unique top lines a b p q =
 pub faults_are_unique : (top : ℕ) → MacrocellFaultsAreUnique top
 faults_are_unique top = refusal_unique (AcceptsMacrocell top) (broken_rule top) missing_macrocell_part
 
-pub fronts_are_unbroken : (top : ℕ) → MacrocellPrefixesAreUnbroken top
-fronts_are_unbroken top lines = (
-  front_unbroken (AcceptsMacrocell top) (broken_rule top) missing_macrocell_part (by_lines top) lines,
+pub prefixes_are_unbroken : (top : ℕ) → MacrocellPrefixesAreUnbroken top
+prefixes_are_unbroken top lines = (
+  prefix_unbroken (AcceptsMacrocell top) (broken_rule top) missing_macrocell_part (by_lines top) lines,
   (by_lines top).complete
       lines,
 )
 
-pub fronts_are_files : (top : ℕ) → MacrocellPrefixesAreFiles top
-fronts_are_files top lines h = (
-  λ p. accepted top lines h (front_unbroken (AcceptsMacrocell top) (broken_rule top) missing_macrocell_part (by_lines top) lines p),
+pub prefixes_are_files : (top : ℕ) → MacrocellPrefixesAreFiles top
+prefixes_are_files top lines h = (
+  λ p. accepted top lines h (prefix_unbroken (AcceptsMacrocell top) (broken_rule top) missing_macrocell_part (by_lines top) lines p),
   λ m. (by_lines top).complete lines m.1.unbroken,
 )

@@ -36,7 +36,7 @@ record Tests (line : List ℕ) (blank frame rule generation hash : Bool) : Type 
   pub is_generation : is_letter_command 71 line ≡ generation
   pub is_hash : begins_with line (codes "#") ≡ hash
 
--- a line without `#` in front, blank or not
+-- a line without `#` at the beginning, blank or not
 no_hash_tests : (line : List ℕ) (blank : Bool) → is_blank line ≡ blank → begins_with line (codes "#") ≡ false → Tests line blank false false false false
 no_hash_tests line blank b hash = record {
   is_blank = b;
@@ -323,7 +323,7 @@ not_late : (late : Bool) (fault : Option Kind) → cond late (Some LateHeader) f
 not_late true fault h = cc
 not_late false fault h = refl
 
--- a line that tells a rule or a generation and breaks no rule stands in front of all squares
+-- a line that tells a rule or a generation and breaks no rule stands before all squares
 pub command_first : (top : ℕ) (before : List (List ℕ)) (line : List ℕ) (form : Form) → HasForm line form → is_no_command form ≡ false
     → broken_rule_after top before line ≡ None
     → nat_lt 0 (length (map level_of (squares_of before))) ≡ false

@@ -85,10 +85,10 @@ same_map {X = X} f g same (line ∷ lines) (form ∷ forms) z =
     filter_step f line lines (g form) (same line form z.0) ∙ ap (λ (t : List X). option_list (g form) ++ t) (same_map f g same lines forms z.1)
     ∙ sym (filter_step g form forms (g form) refl)
 
--- ---- the lines behind the header, one after another
+-- ---- the lines after the header, one after another
 
 module _ (top : ℕ) (header : List ℕ) where
-  -- each breaks no rule behind those before it
+  -- each breaks no rule after those before it
   abbrev Stand : List (List ℕ) → List (List ℕ) → Type 0
   Stand [] before = Unit {0}
   Stand (line ∷ lines) before = (broken_rule_after top (header ∷ before) line ≡ None) × Stand lines (before ++ line ∷ [])
@@ -226,10 +226,10 @@ module _ (top : ℕ) (header : List ℕ) where
       let rule : file.rule ≡ rule_in_force (header ∷ before) = a.rule_is
       ∙ ap (last_or (rule_in_force (header ∷ before))) (no_rules forms (no_commands_behind square forms before a.order)) in
       let at : slice_get file.lines (length xs) ≡ Some square = ap (λ ls. slice_get ls (length xs)) a.squares_are ∙ get_seam xs square ys in
-      let front : take (length xs) file.lines ≡ xs = ap (take (length xs)) a.squares_are ∙ take-append_seam xs (square ∷ ys) in
+      let prefix : take (length xs) file.lines ≡ xs = ap (take (length xs)) a.squares_are ∙ take-append_seam xs (square ∷ ys) in
       let P : List Line → Type 0 = λ ls. IsSquare top file.rule (map level_of ls) square in
       let Q : Rule → Type 0 = λ r. IsSquare top r (map level_of xs) square in
-      square_ok top (rule_in_force (header ∷ before)) (map level_of xs) square (subst Q rule (subst P front (v (length xs) square at)))
+      square_ok top (rule_in_force (header ∷ before)) (map level_of xs) square (subst Q rule (subst P prefix (v (length xs) square at)))
 
   first_of_all : (form : Form) (forms : List Form) (before : List (List ℕ)) → is_no_command form ≡ false
       → ((squares before ≡ []) × (are_in_order (form ∷ forms) ≡ true)) ⊎ (list_all is_no_command (form ∷ forms) ≡ true) → squares before ≡ []

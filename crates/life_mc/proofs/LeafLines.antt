@@ -42,32 +42,32 @@ split_again (row ∷ rows) last h =
     ∙ ap (λ (t : List (List ℕ)). row ∷ t) (split_again rows last (right_of_and (is_row row) _ h))
 
 -- all but the last of some rows, and the last
-front_rows : List (List ℕ) → List (List ℕ)
-front_rows [] = []
-front_rows (row ∷ []) = []
-front_rows (row ∷ next ∷ rows) = row ∷ front_rows (next ∷ rows)
+prefix_rows : List (List ℕ) → List (List ℕ)
+prefix_rows [] = []
+prefix_rows (row ∷ []) = []
+prefix_rows (row ∷ next ∷ rows) = row ∷ prefix_rows (next ∷ rows)
 
 last_row : List (List ℕ) → List ℕ
 last_row [] = []
 last_row (row ∷ []) = row
 last_row (row ∷ next ∷ rows) = last_row (next ∷ rows)
 
-rows_apart : (rows : List (List ℕ)) → 0 < length rows → rows ≡ front_rows rows ++ last_row rows ∷ []
-unfolding front_rows last_row
+rows_apart : (rows : List (List ℕ)) → 0 < length rows → rows ≡ prefix_rows rows ++ last_row rows ∷ []
+unfolding prefix_rows last_row
 rows_apart [] h = absurd (omega arith)
 rows_apart (row ∷ []) h = refl
 rows_apart (row ∷ next ∷ rows) h = ap (λ (t : List (List ℕ)). row ∷ t) (rows_apart (next ∷ rows) (omega arith))
 
 joined : List (List ℕ) → List ℕ
-joined rows = flat_map ended (front_rows rows) ++ last_row rows
+joined rows = flat_map ended (prefix_rows rows) ++ last_row rows
 
 joined_dollar : (rows : List (List ℕ)) → 0 < length rows → joined ([] ∷ rows) ≡ 36 ∷ joined rows
-unfolding joined front_rows last_row
+unfolding joined prefix_rows last_row
 joined_dollar [] h = absurd (omega arith)
 joined_dollar (row ∷ rows) h = refl
 
 joined_byte : (b : ℕ) (rows : List (List ℕ)) → 0 < length rows → joined (onto_first_byte b rows) ≡ b ∷ joined rows
-unfolding joined front_rows last_row
+unfolding joined prefix_rows last_row
 joined_byte b [] h = absurd (omega arith)
 joined_byte b (row ∷ []) h = refl
 joined_byte b (row ∷ next ∷ rows) h = refl
@@ -79,11 +79,11 @@ join_step true b text e ih = joined_dollar (leaf_rows text) (some_rows text) ∙
 join_step false b text e ih = joined_byte b (leaf_rows text) (some_rows text) ∙ ap (λ (t : List ℕ). b ∷ t) ih
 
 join_rows : (text : List ℕ) → joined (leaf_rows text) ≡ text
-unfolding joined front_rows last_row
+unfolding joined prefix_rows last_row
 join_rows [] = refl
 join_rows (b ∷ text) = join_step (b == 36) b text refl (join_rows text)
 
-is_joined : (text : List ℕ) → text ≡ flat_map ended (front_rows (leaf_rows text)) ++ last_row (leaf_rows text)
+is_joined : (text : List ℕ) → text ≡ flat_map ended (prefix_rows (leaf_rows text)) ++ last_row (leaf_rows text)
 unfolding joined
 is_joined text = sym (join_rows text)
 
@@ -287,7 +287,7 @@ some_parts (row ∷ rows) last h = omega arith
 pub is_leaf_line : (line : List ℕ) → is_leaf_byte (slice_index (trim line) 0) ≡ true → is_leaf (trim line) ≡ true → IsLeafLine line (leaf_bytes (trim line))
 is_leaf_line line b h =
     let text : List ℕ = trim line in
-    let rows : List (List ℕ) = front_rows (leaf_rows text) in
+    let rows : List (List ℕ) = prefix_rows (leaf_rows text) in
     let last : List ℕ = last_row (leaf_rows text) in
     let apart : leaf_rows text ≡ rows ++ last ∷ [] = rows_apart (leaf_rows text) (some_rows text) in
     let are : Rows 8 rows last = rows_are 8 rows last (sym (ap (are_rows 8) apart) ∙ sym (leaf_is text) ∙ h) in

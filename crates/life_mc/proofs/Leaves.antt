@@ -26,17 +26,17 @@ fits bit [] = true
 fits bit (b ∷ row) = (is_cell b && nat_lt 0 bit) && fits (bit / 2) row
 
 -- so many columns are from that of this bit on
-abbrev has_room : ℕ → List ℕ → Bool
-has_room bit [] = true
-has_room bit (b ∷ row) = nat_lt 0 bit && has_room (bit / 2) row
+abbrev has_space : ℕ → List ℕ → Bool
+has_space bit [] = true
+has_space bit (b ∷ row) = nat_lt 0 bit && has_space (bit / 2) row
 
-cells_with_room : (bit : ℕ) (row : List ℕ) → fits bit row ≡ (list_all is_cell row && has_room bit row)
-cells_with_room bit [] = refl
-cells_with_room bit (b ∷ row) =
-    ap (λ v. (is_cell b && nat_lt 0 bit) && v) (cells_with_room (bit / 2) row)
-    ∙ and_mix (is_cell b) (nat_lt 0 bit) (list_all is_cell row) (has_room (bit / 2) row)
+cells_with_space : (bit : ℕ) (row : List ℕ) → fits bit row ≡ (list_all is_cell row && has_space bit row)
+cells_with_space bit [] = refl
+cells_with_space bit (b ∷ row) =
+    ap (λ v. (is_cell b && nat_lt 0 bit) && v) (cells_with_space (bit / 2) row)
+    ∙ and_mix (is_cell b) (nat_lt 0 bit) (list_all is_cell row) (has_space (bit / 2) row)
 
-eight_columns : (row : List ℕ) → has_room 128 row ≡ nat_le (length row) 8
+eight_columns : (row : List ℕ) → has_space 128 row ≡ nat_le (length row) 8
 eight_columns [] = refl
 eight_columns (a ∷ []) = refl
 eight_columns (a ∷ b ∷ []) = refl
@@ -49,7 +49,7 @@ eight_columns (a ∷ b ∷ c ∷ d ∷ e ∷ f ∷ g ∷ i ∷ []) = refl
 eight_columns (a ∷ b ∷ c ∷ d ∷ e ∷ f ∷ g ∷ i ∷ j ∷ row) = sym (lt-leb (length (a ∷ b ∷ c ∷ d ∷ e ∷ f ∷ g ∷ i ∷ j ∷ row)) 8 (omega arith))
 
 pub row_fits_all : (row : List ℕ) → fits 128 row ≡ is_row row
-row_fits_all row = cells_with_room 128 row ∙ ap (λ v. list_all is_cell row && v) (eight_columns row)
+row_fits_all row = cells_with_space 128 row ∙ ap (λ v. list_all is_cell row && v) (eight_columns row)
 
 -- ---- all rows
 
@@ -211,7 +211,7 @@ more_rows (b ∷ text) h = by (b == 36) h (more_rows text)
     by true h ih = refl
     by false h ih = ap (onto_first b) (ih (omega (arith, h)))
 
--- behind a row that ends before its text does come the rows of what is left
+-- after a row that ends before its text does come the rows of what is left
 rows_go_on : (text : List ℕ) → length (first_row text) < length text → leaf_rows text ≡ first_row text ∷ leaf_rows (drop (length (first_row text) + 1) text)
 rows_go_on text h = more_rows text h ∙ ap (λ j. first_row text ∷ leaf_rows (drop j text)) (sym (add-one (length (first_row text))))
 
@@ -273,7 +273,7 @@ blank_behind (suc k) n row [] h = cc
 blank_behind zero n row (b ∷ bytes) h = ap tail_bytes h
 blank_behind (suc k) n row (b ∷ bytes) h = blank_behind k n row bytes h
 
--- the byte of the last row is put in, and the rows behind it are empty
+-- the byte of the last row is put in, and the rows after it are empty
 pub put_last_row : (k row : ℕ) (bytes text : List ℕ) → k < 8 → drop k bytes ≡ replicate (8 - k) 0 → length (first_row text) ≡ length text
     → row ≡ byte_of_row (first_row text)
     → with_rows k bytes (leaf_rows text) ≡ set bytes k row

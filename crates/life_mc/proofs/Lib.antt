@@ -3,9 +3,9 @@ pub mod Words
 pub mod Leaves
 pub mod ByLines
 pub mod RowTexts
-pub mod LineRoom
+pub mod LineSpace
 pub mod ReadLines
-pub mod LinesTaken
+pub mod LinesConsumed
 pub mod Valid
 pub mod Nodes
 pub mod Stands

@@ -61,13 +61,13 @@ in_node top rule levels text =
     cases (is_leaf_byte (slice_index text 0) && not (is_leaf text)) (Some kinds.BadLeaf) (broken_by_square top rule levels (square_of_text text)) refl
     (in_square top rule levels (square_of_text text))
 
-behind : (top : ℕ) (front : List (List ℕ)) (line : List ℕ) → short_kind_in (broken_rule_after top front line) ≡ true
-behind top front line =
-    let node : Option Kind = broken_by_node top (rule_in_force front) (map level_of (squares_of front)) (trim line) in
+behind : (top : ℕ) (prefix : List (List ℕ)) (line : List ℕ) → short_kind_in (broken_rule_after top prefix line) ≡ true
+behind top prefix line =
+    let node : Option Kind = broken_by_node top (rule_in_force prefix) (map level_of (squares_of prefix)) (trim line) in
     let hash : Option Kind = cond (begins_with line (codes "#")) None node in
     let number : Option Kind = cond (is_letter_command 71 line) (result_err (u64_of (trim (drop 2 line)))) hash in
     let rule : Option Kind = cond (is_letter_command 82 line) (result_err (rule_of (drop 2 line))) number in
-    let some : Bool = nat_lt 0 (length (map level_of (squares_of front))) in
+    let some : Bool = nat_lt 0 (length (map level_of (squares_of prefix))) in
     let late : Option Kind = cond ((is_letter_command 82 line || is_letter_command 71 line) && some) (Some kinds.LateHeader) rule in
     let frame : Option Kind = cond (begins_with line (codes "#FRAME")) (Some kinds.Timeline) late in
     cases (is_blank line) None frame refl
@@ -77,17 +77,17 @@ behind top front line =
     (in_error (rule_of (drop 2 line)) (rule_errs_by is_short_kind refl refl refl refl (drop 2 line)))
     (cases (is_letter_command 71 line) (result_err (u64_of (trim (drop 2 line)))) hash
     (in_error (u64_of (trim (drop 2 line))) (number_errs (trim (drop 2 line))))
-    (cases (begins_with line (codes "#")) None node refl (in_node top (rule_in_force front) (map level_of (squares_of front)) (trim line)))))))
+    (cases (begins_with line (codes "#")) None node refl (in_node top (rule_in_force prefix) (map level_of (squares_of prefix)) (trim line)))))))
 
 -- the rule that a line breaks which isn't too long
 abbrev broken_short : ℕ → List (List ℕ) → List ℕ → Option Kind
-broken_short top front line = cond (is_empty front) (cond (begins_with line (codes "[M2]")) None (Some kinds.NoHeader)) (broken_rule_after top front line)
+broken_short top prefix line = cond (is_empty prefix) (cond (begins_with line (codes "[M2]")) None (Some kinds.NoHeader)) (broken_rule_after top prefix line)
 
-short_in : (top : ℕ) (front : List (List ℕ)) (line : List ℕ) → short_kind_in (broken_short top front line) ≡ true
-short_in top front line =
-    cases (is_empty front) (cond (begins_with line (codes "[M2]")) None (Some kinds.NoHeader)) (broken_rule_after top front line)
+short_in : (top : ℕ) (prefix : List (List ℕ)) (line : List ℕ) → short_kind_in (broken_short top prefix line) ≡ true
+short_in top prefix line =
+    cases (is_empty prefix) (cond (begins_with line (codes "[M2]")) None (Some kinds.NoHeader)) (broken_rule_after top prefix line)
     (cases (begins_with line (codes "[M2]")) None (Some kinds.NoHeader) refl refl)
-    (behind top front line)
+    (behind top prefix line)
 
 -- a line breaks a rule by its length, or with another kind
 by_length : (v : Bool) (o : Option Kind) (kind : Kind) → short_kind_in o ≡ true → cond v (Some kinds.LineTooLong) o ≡ Some kind
@@ -95,25 +95,25 @@ by_length : (v : Bool) (o : Option Kind) (kind : Kind) → short_kind_in o ≡ t
 by_length true o kind h e = inl (refl, cc)
 by_length false o kind h e = inr (ap short_kind_in (sym e) ∙ h)
 
-how_broken : (top : ℕ) (front : List (List ℕ)) (line : List ℕ) (kind : Kind) → broken_rule top front line ≡ Some kind
+how_broken : (top : ℕ) (prefix : List (List ℕ)) (line : List ℕ) (kind : Kind) → broken_rule top prefix line ≡ Some kind
     → ((is_too_long line ≡ true) × (kind ≡ kinds.LineTooLong)) ⊎ (is_short_kind kind ≡ true)
 unfolding broken_rule
-how_broken top front line kind e = by_length (is_too_long line) (broken_short top front line) kind (short_in top front line) e
+how_broken top prefix line kind e = by_length (is_too_long line) (broken_short top prefix line) kind (short_in top prefix line) e
 
 -- a line breaks a rule with a kind of the format
-pub broken_kind : (top : ℕ) (front : List (List ℕ)) (line : List ℕ) (kind : Kind) → broken_rule top front line ≡ Some kind → is_macrocell_kind kind ≡ true
-broken_kind top front line kind e = elim (how_broken top front line kind e) [
+pub broken_kind : (top : ℕ) (prefix : List (List ℕ)) (line : List ℕ) (kind : Kind) → broken_rule top prefix line ≡ Some kind → is_macrocell_kind kind ≡ true
+broken_kind top prefix line kind e = elim (how_broken top prefix line kind e) [
   | inl m ↦ ap is_macrocell_kind m.1
   | inr s ↦ left_of_and (is_macrocell_kind kind) (not (is_length_kind kind)) s
 ]
 
 pub long_lines_break : (top : ℕ) → LongMacrocellLinesBreak top
-long_lines_break top front line = (
-  λ e. elim (how_broken top front line kinds.LineTooLong e) [
+long_lines_break top prefix line = (
+  λ e. elim (how_broken top prefix line kinds.LineTooLong e) [
     | inl m ↦ omega (arith, ltb-true (2 ^ 20) (length line) m.0)
     | inr s ↦ cc
   ],
-  breaks_length top front line,
+  breaks_length top prefix line,
 )
 
 missing_kind : (lines : List (List ℕ)) (kind : Kind) → missing_macrocell_part lines ≡ Some kind → is_macrocell_kind kind ≡ true

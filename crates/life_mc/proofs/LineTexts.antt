@@ -145,13 +145,13 @@ number_ends (b ∷ word) h =
     let all : list_all solid (b ∷ word) ≡ true = digits_solid (b ∷ word) h in
     record { whole = none_passes is_whitespace (b ∷ word) all; some = not_blank b word (not-true (is_whitespace b) (left_of_and _ _ all)) }
 
-ends_behind : (front text : List ℕ) → EndsSolid text → EndsSolid (front ++ text)
+ends_behind : (prefix text : List ℕ) → EndsSolid text → EndsSolid (prefix ++ text)
 ends_behind [] text e = e
-ends_behind (b ∷ front) text e =
-    let r = ends_behind front text e in
-    let some : list_all is_whitespace (b ∷ (front ++ text)) ≡ false = ap (λ v. is_whitespace b && v) r.some ∙ and-false (is_whitespace b) in
+ends_behind (b ∷ prefix) text e =
+    let r = ends_behind prefix text e in
+    let some : list_all is_whitespace (b ∷ (prefix ++ text)) ≡ false = ap (λ v. is_whitespace b && v) r.some ∙ and-false (is_whitespace b) in
     record {
-      whole = ap (λ v. cond v [] (b ∷ without_last is_whitespace (front ++ text))) some ∙ ap (λ (t : List ℕ). b ∷ t) r.whole;
+      whole = ap (λ v. cond v [] (b ∷ without_last is_whitespace (prefix ++ text))) some ∙ ap (λ (t : List ℕ). b ∷ t) r.whole;
       some = some;
     }
 

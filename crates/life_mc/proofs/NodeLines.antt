@@ -30,9 +30,9 @@ there_by top rule levels true o h = cc
 there_by top rule levels false None h = cc
 there_by top rule levels false (Some square) h = (square, refl)
 
-module _ (top : ℕ) (header : List ℕ) (front : List (List ℕ)) (line : List ℕ) (n : is_node_line line ≡ true) where
+module _ (top : ℕ) (header : List ℕ) (prefix : List (List ℕ)) (line : List ℕ) (n : is_node_line line ≡ true) where
   abbrev before : List (List ℕ)
-  before = header ∷ front
+  before = header ∷ prefix
 
   blank : is_blank line ≡ false
   blank = not-true (is_blank line) (left_of_and _ (not (begins_with line (codes "#"))) n)

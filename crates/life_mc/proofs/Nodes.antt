@@ -25,7 +25,7 @@ match_map (Err e) h f g = g e h
 abbrev top_number : ℕ
 top_number = 2 ^ 64 - 1
 
--- a number is told as it is, or it is above each bound that matters
+-- a number is reported as it is, or it is above each bound that matters
 small_or_large : (n : ℕ) → (capped_number n ≡ n) ⊎ ((top_number < n) × (capped_number n ≡ top_number))
 small_or_large n = grind arith
 
@@ -48,7 +48,7 @@ no_quarter rule levels level n h l = by (level == 1)
     by false = no_child levels (level - 1) n h
 
 module _ (top : ℕ) (rule : Rule) (levels : List ℕ) (low : top ≤ 255) (few : length levels < top_number) where
-  -- a number as it is told may stand for a quarter just if it may itself
+  -- a number as it is reported may stand for a quarter just if it may itself
   quarter_same : (level n : ℕ) → is_quarter rule levels level (capped_number n) ≡ is_quarter rule levels level n
   quarter_same level n = elim (small_or_large n) [
     | inl e ↦ ap (is_quarter rule levels level) e
@@ -106,7 +106,7 @@ module _ (top : ℕ) (rule : Rule) (levels : List ℕ) (low : top ≤ 255) (few 
     | inr l ↦ absurd (true≢false (sym h ∙ ap (λ n. nat_le 1 n && nat_le n top) l.1 ∙ level_high))
   ]
 
-  -- numbers that break no rule are told as they are
+  -- numbers that break no rule are reported as they are
   numbers_are : (level nw ne sw se : ℕ) → judge (capped_number level) (capped_number nw) (capped_number ne) (capped_number sw) (capped_number se) ≡ None
       → Quad (capped_number level) (capped_number nw) (capped_number ne) (capped_number sw) (capped_number se) ≡ Quad level nw ne sw se
   numbers_are level nw ne sw se h =

@@ -49,7 +49,7 @@ cell_no_dollar b h = grind (arith, nat_tests)
 no_dollar : (row : ℕ) → row < 256 → list_all (λ b. not (b == 36)) (written row) ≡ true
 no_dollar row h = all_pass is_cell (λ b. not (b == 36)) cell_no_dollar (written row) (left_of_and (list_all is_cell (written row)) _ (row_is_row row h))
 
--- the rows of a leaf's text, and the empty one behind the last `$`
+-- the rows of a leaf's text, and the empty one after the last `$`
 rows_again : (rows : List ℕ) → AllByRecursion (λ row. row < 256) rows → leaf_rows (flat_map row_text rows) ≡ map written rows ++ [] ∷ []
 rows_again [] h = refl
 rows_again (row ∷ rows) h =

@@ -221,10 +221,10 @@ module _ (top : ℕ) (rule : Rule) (lines : List Line) (valid : AreSquares top r
   abbrev most : ℕ
   most = largest_state rule
 
-  -- the number shows its cells, and the lines behind that of the number don't matter
+  -- the number shows its cells, and the lines after that of the number don't matter
   record IsSound (k number : ℕ) : Type 0 where
     shows : Shows most k (tree_of lines k number) (cell_in_node lines k number)
-    front : (m : ℕ) → (0 < k → number ≤ m) → tree_of (take m lines) k number ≡ tree_of lines k number
+    prefix : (m : ℕ) → (0 < k → number ≤ m) → tree_of (take m lines) k number ≡ tree_of lines k number
 
   -- a line of level k + 1, from what its quarters stand for
   sound_line : (k i : ℕ) (line : Line) → level_of line ≡ suc k → slice_get lines i ≡ Some line → IsSquare top rule (map level_of (take i lines)) line
@@ -235,7 +235,7 @@ module _ (top : ℕ) (rule : Rule) (lines : List Line) (valid : AreSquares top r
       let Q : Option Line → Type 0 = λ o. Shows most (suc k) (tree_by lines k o) (cell_by lines k o) in
       record {
         shows = subst Q (sym g) (subst P two (leaf_shows most (few_states rule).0 (few_states rule).1 rows));
-        front = λ m some. ap (tree_by (take m lines) k) (get_take lines m i (omega (arith, some (omega arith))) ∙ g) ∙ sym (ap (tree_by lines k) g);
+        prefix = λ m some. ap (tree_by (take m lines) k) (get_take lines m i (omega (arith, some (omega arith))) ∙ g) ∙ sym (ap (tree_by lines k) g);
       }
   sound_line k i (Quad level a b c d) e g is below =
       let levels = map level_of (take i lines) in
@@ -250,17 +250,17 @@ module _ (top : ℕ) (rule : Rule) (lines : List Line) (valid : AreSquares top r
       let Q : Option Line → Type 0 = λ o. Shows most (suc k) (tree_by lines k o) (cell_by lines k o) in
       record {
         shows = subst Q (sym g) (quad_shows most k (tree_of lines k) (cell_in_node lines k) a b c d nw.0.shows ne.0.shows sw.0.shows se.0.shows);
-        front = λ m some.
+        prefix = λ m some.
             let l : i < m = omega (arith, some (omega arith)) in
             ap (tree_by (take m lines) k) (get_take lines m i l ∙ g)
-            ∙ same_quads (nw.0.front m (λ h. omega (arith, nw.1 h))) (ne.0.front m (λ h. omega (arith, ne.1 h))) (sw.0.front m (λ h. omega (arith, sw.1 h)))
-            (se.0.front m (λ h. omega (arith, se.1 h)))
+            ∙ same_quads (nw.0.prefix m (λ h. omega (arith, nw.1 h))) (ne.0.prefix m (λ h. omega (arith, ne.1 h))) (sw.0.prefix m (λ h. omega (arith, sw.1 h)))
+            (se.0.prefix m (λ h. omega (arith, se.1 h)))
             ∙ sym (ap (tree_by lines k) g);
       }
 
   sound : (k number : ℕ) → Names most lines k number → IsSound k number
-  sound zero number h = record { shows = point_shows most number (few_states rule).1 h; front = λ m some. refl }
-  sound (suc k) zero h = record { shows = blank_shows most (suc k); front = λ m some. refl }
+  sound zero number h = record { shows = point_shows most number (few_states rule).1 h; prefix = λ m some. refl }
+  sound (suc k) zero h = record { shows = blank_shows most (suc k); prefix = λ m some. refl }
   sound (suc k) (suc i) h =
       sound_line k i h.0 h.2 h.1 (valid i h.0 h.1) (λ number q. let n = quarter_names rule lines i k number q in (sound k number n.0, n.1))
 
@@ -274,7 +274,7 @@ module _ (top : ℕ) (rule : Rule) (lines : List Line) (valid : AreSquares top r
     full = s.shows.full;
     states = s.shows.states;
     cells = s.shows.same;
-    by_front = s.front number (λ h. omega arith);
+    by_prefix = s.prefix number (λ h. omega arith);
   }
 
   each_stands : (number : ℕ) (line : Line) → item_of_number lines number ≡ Some line → StandsForSquare rule lines (level_of line) number
@@ -356,7 +356,7 @@ plane top rule generation (line ∷ lines) valid x y =
     (sound_at top rule (line ∷ lines) valid (length lines) r.0 r.1 level r.2).shows x y
 
 root_stands : (top : ℕ) (rule : Rule) (lines : List Line) → AreSquares top rule lines → StandsForSquare rule lines (root_level lines) (length lines)
-root_stands top rule [] valid = record { depth_is = refl; full = omega arith; states = omega arith; cells = λ x y l m. refl; by_front = refl }
+root_stands top rule [] valid = record { depth_is = refl; full = omega arith; states = omega arith; cells = λ x y l m. refl; by_prefix = refl }
 root_stands top rule (line ∷ lines) valid =
     let r = root_at line lines in
     let level = root_level (line ∷ lines) in

@@ -86,7 +86,7 @@ module _ (top : ℕ) (lines : List (List ℕ)) (line : List ℕ) (old : Standing
       (not-not old.started (is_empty lines) s.started f)
       ∙ ap (λ v. cond v None (Some NoHeader)) b
 
-  -- behind the header what is kept decides
+  -- after the header what is kept decides
   pub broken_is : old.started ≡ true → broken_rule top lines line ≡ broken_after top old.rule old.levels line
   broken_is t =
       short top lines line h ∙ ap (λ v. cond v (cond (begins_with line (codes "[M2]")) None (Some NoHeader)) (broken_rule_after top lines line))
@@ -170,7 +170,7 @@ module _ (top : ℕ) (lines : List (List ℕ)) (line : List ℕ) (old new : Stan
         },
       )
 
-  -- a line behind it
+  -- a line after it
   pub stands_next : (parsed : ParsedLine) → let form = form_of parsed in
       old.started ≡ true → broken_after top old.rule old.levels line ≡ None → IsParsed line parsed
       → new.started ≡ old.started → new.rule ≡ unwrap_or (form_rule form) old.rule → new.generation ≡ unwrap_or (form_generation form) old.generation

@@ -196,7 +196,7 @@ each_ended (line ∷ lines) h =
     ∙ first_of_lines (line_text line) (flat_map (λ line. line_text line ++ codes "\n") lines) (h 0 line refl).feed
     ∙ ap (λ (t : List (List ℕ)). line_text line ∷ t) (each_ended lines (λ k l g. h (suc k) l g))
 
--- a header, a line and what is behind them
+-- a header, a line and what is after them
 two_ended : (text rest : List ℕ) → has_no_feed text ≡ true
     → lines_of (codes "[M2] (canonical 1)\n#R " ++ text ++ codes "\n" ++ rest) ≡ header_line ∷ (codes "#R " ++ text) ∷ lines_of rest
 two_ended text rest h =
@@ -224,9 +224,9 @@ module _ (top : ℕ) (low : top < 10 ^ 64) (file : Macrocell) (v : IsValidMacroc
       file.lines
   says_file lines s = each_more top low file.rule file.generation file.lines v.squares few file.lines [] lines refl s
 
-  front_ended : (generation : List ℕ) → lines_of (codes "[M2] (canonical 1)\n#R " ++ rule_text file.rule ++ codes "\n" ++ generation ++ nodes) ≡ header_line
+  prefix_ended : (generation : List ℕ) → lines_of (codes "[M2] (canonical 1)\n#R " ++ rule_text file.rule ++ codes "\n" ++ generation ++ nodes) ≡ header_line
       ∷ rule_line file.rule ∷ lines_of (generation ++ nodes)
-  front_ended generation = ap lines_of (in_parts (rule_text file.rule) generation nodes)
+  prefix_ended generation = ap lines_of (in_parts (rule_text file.rule) generation nodes)
       ∙ two_ended (rule_text file.rule) (generation ++ nodes) (rule_short file.rule v.rule).feed
 
   all_lines : (b : Bool) → (file.generation == 0) ≡ b → Says top (lines_of (mc_text file)) file.rule file.generation file.lines
@@ -237,14 +237,14 @@ module _ (top : ℕ) (low : top < 10 ^ 64) (file : Macrocell) (v : IsValidMacroc
       let t : lines_of (mc_text file) ≡ header_line ∷ rule_line file.rule ∷ map line_text file.lines =
       ap (λ w. lines_of (codes "[M2] (canonical 1)\n#R " ++ rule_text file.rule ++ codes "\n"
       ++ cond w [] (codes "#G " ++ decimal file.generation ++ codes "\n") ++ nodes)) e
-      ∙ front_ended [] ∙ ap (λ (ls : List (List ℕ)). header_line ∷ rule_line file.rule ∷ ls) nodes_ended in
+      ∙ prefix_ended [] ∙ ap (λ (ls : List (List ℕ)). header_line ∷ rule_line file.rule ∷ ls) nodes_ended in
       subst P (sym t) (says_file (header_line ∷ rule_line file.rule ∷ []) (subst Q (sym z) (rule_says top file.rule v.rule)))
   all_lines false e =
       let P : List (List ℕ) → Type 0 = λ ls. Says top ls file.rule file.generation file.lines in
       let t : lines_of (mc_text file) ≡ header_line ∷ rule_line file.rule ∷ generation_line file.generation ∷ map line_text file.lines =
       ap (λ w. lines_of (codes "[M2] (canonical 1)\n#R " ++ rule_text file.rule ++ codes "\n"
       ++ cond w [] (codes "#G " ++ decimal file.generation ++ codes "\n") ++ nodes)) e
-      ∙ front_ended (codes "#G " ++ decimal file.generation ++ codes "\n")
+      ∙ prefix_ended (codes "#G " ++ decimal file.generation ++ codes "\n")
       ∙ ap (λ (ls : List (List ℕ)). header_line ∷ rule_line file.rule ∷ ls)
       (generation_ended (decimal file.generation) nodes (generation_short top file.rule file.generation v.generation).feed
       ∙ ap (λ (ls : List (List ℕ)). generation_line file.generation ∷ ls) nodes_ended) in

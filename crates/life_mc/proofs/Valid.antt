@@ -27,9 +27,9 @@ module _ (top : ℕ) where
   passed true kind rest h = cc
   passed false kind rest h = (refl, h)
 
-  not_taken : (v : Bool) (a b : Option Kind) → v ≡ false → cond v a b ≡ None → b ≡ None
-  not_taken true a b e h = cc
-  not_taken false a b e h = h
+  not_consumed : (v : Bool) (a b : Option Kind) → v ≡ false → cond v a b ≡ None → b ≡ None
+  not_consumed true a b e h = cc
+  not_consumed false a b e h = h
 
   true_true : (v : Bool) → v ≡ true → (v && true) ≡ true
   true_true true h = refl
@@ -49,7 +49,7 @@ module _ (top : ℕ) where
   hash_not_blank [] h = cc
   hash_not_blank (a ∷ line) h = let e : a ≡ 35 = eqb-true a 35 (left_of_and _ _ h) in ap (λ b. is_whitespace b && list_all is_whitespace line) e
 
-  -- ---- what a line that breaks no rule behind a header says
+  -- ---- what a line that breaks no rule after a header says
 
   module _ (header : List ℕ) (lines : List (List ℕ)) where
     abbrev before : List (List ℕ)
@@ -64,18 +64,18 @@ module _ (top : ℕ) where
     node_stands line e n =
         let blank : is_blank line ≡ false = not-true _ (left_of_and _ (not (begins_with line (codes "#"))) n) in
         let hash : begins_with line (codes "#") ≡ false = not-true _ (right_of_and (not (is_blank line)) _ n) in
-        let s1 = not_taken (is_blank line) None _ blank e in
+        let s1 = not_consumed (is_blank line) None _ blank e in
         let s2 = (passed (begins_with line (codes "#FRAME")) Timeline _ s1).1 in
         let s3 = (passed ((is_letter_command 82 line || is_letter_command 71 line) && nat_lt 0 (length (map level_of (squares_of before)))) LateHeader _
         s2).1 in
-        let s4 = not_taken (is_letter_command 82 line) (result_err (rule_of (drop 2 line))) _ (no_command 82 line hash) s3 in
-        let s5 = not_taken (is_letter_command 71 line) (result_err (u64_of (trim (drop 2 line)))) _ (no_command 71 line hash) s4 in
-        not_taken (begins_with line (codes "#")) None _ hash s5
+        let s4 = not_consumed (is_letter_command 82 line) (result_err (rule_of (drop 2 line))) _ (no_command 82 line hash) s3 in
+        let s5 = not_consumed (is_letter_command 71 line) (result_err (u64_of (trim (drop 2 line)))) _ (no_command 71 line hash) s4 in
+        not_consumed (begins_with line (codes "#")) None _ hash s5
 
     rule_stands : (line : List ℕ) → broken_rule_after top before line ≡ None → is_letter_command 82 line ≡ true → squares_of before ≡ []
     rule_stands line e r =
         let hash = command_is_hash 82 line r in
-        let s1 = not_taken (is_blank line) None _ (hash_not_blank line hash) e in
+        let s1 = not_consumed (is_blank line) None _ (hash_not_blank line hash) e in
         let s2 = (passed (begins_with line (codes "#FRAME")) Timeline _ s1).1 in
         let some : Bool = nat_lt 0 (length (map level_of (squares_of before))) in
         let p : ((is_letter_command 82 line || is_letter_command 71 line) && some) ≡ false =
@@ -194,9 +194,9 @@ module _ (top : ℕ) where
       ap (last_or default_rule) (filter_map-append rule_on lines (line ∷ []) ∙ ap (λ (t : List Rule). filter_map rule_on lines ++ t) (none_on line h)
       ∙ append-nil (filter_map rule_on lines))
 
-  taken : {X : Type 0} (v : Bool) (o : Option X) (x : X) → cond v o None ≡ Some x → (v ≡ true) × (o ≡ Some x)
-  taken true o x h = (refl, h)
-  taken false o x h = cc
+  consumed : {X : Type 0} (v : Bool) (o : Option X) (x : X) → cond v o None ≡ Some x → (v ≡ true) × (o ≡ Some x)
+  consumed true o x h = (refl, h)
+  consumed false o x h = cc
 
   not_command : (v : Bool) (o : Option Rule) → v ≡ false → cond v o None ≡ None
   not_command true o h = cc
@@ -212,14 +212,14 @@ module _ (top : ℕ) where
         let Q : Rule → Type 0 = λ rule. AreSquares top rule (squares_of (header ∷ lines)) in
         subst P (sym (squares_none (header ∷ lines) line s)) (subst Q (sym (rule_same header lines line h)) v)
     with_rule (Some rule) h s =
-        let c : is_letter_command 82 line ≡ true = (taken (is_letter_command 82 line) (result_ok (rule_of (drop 2 line))) rule h).0 in
+        let c : is_letter_command 82 line ≡ true = (consumed (is_letter_command 82 line) (result_ok (rule_of (drop 2 line))) rule h).0 in
         let P : List Line → Type 0 = λ xs. AreSquares top (rule_in_force (header ∷ (lines ++ line ∷ []))) xs in
         subst P (sym (squares_none (header ∷ lines) line s ∙ rule_stands header lines line stands c)) (no_squares _)
 
     with_square : (o : Option Line) → square_on line ≡ o → Valid (header ∷ (lines ++ line ∷ []))
     with_square None h = with_rule (rule_on line) refl h
     with_square (Some square) h =
-        let t = taken (is_node_line line) (square_of_text (trim line)) square h in
+        let t = consumed (is_node_line line) (square_of_text (trim line)) square h in
         let hash : begins_with line (codes "#") ≡ false = not-true _ (right_of_and (not (is_blank line)) _ t.0) in
         let none : rule_on line ≡ None = not_command (is_letter_command 82 line) (result_ok (rule_of (drop 2 line))) (no_command 82 line hash) in
         let is : IsSquare top (rule_in_force (header ∷ lines)) (map level_of (squares_of (header ∷ lines))) square =
@@ -239,7 +239,7 @@ module _ (top : ℕ) where
       let more : take n lines ++ get_or lines n [] ∷ [] ≡ take (suc n) lines = sym (take_more lines n [] (omega arith)) ∙ ap (λ k. take k lines) (add-one n) in
       subst Valid more (step (take n lines) (get_or lines n []) (u n (omega arith)) (up_to lines u n (omega arith)))
 
-  -- Where no line breaks a rule, each square is one under the rule in force at the end: no `#R` comes behind a square.
+  -- Where no line breaks a rule, each square is one under the rule in force at the end: no `#R` comes after a square.
   pub squares_valid : (lines : List (List ℕ)) → UnbrokenBelow (AcceptsMacrocell top) (broken_rule top) missing_macrocell_part lines (length lines)
       → AreSquares top (rule_in_force lines) (squares_of lines)
   squares_valid lines u = subst Valid (take-length lines) (up_to lines u (length lines) (omega arith))

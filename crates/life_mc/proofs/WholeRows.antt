@@ -20,11 +20,11 @@ is_dot_with_four b = bit_or b 4 == 46
 abbrev tells_cell : ℕ → Bool
 tells_cell b = cond (is_cell b) (is_dot_with_four b) (not (is_dot_with_four b))
 
-each_byte_told : all_below 256 tells_cell ≡ true
-each_byte_told = refl
+each_byte_reported : all_below 256 tells_cell ≡ true
+each_byte_reported = refl
 
-cell_told : (b : ℕ) → b < 256 → is_dot_with_four b ≡ is_cell b
-cell_told b h = by (is_cell b) (is_dot_with_four b) (all_below_at 256 tells_cell b each_byte_told h)
+cell_reported : (b : ℕ) → b < 256 → is_dot_with_four b ≡ is_cell b
+cell_reported b h = by (is_cell b) (is_dot_with_four b) (all_below_at 256 tells_cell b each_byte_reported h)
   where
     by : (v w : Bool) → cond v w (not w) ≡ true → w ≡ v
     by true w h = h
@@ -36,7 +36,7 @@ pub dots_are_cells : (n : ℕ) (text : List ℕ) → ((i : ℕ) → Fits w8 (get
 dots_are_cells zero text h = refl
 dots_are_cells (suc n) [] h = refl
 dots_are_cells (suc n) (b ∷ text) h =
-    ap (λ v. v ∷ map (λ b. b == 46) (zip2 bit_or (take n text) (replicate n 4))) (cell_told b (omega (arith, h 0)))
+    ap (λ v. v ∷ map (λ b. b == 46) (zip2 bit_or (take n text) (replicate n 4))) (cell_reported b (omega (arith, h 0)))
     ∙ ap (λ (vs : List Bool). is_cell b ∷ vs) (dots_are_cells n text (λ i. h (suc i)))
 
 pub as_many_dots : (n : ℕ) (text : List ℕ) → n ≤ length text → length (zip2 bit_or (take n text) (replicate n 4)) ≡ n
@@ -48,7 +48,7 @@ abbrev all_marks : ℕ → ℕ
 all_marks zero = 2
 all_marks (suc n) = 2 * all_marks n
 
--- what is left are the marks of the others, and one behind all of them
+-- what is left are the marks of the others, and one after all of them
 abbrev pub others : List ℕ → List Bool
 others text = map (λ b. not (is_cell b)) (text ++ 36 ∷ [])
 
@@ -75,7 +75,7 @@ some_other (b ∷ text) = by (cond (not (is_cell b)) 1 0) (mask_l (others text))
 one_more : (a b : ℕ) → a ≡ b → 1 + a ≡ suc b
 one_more a b h = omega (arith, h)
 
--- the first mark is behind the cells in front
+-- the first mark is after the cells at the beginning
 pub first_other : (n : ℕ) (text : List ℕ) → prefix_len (λ b. not (not (is_cell b))) (take n text ++ 36 ∷ []) ≡ leading_cells n text
 first_other zero text = refl
 first_other (suc n) [] = refl
@@ -145,7 +145,7 @@ eight_marked (a ∷ b ∷ c ∷ d ∷ e ∷ f ∷ []) l = absurd (omega (arith, 
 eight_marked (a ∷ b ∷ c ∷ d ∷ e ∷ f ∷ g ∷ []) l = absurd (omega (arith, l))
 eight_marked (a ∷ b ∷ c ∷ d ∷ e ∷ f ∷ g ∷ h ∷ text) l = marks_weighed (a == 42) (b == 42) (c == 42) (d == 42) (e == 42) (f == 42) (g == 42) (h == 42)
 
--- ---- the columns in front
+-- ---- the columns at the beginning
 
 -- the bits of a row without the last n
 abbrev without : ℕ → ℕ → ℕ
@@ -182,17 +182,17 @@ columns_of k a b c d e f g h text l = by k l (weigh (a == 42) 128) (weigh (b == 
         (arith, wa, wb, wc, wd, we, wf, wg, ma, mb, mc, md, me, mf, mg, mh)
     by (suc (suc (suc (suc (suc (suc (suc (suc (suc k))))))))) l wa wb wc wd we wf wg ma mb mc md me mf mg mh = absurd (omega (arith, l))
 
-pub columns_in_front : (k : ℕ) (text : List ℕ) → k ≤ 8 → 8 ≤ length text → byte_of_row (take 8 text) - byte_of_row (take 8 text) % 2 ^ (8 - k)
+pub columns_in_prefix : (k : ℕ) (text : List ℕ) → k ≤ 8 → 8 ≤ length text → byte_of_row (take 8 text) - byte_of_row (take 8 text) % 2 ^ (8 - k)
     ≡ byte_of_row (take k text)
-columns_in_front k ([]) l m = absurd (omega (arith, m))
-columns_in_front k (a ∷ []) l m = absurd (omega (arith, m))
-columns_in_front k (a ∷ b ∷ []) l m = absurd (omega (arith, m))
-columns_in_front k (a ∷ b ∷ c ∷ []) l m = absurd (omega (arith, m))
-columns_in_front k (a ∷ b ∷ c ∷ d ∷ []) l m = absurd (omega (arith, m))
-columns_in_front k (a ∷ b ∷ c ∷ d ∷ e ∷ []) l m = absurd (omega (arith, m))
-columns_in_front k (a ∷ b ∷ c ∷ d ∷ e ∷ f ∷ []) l m = absurd (omega (arith, m))
-columns_in_front k (a ∷ b ∷ c ∷ d ∷ e ∷ f ∷ g ∷ []) l m = absurd (omega (arith, m))
-columns_in_front k (a ∷ b ∷ c ∷ d ∷ e ∷ f ∷ g ∷ h ∷ text) l m = columns_of k a b c d e f g h text l
+columns_in_prefix k ([]) l m = absurd (omega (arith, m))
+columns_in_prefix k (a ∷ []) l m = absurd (omega (arith, m))
+columns_in_prefix k (a ∷ b ∷ []) l m = absurd (omega (arith, m))
+columns_in_prefix k (a ∷ b ∷ c ∷ []) l m = absurd (omega (arith, m))
+columns_in_prefix k (a ∷ b ∷ c ∷ d ∷ []) l m = absurd (omega (arith, m))
+columns_in_prefix k (a ∷ b ∷ c ∷ d ∷ e ∷ []) l m = absurd (omega (arith, m))
+columns_in_prefix k (a ∷ b ∷ c ∷ d ∷ e ∷ f ∷ []) l m = absurd (omega (arith, m))
+columns_in_prefix k (a ∷ b ∷ c ∷ d ∷ e ∷ f ∷ g ∷ []) l m = absurd (omega (arith, m))
+columns_in_prefix k (a ∷ b ∷ c ∷ d ∷ e ∷ f ∷ g ∷ h ∷ text) l m = columns_of k a b c d e f g h text l
 
 -- the bits of the columns before one
 abbrev columns_before : List ℕ
@@ -224,30 +224,30 @@ no_end b h = grind (arith, nat_tests)
 is_end : (b : ℕ) → b ≡ 36 → (b == 36) ≡ true
 is_end b h = grind (arith, nat_tests)
 
-pub front_within : (n : ℕ) (text : List ℕ) → leading_cells n text ≤ n
-front_within zero text = omega arith
-front_within (suc n) [] = omega arith
-front_within (suc n) (b ∷ text) = by (is_cell b) (front_within n text)
+pub prefix_within : (n : ℕ) (text : List ℕ) → leading_cells n text ≤ n
+prefix_within zero text = omega arith
+prefix_within (suc n) [] = omega arith
+prefix_within (suc n) (b ∷ text) = by (is_cell b) (prefix_within n text)
   where
     by : (v : Bool) → leading_cells n text ≤ n → cond v (suc (leading_cells n text)) 0 ≤ suc n
     by true h = omega (arith, h)
     by false h = omega arith
 
-pub front_is_cells : (n : ℕ) (text : List ℕ) → list_all is_cell (take (leading_cells n text) text) ≡ true
-front_is_cells zero text = refl
-front_is_cells (suc n) [] = refl
-front_is_cells (suc n) (b ∷ text) = by (is_cell b) refl (front_is_cells n text)
+pub prefix_is_cells : (n : ℕ) (text : List ℕ) → list_all is_cell (take (leading_cells n text) text) ≡ true
+prefix_is_cells zero text = refl
+prefix_is_cells (suc n) [] = refl
+prefix_is_cells (suc n) (b ∷ text) = by (is_cell b) refl (prefix_is_cells n text)
   where
     by : (v : Bool) → is_cell b ≡ v → list_all is_cell (take (leading_cells n text) text) ≡ true
         → list_all is_cell (take (cond v (suc (leading_cells n text)) 0) (b ∷ text)) ≡ true
     by true e h = ap (λ w. w && list_all is_cell (take (leading_cells n text) text)) e ∙ h
     by false e h = refl
 
--- where `$` is behind the cells in front, they are the row
-pub row_in_front : (n : ℕ) (text : List ℕ) → n < length text → get_or text (leading_cells n text) 0 ≡ 36 → first_row text ≡ take (leading_cells n text) text
-row_in_front n [] l h = absurd (omega (arith, l))
-row_in_front zero (b ∷ text) l h = rw (is_end b h) refl
-row_in_front (suc n) (b ∷ text) l h = by (is_cell b) refl h (row_in_front n text (omega (arith, l)))
+-- where `$` is after the cells at the beginning, they are the row
+pub row_in_prefix : (n : ℕ) (text : List ℕ) → n < length text → get_or text (leading_cells n text) 0 ≡ 36 → first_row text ≡ take (leading_cells n text) text
+row_in_prefix n [] l h = absurd (omega (arith, l))
+row_in_prefix zero (b ∷ text) l h = rw (is_end b h) refl
+row_in_prefix (suc n) (b ∷ text) l h = by (is_cell b) refl h (row_in_prefix n text (omega (arith, l)))
   where
     by : (v : Bool) → is_cell b ≡ v → get_or (b ∷ text) (cond v (suc (leading_cells n text)) 0) 0 ≡ 36
         → (get_or text (leading_cells n text) 0 ≡ 36 → first_row text ≡ take (leading_cells n text) text)
@@ -261,11 +261,11 @@ shorter (suc k) [] = omega arith
 shorter (suc k) (b ∷ text) = omega (arith, shorter k text)
 
 -- and it is one of a leaf
-pub front_is_row : (text : List ℕ) → is_row (take (leading_cells 8 text) text) ≡ true
-front_is_row text =
+pub prefix_is_row : (text : List ℕ) → is_row (take (leading_cells 8 text) text) ≡ true
+prefix_is_row text =
     let row = take (leading_cells 8 text) text in
-    ap (λ v. v && nat_le (length row) 8) (front_is_cells 8 text)
-    ∙ le-leb (length row) 8 (omega (arith, shorter (leading_cells 8 text) text, front_within 8 text))
+    ap (λ v. v && nat_le (length row) 8) (prefix_is_cells 8 text)
+    ∙ le-leb (length row) 8 (omega (arith, shorter (leading_cells 8 text) text, prefix_within 8 text))
 
 -- the bit of the first of the last n columns
 abbrev pub last_bit : ℕ → ℕ
@@ -278,10 +278,10 @@ half_of zero = refl
 half_of (suc n) = omega arith
 
 -- where another byte is there, the row is none of a leaf
-pub no_row_in_front : (n : ℕ) (text : List ℕ) → n < length text → (get_or text (leading_cells n text) 0 ≡ 36 → ⊥) → fits (last_bit n) (first_row text) ≡ false
-no_row_in_front n [] l h = absurd (omega (arith, l))
-no_row_in_front zero (b ∷ text) l h = rw (no_end b h) (ap (λ v. v && fits (0 / 2) (first_row text)) (and-false (is_cell b)))
-no_row_in_front (suc n) (b ∷ text) l h = by (is_cell b) refl h (no_row_in_front n text (omega (arith, l)))
+pub no_row_in_prefix : (n : ℕ) (text : List ℕ) → n < length text → (get_or text (leading_cells n text) 0 ≡ 36 → ⊥) → fits (last_bit n) (first_row text) ≡ false
+no_row_in_prefix n [] l h = absurd (omega (arith, l))
+no_row_in_prefix zero (b ∷ text) l h = rw (no_end b h) (ap (λ v. v && fits (0 / 2) (first_row text)) (and-false (is_cell b)))
+no_row_in_prefix (suc n) (b ∷ text) l h = by (is_cell b) refl h (no_row_in_prefix n text (omega (arith, l)))
   where
     by : (v : Bool) → is_cell b ≡ v → (get_or (b ∷ text) (cond v (suc (leading_cells n text)) 0) 0 ≡ 36 → ⊥)
         → ((get_or text (leading_cells n text) 0 ≡ 36 → ⊥) → fits (last_bit n) (first_row text) ≡ false)

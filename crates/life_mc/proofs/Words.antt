@@ -4,7 +4,7 @@ use Rattle.std.specs.List.{list_all, prefix_len}
 use Rattle.std.specs.Char.{is_ascii_digit}
 use Rattle.std.proofs.lemmas.Bool.Decides.{nat_tests}
 use mathlib.Core.Bool.{and-true, and-false}
-use Rattle.life_base.proofs.FrontDigits.{digit_text_in_front}
+use Rattle.life_base.proofs.PrefixDigits.{digit_text_in_prefix}
 use Rattle.life_base.proofs.WordEnds.{ends, further, words_in}
 use Rattle.life_base.proofs.Basics.{left_of_and}
 use Rattle.life_base.specs.Numbers.{capped_number}
@@ -23,11 +23,11 @@ pub number_word : (word : List ℕ) (words : List (List ℕ)) → is_digit_text 
 number_word [] words h = cc
 number_word (b ∷ word) words h = refl
 
--- how many digits are in front
+-- how many digits are at the beginning
 abbrev pub digits : List ℕ → ℕ
 digits text = prefix_len is_ascii_digit text
 
--- what stands behind the digits in front
+-- what comes after the digits at the beginning
 abbrev pub behind : List ℕ → List ℕ
 behind text = drop (digits text) text
 
@@ -41,7 +41,7 @@ whole_step true b text e ih h =
     ap (λ v. cond (not v) (1 + ends text) 0) (digit_no_space b e) ∙ ap (λ n. 1 + n) (ih (rw k at h))
 whole_step false b text e ih h = ap (λ v. cond (not v) (1 + ends text) 0) (left_of_and (is_whitespace b) true h)
 
--- where a word ends behind the digits, it is these digits
+-- where a word ends after the digits, it is these digits
 whole_word : (text : List ℕ) → is_blank (take 1 (behind text)) ≡ true → ends text ≡ digits text
 whole_word [] h = refl
 whole_word (b ∷ text) h = whole_step (is_ascii_digit b) b text refl (whole_word text) h
@@ -62,7 +62,7 @@ other_word : (text : List ℕ) → is_blank (take 1 (behind text)) ≡ false →
 other_word [] h = cc
 other_word (b ∷ text) h = other_step (is_ascii_digit b) b text refl (other_word text) h
 
--- the first word goes on behind the digits
+-- the first word goes on after the digits
 pub goes_on : (text : List ℕ) → is_blank (take 1 (behind (trim_start text))) ≡ false → begins_with_number (words_of text) ≡ false
 goes_on text h =
     let t = trim_start text in
@@ -83,7 +83,7 @@ pub digits_end : (text : List ℕ) → 0 < digits (trim_start text) → is_blank
     → words_of text ≡ take_while is_ascii_digit (trim_start text) ∷ words_of (behind (trim_start text))
 digits_end text h e =
     let t = trim_start text in
-    words_in text (digits t) (whole_word t e) ∙ number_word (take_while is_ascii_digit t) _ (digit_text_in_front t h)
+    words_in text (digits t) (whole_word t e) ∙ number_word (take_while is_ascii_digit t) _ (digit_text_in_prefix t h)
 
 -- ---- five numbers
 
@@ -108,18 +108,18 @@ just_five : (a b c d e : List ℕ) (rest : List (List ℕ)) → is_empty rest �
 just_five a b c d e [] h p q r s t = rw (p, q, r, s, t) refl
 just_five a b c d e (f ∷ rest) h p q r s t = cc
 
--- one word more in front
+-- one word more at the beginning
 onto : {words more : List (List ℕ)} (word : List ℕ) → words ≡ more → word ∷ words ≡ word ∷ more
 onto word h = ap (λ (t : List (List ℕ)). word ∷ t) h
 
 -- words that were found one after another
-pub four_in_front : {ws after_a after_b after_c after_d : List (List ℕ)} {a b c d : List ℕ}
+pub four_in_prefix : {ws after_a after_b after_c after_d : List (List ℕ)} {a b c d : List ℕ}
     → ws ≡ a ∷ after_a → after_a ≡ b ∷ after_b → after_b ≡ c ∷ after_c → after_c ≡ d ∷ after_d → ws ≡ a ∷ b ∷ c ∷ d ∷ after_d
-four_in_front {a} {b} {c} p q r s = p ∙ onto a (q ∙ onto b (r ∙ onto c s))
+four_in_prefix {a} {b} {c} p q r s = p ∙ onto a (q ∙ onto b (r ∙ onto c s))
 
-pub five_in_front : {ws after_a after_b after_c after_d after_e : List (List ℕ)} {a b c d e : List ℕ}
+pub five_in_prefix : {ws after_a after_b after_c after_d after_e : List (List ℕ)} {a b c d e : List ℕ}
     → ws ≡ a ∷ after_a → after_a ≡ b ∷ after_b → after_b ≡ c ∷ after_c → after_c ≡ d ∷ after_d → after_d ≡ e ∷ after_e → ws ≡ a ∷ b ∷ c ∷ d ∷ e ∷ after_e
-five_in_front {a} {b} {c} {d} p q r s t = four_in_front p q r s ∙ onto a (onto b (onto c (onto d t)))
+five_in_prefix {a} {b} {c} {d} p q r s t = four_in_prefix p q r s ∙ onto a (onto b (onto c (onto d t)))
 
 pub quad_short : (t a b c d : List ℕ) (ws : List (List ℕ)) → ws ≡ a ∷ b ∷ c ∷ d ∷ words_of t → begins_with_number (words_of t) ≡ false → quad_words ws ≡ None
 quad_short t a b c d ws h n = ap quad_words h ∙ no_five a b c d (words_of t) n

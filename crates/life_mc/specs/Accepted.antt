@@ -26,6 +26,6 @@ IsOutsideMacrocellPlane top x y = (x <ℤ neg_ℤ (macrocell_plane_end top)) ⊎
 abbrev pub MacrocellsAreBlankOutside : ℕ → Type 0
 MacrocellsAreBlankOutside top = (file : Macrocell) (x y : ℤ) → IsValidMacrocell top file → IsOutsideMacrocellPlane top x y → macrocell_cell file x y ≡ 0
 
--- each node line behind the header counts, whether the root reaches its square or not
+-- each node line after the header counts, whether the root reaches its square or not
 abbrev pub NodeLinesCounted : ℕ → Type 0
 NodeLinesCounted top = (bytes : List ℕ) (file : Macrocell) → IsMacrocell top bytes file → node_lines file ≡ count_by is_node_line (drop 1 (lines_of bytes))

@@ -29,7 +29,7 @@ Separates [] line = is_blank line ≡ true
 Separates (text ∷ texts) line =
     (before : List ℕ) × (rest : List ℕ) × (line ≡ before ++ (text ++ rest)) × (is_blank before ≡ true) × (is_blank (take 1 rest) ≡ true) × Separates texts rest
 
--- ---- the lines behind the first
+-- ---- the lines after the first
 
 -- A comment begins with `#` and is no line that means something.
 pub record IsMacrocellComment (line : List ℕ) : Type 0 where
@@ -66,7 +66,7 @@ is_row row = list_all is_cell row && nat_le (length row) 8
 abbrev pub state_in_row : List ℕ → ℕ → ℕ
 state_in_row row column = if slice_index row column == byte "*" then 1 else 0
 
--- A leaf line: at most eight rows that `$` ends, and behind the last `$` further cells where the rows are fewer; the bytes
+-- A leaf line: at most eight rows that `$` ends, and after the last `$` further cells where the rows are fewer; the bytes
 -- hold the states of their cells.
 pub record IsLeafLine (line : List ℕ) (bytes : List ℕ) : Type 0 where
   pub rows : List (List ℕ)
@@ -94,7 +94,7 @@ IsNodeLine line (Quad level nw ne sw se) = IsQuarterLine line level nw ne sw se
 
 -- ---- a file
 
--- what a line behind the first can be
+-- what a line after the first can be
 pub data Form : Type 0 where
   blank_line : Form
   comment_line : Form
@@ -129,7 +129,7 @@ is_no_command (rule_line rule) = false
 is_no_command (generation_line generation) = false
 is_no_command _ = true
 
--- no line behind the first node line tells a rule or a generation
+-- no line after the first node line tells a rule or a generation
 abbrev pub are_in_order : List Form → Bool
 are_in_order [] = true
 are_in_order (node_line square ∷ forms) = list_all is_no_command forms

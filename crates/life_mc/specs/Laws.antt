@@ -20,17 +20,17 @@ MacrocellFaultsAreUnique top = (lines : List (List ℕ)) (a b : Fault) → Refus
 abbrev pub IsUnbrokenMacrocell : ℕ → List (List ℕ) → Type 0
 IsUnbrokenMacrocell top lines = (k : ℕ) → k < length lines → broken_rule top (take k lines) (slice_index_or lines k []) ≡ None
 
--- lines are the front of a file exactly if no line breaks a rule
+-- lines are a prefix of a file exactly if no line breaks a rule
 abbrev pub MacrocellPrefixesAreUnbroken : ℕ → Type 0
 MacrocellPrefixesAreUnbroken top = (lines : List (List ℕ)) → Prefix (AcceptsMacrocell top) lines ↔ IsUnbrokenMacrocell top lines
 
--- lines, of which there are some, are the front of a file exactly if they are a file: behind the first line any front is whole
+-- lines, of which there are some, are a prefix of a file exactly if they are a file: after the first line any prefix is whole
 abbrev pub MacrocellPrefixesAreFiles : ℕ → Type 0
 MacrocellPrefixesAreFiles top = (lines : List (List ℕ)) → 0 < length lines → Prefix (AcceptsMacrocell top) lines ↔ AcceptsMacrocell top lines
 
 -- a line breaks the rule of lengths exactly if it has more than 2 ^ 20 bytes
 abbrev pub LongMacrocellLinesBreak : ℕ → Type 0
-LongMacrocellLinesBreak top = (front : List (List ℕ)) (line : List ℕ) → broken_rule top front line ≡ Some LineTooLong ↔ 2 ^ 20 < length line
+LongMacrocellLinesBreak top = (prefix : List (List ℕ)) (line : List ℕ) → broken_rule top prefix line ≡ Some LineTooLong ↔ 2 ^ 20 < length line
 
 -- each kind of the format names a line
 abbrev pub MacrocellKindsNameLines : Type 0

@@ -29,11 +29,11 @@ is_node_line line = not (is_blank line) && not (begins_with line (codes "#"))
 abbrev pub is_leaf_byte : ℕ → Bool
 is_leaf_byte b = b == byte "." || b == byte "*" || b == byte "$"
 
--- the rows of a leaf, each ended by `$`; behind the last `$` a further one
+-- the rows of a leaf, each ended by `$`; after the last `$` a further one
 abbrev pub leaf_rows : List ℕ → List (List ℕ)
 leaf_rows text = slice_split (λ b. b == byte "$") text
 
--- behind the eighth `$` stands nothing
+-- after the eighth `$` stands nothing
 abbrev pub is_at_end : List (List ℕ) → Bool
 is_at_end [] = true
 is_at_end ([] ∷ []) = true
@@ -94,7 +94,7 @@ abbrev pub generation_in_force : List (List ℕ) → ℕ
 generation_in_force [] = 0
 generation_in_force (header ∷ lines) = last_or 0 (filter_map generation_on lines)
 
--- the square that a line gives behind these lines
+-- the square that a line gives after these lines
 abbrev pub square_after : List (List ℕ) → List ℕ → Option Line
 square_after [] line = None
 square_after (header ∷ lines) line = square_on line
@@ -115,7 +115,7 @@ broken_by_node top rule levels text =
     if is_leaf_byte (slice_index text 0) && not (is_leaf text) then Some BadLeaf
     else broken_by_square top rule levels (square_of_text text)
 
--- the rule that a line behind the header breaks, where this rule is in force and the squares before have these levels
+-- the rule that a line after the header breaks, where this rule is in force and the squares before have these levels
 abbrev pub broken_after : ℕ → Rule → List ℕ → List ℕ → Option Kind
 broken_after top rule levels line =
     if is_blank line then None
@@ -126,11 +126,11 @@ broken_after top rule levels line =
     else (if begins_with line (codes "#") then None
     else broken_by_node top rule levels (trim line))))))
 
--- the rule that a line breaks behind the header and these lines
+-- the rule that a line breaks after the header and these lines
 abbrev pub broken_rule_after : ℕ → List (List ℕ) → List ℕ → Option Kind
 broken_rule_after top before line = broken_after top (rule_in_force before) (map level_of (squares_of before)) line
 
--- The first rule of the format that a line breaks behind these lines, if it breaks one. Behind lines of which one breaks a rule
+-- The first rule of the format that a line breaks after these lines, if it breaks one. After lines of which one breaks a rule
 -- it means nothing.
 unfoldable pub broken_rule : ℕ → List (List ℕ) → List ℕ → Option Kind
 broken_rule top before line =
@@ -169,4 +169,5 @@ is_macrocell_kind kind = is_one_of (kinds.BadNode ∷ kinds.BadLevel ∷ kinds.B
 
 -- a line breaks a rule with one of these
 abbrev pub MacrocellLinesBreakByKinds : ℕ → Type 0
-MacrocellLinesBreakByKinds top = (front : List (List ℕ)) (line : List ℕ) (kind : Kind) → broken_rule top front line ≡ Some kind → is_macrocell_kind kind ≡ true
+MacrocellLinesBreakByKinds top = (prefix : List (List ℕ)) (line : List ℕ) (kind : Kind) → broken_rule top prefix line ≡ Some kind
+    → is_macrocell_kind kind ≡ true

@@ -45,7 +45,7 @@ pub record StandsForSquare (rule : Rule) (lines : List Line) (level number : ℕ
   pub states : HasStatesUpTo (largest_state rule) (tree_of lines level number)
   pub cells : (column row : ℕ) → column < 2 ^ level → row < 2 ^ level → state_at (tree_of lines level number) column row
       ≡ cell_in_node lines level number column row
-  pub by_front : tree_of (take number lines) level number ≡ tree_of lines level number
+  pub by_prefix : tree_of (take number lines) level number ≡ tree_of lines level number
 
 -- The number of each line stands for a square of its level, so does that of the root, and the cells of the file are those
 -- of the root's square.

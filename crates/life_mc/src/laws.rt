@@ -19,12 +19,12 @@ pub fn faults_are_unique()
 {}
 
 /// Lines can be continued to a file exactly if none of them breaks a rule.
-pub fn fronts_are_unbroken()
+pub fn prefixes_are_unbroken()
     ensures { MacrocellPrefixesAreUnbroken MAX_LEVEL }
 {}
 
 /// One or more lines are the prefix of a file exactly if they are a file.
-pub fn fronts_are_files()
+pub fn prefixes_are_files()
     ensures { MacrocellPrefixesAreFiles MAX_LEVEL }
 {}
 

@@ -16,7 +16,7 @@ fn cell_places(text: &[u8]) -> u64
 }
 
 /// How many of the first eight bytes of a text are cells, up to the first that is none. Bit 8 represents the byte after these.
-fn cells_in_front(text: &[u8]) -> usize
+fn cells_in_prefix(text: &[u8]) -> usize
     requires { 8 ≤ length text.now }
     ensures { result ≡ leading_cells 8 text.now }
 {
@@ -50,7 +50,7 @@ fn whole_row(text: &[u8]) -> Option<(u8, usize)>
     requires { 8 < length text.now }
     ensures { TellsRow (first_row text.now) result }
 {
-    let end = cells_in_front(text);
+    let end = cells_in_prefix(text);
     if text[end] != b'$' {
         return None;
     }

@@ -42,4 +42,4 @@ pub use line::Line;
 pub use line_writing::{LONGEST_NODE_LINE, append_line, write_line};
 pub use lines::McLines;
 pub use reading::read_mc;
-pub use writing::{append_front, write_mc};
+pub use writing::{append_prefix, write_mc};

@@ -89,7 +89,7 @@ fn parse_command(
 /// The square of a quarter line, where this is the rule and these the levels so far.
 #[inline(always)]
 pub(crate) fn parse_quad(rule: &Rule, levels: &[u8], line: &[u8]) -> Result<Line, Kind>
-    requires room { length levels.now < 2 ^ 64 - 1 }
+    requires space { length levels.now < 2 ^ 64 - 1 }
     requires node { is_node_line line.now ≡ true }
     requires quad { is_leaf_byte (slice_index (trim line.now) 0) ≡ false }
     ensures { MatchResult result (λ square. IsParsed line.now (NodeLine square)

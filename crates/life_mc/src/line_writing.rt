@@ -296,15 +296,15 @@ fn row_length(row: u8) -> usize
 
 /// Writes a row of a leaf from a place on, and returns where it ends. Up to nine bytes from that place on are overwritten.
 #[inline(always)]
-fn write_row(room: &mut [u8], at: usize, row: u8) -> usize
-    requires { at + 9 ≤ length room.old }
-    ensures written { take result room.new ≡ take at room.old ++ row_text row }
-    ensures behind { drop (at + 9) room.new ≡ drop (at + 9) room.old }
+fn write_row(space: &mut [u8], at: usize, row: u8) -> usize
+    requires { at + 9 ≤ length space.old }
+    ensures written { take result space.new ≡ take at space.old ++ row_text row }
+    ensures behind { drop (at + 9) space.new ≡ drop (at + 9) space.old }
     ensures end { result ≤ at + 9 }
 {
-    room[at..at + 8].copy_from_slice(&ROW_WORDS[usize::from(row)].to_le_bytes());
+    space[at..at + 8].copy_from_slice(&ROW_WORDS[usize::from(row)].to_le_bytes());
     let end = at + row_length(row);
-    room[end - 1] = b'$';
+    space[end - 1] = b'$';
     end
 }
 

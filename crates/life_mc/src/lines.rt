@@ -195,7 +195,7 @@ impl McLines {
             (self.new ≡ record { lines = self.old.lines ++ line.now ∷ []; refused = false }) }
 
         // The lines so far are a prefix of a file, and the answer is the square of the line.
-        ensures front { OnOk result (Prefix (AcceptsMacrocell MAX_LEVEL) self.new.lines) }
+        ensures prefix { OnOk result (Prefix (AcceptsMacrocell MAX_LEVEL) self.new.lines) }
         ensures square { IfOk result (λ square. square ≡ square_after self.old.lines line.now) }
         ensures squares { IfOk result (λ square. squares_of self.new.lines
             ≡ squares_of self.old.lines ++ cons_option square []) }
@@ -211,12 +211,12 @@ impl McLines {
             return Err(Kind::Spent);
         }
         self.refused = true;
-        let taken = self.kept.take(line);
-        if taken.is_ok() {
+        let consumed = self.kept.take(line);
+        if consumed.is_ok() {
             self.log = self.log.then(line);
             self.refused = false;
         }
-        taken
+        consumed
     }
 
     /// The rule and the generation of the file that the lines are.

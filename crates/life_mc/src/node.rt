@@ -115,7 +115,7 @@ pub(crate) fn begins_with_digit(line: &[u8]) -> bool
 /// The square of a node line that doesn't begin as a leaf.
 #[inline(always)]
 pub(crate) fn read_quad(rule: &Rule, levels: &[u8], line: &[u8]) -> Result<Line, Kind>
-    requires room { length levels.now < 2 ^ 64 - 1 }
+    requires space { length levels.now < 2 ^ 64 - 1 }
     requires quad { is_leaf_byte (slice_index (trim line.now) 0) ≡ false }
     ensures { MatchResult result (λ square. (square_of_text (trim line.now) ≡ Some square)
         × (broken_by_node MAX_LEVEL rule.now levels.now (trim line.now) ≡ None))

@@ -25,7 +25,7 @@ fn append_lines(out: &mut Vec<u8>, lines: &[Line]) -> Result<(), Kind>
 /// # Errors
 ///
 /// `Memory`, and nothing else. What `out` holds then is not promised: drop it.
-pub fn append_front(out: &mut Vec<u8>, rule: &Rule, generation: u64) -> Result<(), Kind>
+pub fn append_prefix(out: &mut Vec<u8>, rule: &Rule, generation: u64) -> Result<(), Kind>
     ensures ok { OnOk result (out.new.items ≡ out.old.items
         ++ header_lines_text rule.now generation) }
     ensures kind { IfErr result IsMemory }
@@ -47,7 +47,7 @@ fn append_parts(out: &mut Vec<u8>, rule: &Rule, generation: u64, lines: &[Line])
         (out.new.items ≡ out.old.items ++ file_text rule.now generation lines.now) }
     ensures err { IfErr result IsMemory }
 {
-    append_front(out, rule, generation)?;
+    append_prefix(out, rule, generation)?;
     append_lines(out, lines)
 }
 

@@ -17,7 +17,7 @@ IsBand-west : (k : ℕ) (west other : ℤ) (band : List Piece) → other ≤ℤ 
 IsBand-west k west other [] le h = tt
 IsBand-west k west other (p ∷ band) le h = let w = h.3 in (h.0, h.1, h.2, omega (arith, ints), h.4)
 
--- a square in front of a band, if it isn't blank
+-- a square before a band, if it isn't blank
 IsBand-kept : (k : ℕ) (west : ℤ) (t : Tree) (column : ℤ) (band : List Piece) → IsFull t → depth t ≡ k → west ≤ℤ column → IsBand k (column +ℤ pos (2 ^ k)) band
     → IsBand k west (piece_unless_blank t column ++ band)
 IsBand-kept k west t column band full d le h = by (is_blank_tree t) refl

@@ -28,7 +28,7 @@ use Rattle.life_quad.proofs.MakingLemmas.{Joins}
 use Rattle.life_quad.proofs.GrowLemmas.{with_id, with_node, with_both, IsSound-id, IsSound-both, IsShared-id, IsShared-both}
 
 -- one more node is within the limit and gets an Id of 32 bits
-pub record HasRoom (s : Nodes) : Type 0 where
+pub record HasSpace (s : Nodes) : Type 0 where
   pub limit : length s.log < s.limit
   pub few : 66064 + length s.nodes < 2 ^ 32
 
@@ -128,7 +128,7 @@ small_level s id h l u = ap depth (square_of-small (squares s.nodes) id l u) ∙
     by true e = rw e refl
     by false e = rw e refl
 
--- the Id of a square of a level or a higher one that isn't blank comes behind those of all small squares, unless the level may be that of one
+-- the Id of a square of a level or a higher one that isn't blank comes after those of all small squares, unless the level may be that of one
 pub from_first : (s : Nodes) (level : ℕ) (id : Id) → Knows s id → level ≤ depth (content s id) → is_blank_tree (content s id) ≡ false → first_of level ≤ id.0
 from_first s level id h high shown = by (nat_lt 2 level) refl
   where
@@ -335,11 +335,11 @@ absent_small s k h u small absent there = by
 -- a small square that is joined
 pub joined_small : (s : Nodes) (k : ℕ) → IsSoundStore s → IsShared s → IsSmall s.log (squares s.nodes) k → ¬ Contains s.log k → length s.log < s.limit
     → Joined s (with_id s k) (small_square k) (id_of k)
-joined_small s k h u small absent room =
+joined_small s k h u small absent space =
     let q = small.quarters in
     let r = small_range q.nw q.ne q.sw q.se k small.number in
     let sound = IsSound-id s k h (λ _. small) in
-    let shared = IsShared-id s k u absent r.1 room in
+    let shared = IsShared-id s k u absent r.1 space in
     let grown : squares s.nodes ≡ squares s.nodes ++ [] = sym (append-nil (squares s.nodes)) in
     let is : content (with_id s k) (id_of k) ≡ small_square k = square_of-small (squares s.nodes) (id_of k) r.0 r.1 in
     is_new (absent_small s k h u small absent)
@@ -372,12 +372,12 @@ square_of-last s n node new e sound =
 
 -- a node that is stored
 pub joined_node : (s : Nodes) (n : Node) → IsSoundStore s → IsShared s → IsNode s.log (squares s.nodes) (length s.nodes) n → small_number_of n ≡ None
-    → ¬ Contains s.nodes n → HasRoom s
+    → ¬ Contains s.nodes n → HasSpace s
     → Joined s (with_both s n) (node_square (squares s.nodes) n) (id_of (66064 + length s.nodes))
-joined_node s n h u new large absent room =
+joined_node s n h u new large absent space =
     let k = 66064 + length s.nodes in
-    let sound = IsSound-both s n h new room.few in
-    let shared = IsShared-both s n u absent large room.limit in
+    let sound = IsSound-both s n h new space.few in
+    let shared = IsShared-both s n u absent large space.limit in
     let grown = squares-push s.nodes n in
     let longer = length-append s.nodes (n ∷ []) in
     let is : content (with_both s n) (id_of k) ≡ node_square (squares s.nodes) n = square_of-last s n new (with_both s n) refl sound in
@@ -394,7 +394,7 @@ answers_ok old new t id joined limit = record {
   joined = joined;
   limit = limit;
   full = (λ e. absurd (cc), λ needs. absurd (by needs joined));
-  room = λ e. absurd (cc);
+  space = λ e. absurd (cc);
   refusals = tt;
   needed = tt;
   unchanged = tt;
@@ -416,15 +416,15 @@ answers_err s t k u absent kinds full = record {
   joined = tt;
   limit = refl;
   full = (λ e. let f : k ≡ Full = cc in (absent, length-held s ∙ full.0 f), λ needs. ap Err (full.1 (sym (length-held s) ∙ needs.1)));
-  room = λ e. room e (nat_lt (length s.log) s.limit) refl;
+  space = λ e. space e (nat_lt (length s.log) s.limit) refl;
   refusals = elim kinds [ inl f ↦ inr (f, length-held s ∙ full.0 f) | inr m ↦ inl m ];
   needed = absent;
   unchanged = refl;
 }
   where
-    room : refused k ≡ refused Memory → (b : Bool) → nat_lt (length s.log) s.limit ≡ b → length (stored_squares s) < s.limit
-    room e true g = let l : length s.log < s.limit = grind arith in omega (arith, l, length-held s)
-    room e false g =
+    space : refused k ≡ refused Memory → (b : Bool) → nat_lt (length s.log) s.limit ≡ b → length (stored_squares s) < s.limit
+    space e true g = let l : length s.log < s.limit = grind arith in omega (arith, l, length-held s)
+    space e false g =
         let l : s.limit ≤ length s.log = grind arith in
         let f = full.1 (omega (arith, l, u.len)) in
         absurd (let kind : k ≡ Memory = cc in let same : Full ≡ Memory = sym f ∙ kind in cc)
@@ -439,11 +439,11 @@ answers_refused s new t k len same u absent kinds e full = subst (λ v. AnswersJ
 -- a refusal of memory below the limit
 pub answers_memory : (s new : Nodes) (t : Tree) (r : Result Id Kind) → new ≡ s → IsShared s → ¬ Contains (stored_squares s) t → length s.log < s.limit
     → (P : Kind → Type 0) → ((k : Kind) → P k → k ≡ Memory) → IsErr r → IsErrAnd r P → AnswersJoin s new t r
-answers_memory s new t (Ok id) same u absent room P is err told = absurd (true≢false (sym err))
-answers_memory s new t (Err k) same u absent room P is err told =
-    let memory = is k told in
+answers_memory s new t (Ok id) same u absent space P is err reported = absurd (true≢false (sym err))
+answers_memory s new t (Err k) same u absent space P is err reported =
+    let memory = is k reported in
     answers_refused s new t k (length s.log) same u absent (inr memory) refl
-    (λ f. absurd (let kinds : Full ≡ Memory = sym f ∙ memory in cc), λ f. absurd (omega (arith, f, room)))
+    (λ f. absurd (let kinds : Full ≡ Memory = sym f ∙ memory in cc), λ f. absurd (omega (arith, f, space)))
 
 -- a node that a test does not find
 pub not_there : (ns : List Node) (n : Node) → list_any (eq-value.it n) ns ≡ false → ¬ Contains ns n
@@ -485,18 +485,18 @@ found old ns n i e len (k, at, same) = by (list_any (eq-value.it n) old) refl
 
 -- a store with a new node
 pub node_added : (s new : Nodes) (n : Node) (i : ℕ) → IsSoundStore s → IsShared s → IsNode s.log (squares s.nodes) (length s.nodes) n → small_number_of n ≡ None
-    → ¬ Contains s.nodes n → HasRoom s
+    → ¬ Contains s.nodes n → HasSpace s
     → new ≡ with_both s n → i ≡ length s.nodes → AnswersJoin s new (node_square (squares s.nodes) n) (Ok (id_of (66064 + i)))
-node_added s new n i h u node large absent room grown last =
+node_added s new n i h u node large absent space grown last =
     subst (λ v. AnswersJoin s v (node_square (squares s.nodes) n) (Ok (id_of (66064 + i)))) (sym grown)
     (subst (λ j. AnswersJoin s (with_both s n) (node_square (squares s.nodes) n) (Ok (id_of (66064 + j)))) (sym last)
-    (answers_ok s (with_both s n) (node_square (squares s.nodes) n) (id_of (66064 + length s.nodes)) (joined_node s n h u node large absent room) refl))
+    (answers_ok s (with_both s n) (node_square (squares s.nodes) n) (id_of (66064 + length s.nodes)) (joined_node s n h u node large absent space) refl))
 
 pub sound_added : (s new : Nodes) (n : Node) → IsSoundStore s → IsShared s → IsNode s.log (squares s.nodes) (length s.nodes) n → small_number_of n ≡ None
-    → ¬ Contains s.nodes n → HasRoom s
+    → ¬ Contains s.nodes n → HasSpace s
     → new ≡ with_both s n → IsSoundStore new × IsShared new
-sound_added s new n h u node large absent room grown =
-    subst (λ v. IsSoundStore v × IsShared v) (sym grown) (IsSound-both s n h node room.few, IsShared-both s n u absent large room.limit)
+sound_added s new n h u node large absent space grown =
+    subst (λ v. IsSoundStore v × IsShared v) (sym grown) (IsSound-both s n h node space.few, IsShared-both s n u absent large space.limit)
 
 -- the marks of the small squares, where none was joined
 pub HasSeen-none : (seen : Id → Bool) (log : List ℕ) → ((q : Id) → seen q ≡ false) → log ≡ [] → HasSeen seen log
@@ -550,16 +550,16 @@ unseen seen log k h low mark there = true≢false (sym (h.listed k there low) �
 pub small_added : (s new : Nodes) (k : ℕ) → IsSoundStore s → IsShared s → IsSmall s.log (squares s.nodes) k → ¬ Contains s.log k → length s.log < s.limit
     → new ≡ with_id s k
     → AnswersJoin s new (small_square k) (Ok (id_of k))
-small_added s new k h u small absent room grown =
+small_added s new k h u small absent space grown =
     subst (λ v. AnswersJoin s v (small_square k) (Ok (id_of k))) (sym grown)
-    (answers_ok s (with_id s k) (small_square k) (id_of k) (joined_small s k h u small absent room) refl)
+    (answers_ok s (with_id s k) (small_square k) (id_of k) (joined_small s k h u small absent space) refl)
 
 pub sound_marked : (s new : Nodes) (k : ℕ) → IsSoundStore s → IsShared s → IsSmall s.log (squares s.nodes) k → ¬ Contains s.log k → length s.log < s.limit
     → new ≡ with_id s k → IsSoundStore new × IsShared new
-sound_marked s new k h u small absent room grown =
+sound_marked s new k h u small absent space grown =
     let q = small.quarters in
     let r = small_range q.nw q.ne q.sw q.se k small.number in
-    subst (λ v. IsSoundStore v × IsShared v) (sym grown) (IsSound-id s k h (λ _. small), IsShared-id s k u absent r.1 room)
+    subst (λ v. IsSoundStore v × IsShared v) (sym grown) (IsSound-id s k h (λ _. small), IsShared-id s k u absent r.1 space)
 
 pub small_there : (s : Nodes) (k : ℕ) → IsSoundStore s → IsShared s → IsSmall s.log (squares s.nodes) k → Contains s.log k
     → AnswersJoin s s (small_square k) (Ok (id_of k))
@@ -603,7 +603,7 @@ module _ (old new : Nodes) (t : Tree) (deep : 0 < depth t) (not_blank : is_blank
             there = λ unneeded. ap stored_squares same;
             fresh = λ needs k. needs.1 there;
             full = full_if_needed (Ok id) a;
-            room = a.room;
+            space = a.space;
             refusals = tt;
             needed = tt;
             unchanged = tt;
@@ -624,7 +624,7 @@ module _ (old new : Nodes) (t : Tree) (deep : 0 < depth t) (not_blank : is_blank
                 absent (subst (Contains (stored_squares old)) same
                 (held-complete old k.1 id k.0 (ap is_blank_tree same ∙ not_blank) (subst (λ z. 0 < depth z) (sym same) deep)));
             full = full_if_needed (Ok id) a;
-            room = a.room;
+            space = a.space;
             refusals = tt;
             needed = tt;
             unchanged = tt;
@@ -639,7 +639,7 @@ module _ (old new : Nodes) (t : Tree) (deep : 0 < depth t) (not_blank : is_blank
         there = tt;
         fresh = tt;
         full = full_if_needed (Err k) a;
-        room = a.room;
+        space = a.space;
         refusals = a.refusals;
         needed = (not_blank, a.needed);
         unchanged = a.unchanged;
@@ -677,7 +677,7 @@ module _ (s : Nodes) (nw ne sw se : Id) (a : Knows s nw) (b : Knows s ne) (c : K
   pub IsNode-joined : depth (square_of (squares s.nodes) nw) < MAX_LEVEL
       → (is_blank_id nw && is_blank_id ne && is_blank_id sw && is_blank_id se) ≡ false
       → IsNode s.log (squares s.nodes) (length s.nodes) (node_of nw ne sw se)
-  IsNode-joined room h =
+  IsNode-joined space h =
       record {
         nw = record { named = a.named; joined = a.joined };
         ne = record { named = b.named; joined = b.joined };
@@ -775,12 +775,12 @@ IsWantKind-left (Err k) old new kinds full same = elim kinds [
   | inr m ↦ inl m
 ]
 
--- a store that was refused memory for a node has room for it
-pub room_left : {T : Type 0} (r : Result T Kind) (old new : Nodes) → length old.nodes ≤ old.limit → (r ≡ Err Full) ↔ (length old.nodes ≡ old.limit)
+-- a store that was refused memory for a node has space for it
+pub space_left : {T : Type 0} (r : Result T Kind) (old new : Nodes) → length old.nodes ≤ old.limit → (r ≡ Err Full) ↔ (length old.nodes ≡ old.limit)
     → OnErr r (new ≡ old)
     → r ≡ Err Memory → length (squares new.nodes) < new.limit
-room_left (Ok x) old new h full same e = absurd (cc)
-room_left (Err k) old new h full same e = subst (λ s. length (squares s.nodes) < s.limit) (sym same) (by (nat_lt (length old.nodes) old.limit) refl)
+space_left (Ok x) old new h full same e = absurd (cc)
+space_left (Err k) old new h full same e = subst (λ s. length (squares s.nodes) < s.limit) (sym same) (by (nat_lt (length old.nodes) old.limit) refl)
   where
     len : length (squares old.nodes) ≡ length old.nodes
     len = length-squares old.nodes

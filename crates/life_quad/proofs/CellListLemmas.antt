@@ -318,7 +318,7 @@ module _ (level : ℕ) (row first middle : ℤ) (content : Id → Tree) (named s
   both_lengths : length (band_cells level row both) ≡ length (band_cells (level - 1) first north) + length (band_cells (level - 1) middle south)
   both_lengths = ap length halves_are ∙ length-append (band_cells (level - 1) first north) (band_cells (level - 1) middle south)
 
-  -- more cells in a half than a limit leaves room for are more in the whole
+  -- more cells in a half than a limit leaves space for are more in the whole
   pub more_in_first : {T : Type 0} (r : Result T Kind) (old limit : ℕ)
       → IfErr r (λ e. e ≡ TooManyCells → limit < old + length (band_cells (level - 1) first north))
       → IfErr r (λ e. e ≡ TooManyCells → limit < old + length (band_cells level row both))
@@ -368,12 +368,12 @@ module _ (content : Id → Tree) (band : List Placed) (i : ℕ) (d : Placed) (lt
   pieces_more = ap (pieces content) (take_more band i d lt) ∙ map_push (λ p. record { square = content p.square; column = p.column }) (take i band)
       (get_or band i d)
 
-  -- its quarters, behind those of the squares before it
+  -- its quarters, after those of the squares before it
   pub quarters_more : (f : Piece → List Piece) (old new : List Piece) → old ≡ flat_map f (pieces content (take i band)) → new ≡ old ++ f piece
       → new ≡ flat_map f (pieces content (take (i + 1) band))
   quarters_more f old new e g = g ∙ ap (λ l. l ++ f piece) e ∙ flat_map_more f [] (pieces content (take i band)) piece ∙ ap (flat_map f) (sym pieces_more)
 
-  -- its cell, behind those of the squares before it
+  -- its cell, after those of the squares before it
   pub cell_more : (row column : ℤ) (state : ℕ) (old list new : List Cell) → list ≡ old ++ row_cells row (pieces content (take i band))
       → new ≡ list ++ record { x = column; y = row; state = state } ∷ [] → content (get_or band i d).square ≡ point state → column ≡ (get_or band i d).column
       → new ≡ old ++ row_cells row (pieces content (take (i + 1) band))

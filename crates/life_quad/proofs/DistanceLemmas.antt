@@ -17,7 +17,7 @@ distance_within East t n h = let r = h.cell.column in let f = h.far in omega ari
 at_cell : {side : Side} {t : Tree} {i j n : ℕ} → IsNonzeroAt t i j → distance side (2 ^ depth t) i j ≡ n → HasCellAt side t n
 at_cell {i = i} {j = j} cell far = record { column = i; row = j; cell = cell; far = far }
 
--- where a cell lies that is so far from the side, by the quarters a and b at the side and c and d behind them
+-- where a cell lies that is so far from the side, by the quarters a and b at the side and c and d after them
 data Found (side : Side) (a b c d : Tree) (half n : ℕ) : Type 0 where
   in_a : HasCellAt side a n → Found side a b c d half n
   in_b : HasCellAt side b n → Found side a b c d half n
@@ -173,7 +173,7 @@ module _ (side : Side) (t a b c d : Tree) (full : IsFull t) (is : Faces side t a
       least k m (inl h) = k.least m h
       least k m (inr (j, f, h)) = let w = near_within n k.has in omega (arith, w, f)
 
-  -- and else that of the quarters behind them and half a side more
+  -- and else that of the quarters after them and half a side more
   pub least_behind : (x y : Option ℕ) (n : ℕ) → IsLeastOf Near x → x ≡ None → IsLeastOf Behind y → y ≡ Some n
       → IsLeastNumber (HasCellAt side t) (n + 2 ^ depth a)
   least_behind x y n near none behind e =

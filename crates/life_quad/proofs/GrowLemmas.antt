@@ -45,7 +45,7 @@ IsSound-id s k h new = record {
 -- and when a node is added
 pub IsSound-push : (s : Nodes) (n : Node) → IsSoundStore s → IsNode s.log (squares s.nodes) (length s.nodes) n → 66064 + length s.nodes < 2 ^ 32
     → IsSoundStore (with_node s n)
-IsSound-push s n h new room =
+IsSound-push s n h new space =
     record {
       entries = all_nodes;
       square = all_squares;
@@ -56,7 +56,7 @@ IsSound-push s n h new room =
             is = subst (λ z. IsNode s.log z 0 old.quarters) (sym more) (IsNode-append s.log S _ 0 old.quarters (omega arith) old.is);
           };
       limit = h.limit;
-      few = omega (arith, length-append s.nodes (n ∷ []), room);
+      few = omega (arith, length-append s.nodes (n ∷ []), space);
     }
   where
     S : List Tree
@@ -102,7 +102,7 @@ IsSound-push s n h new room =
 -- both
 pub IsSound-both : (s : Nodes) (n : Node) → IsSoundStore s → IsNode s.log (squares s.nodes) (length s.nodes) n → 66064 + length s.nodes < 2 ^ 32
     → IsSoundStore (with_both s n)
-IsSound-both s n h new room = IsSound-id (with_node s n) (66064 + length s.nodes) (IsSound-push s n h new room) (λ low. absurd (omega arith))
+IsSound-both s n h new space = IsSound-id (with_node s n) (66064 + length s.nodes) (IsSound-push s n h new space) (λ low. absurd (omega arith))
 
 -- an Id that is not there is unlike each that is
 unlike : (log : List ℕ) (k : ℕ) → ¬ Contains log k → (j d : ℕ) → j < length log → get_or log j d ≢ k
@@ -110,13 +110,13 @@ unlike log k absent j d lt e = absent (subst (Contains log) e (Contains-get_or l
 
 -- no square is there twice when a small one is added
 pub IsShared-id : (s : Nodes) (k : ℕ) → IsShared s → ¬ Contains s.log k → k < 66064 → length s.log < s.limit → IsShared (with_id s k)
-IsShared-id s k h absent low room = record {
+IsShared-id s k h absent low space = record {
   once = h.once;
   apart = h.apart;
   logged = λ i lt. Contains-append_left s.log (k ∷ []) _ (h.logged i lt);
   known = λ j there. by j (Contains-push_cases s.log k j there);
   distinct = all_pairs_push ◌≢◌ s.log k h.distinct (unlike s.log k absent);
-  len = omega (arith, length-append s.log (k ∷ []), room);
+  len = omega (arith, length-append s.log (k ∷ []), space);
 }
   where
     by : (j : ℕ) → Contains s.log j ⊎ (k ≡ j) → j < 66064 + length s.nodes
@@ -125,13 +125,13 @@ IsShared-id s k h absent low room = record {
 
 -- or a node
 pub IsShared-both : (s : Nodes) (n : Node) → IsShared s → ¬ Contains s.nodes n → small_number_of n ≡ None → length s.log < s.limit → IsShared (with_both s n)
-IsShared-both s n h absent large room = record {
+IsShared-both s n h absent large space = record {
   once = λ i j m ai aj. once i j m (slice_get-push_cases s.nodes n m i ai) (slice_get-push_cases s.nodes n m j aj);
   apart = λ i m at. apart i m (slice_get-push_cases s.nodes n m i at);
   logged = λ i lt. logged i lt (nat_lt i (length s.nodes)) refl;
   known = λ j there. known j (Contains-push_cases s.log k j there);
   distinct = all_pairs_push ◌≢◌ s.log k h.distinct (unlike s.log k new);
-  len = omega (arith, length-append s.log (k ∷ []), room);
+  len = omega (arith, length-append s.log (k ∷ []), space);
 }
   where
     k : ℕ

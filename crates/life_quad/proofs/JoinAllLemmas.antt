@@ -64,7 +64,7 @@ module _ {S : Type 0} {knows : S → Id → Type 0} {content : S → Id → Tree
         ne_level = grind arith;
         sw_level = grind arith;
         se_level = grind arith;
-        room = grind arith;
+        space = grind arith;
       }
 
   -- and their square is the same
@@ -154,24 +154,24 @@ module _ {S : Type 0} {knows : S → Id → Type 0} {content : S → Id → Tree
           square : OnOk r (map (content new) others ≡ quads_of (content old) quarters);
           keeps : KeepsSquares knows content stored most old new;
           adds : AddsOnly stored (λ P. SomeOf P (quads_of (content old) quarters)) old new;
-          room : r ≡ Err Memory → length (stored new) < most new;
+          space : r ≡ Err Memory → length (stored new) < most new;
           refusals : IfErr r (IsShortageKind (stored new) (most new));
           needed : OnErr r (SomeOf (needs new) (quads_of (content old) quarters));
         }
-    joined-refused others r before lt is can told join =
-        let p = error_is r told in
+    joined-refused others r before lt is can reported join =
+        let p = error_is r reported in
         let same = same_quad before.keeps can in
         record {
           known = rw p tt;
           square = rw p tt;
           keeps = keeps-then before.keeps join.keeps;
           adds = adds-then _ before.adds join.adds (λ P a. a) (λ P a. some_of (content old) quarters lt is P (subst P same a));
-          room = λ f. join.room (ap Err (told_memory (sym p ∙ f)));
+          space = λ f. join.space (ap Err (reported_memory (sym p ∙ f)));
           refusals = rw p join.refusals;
           needed = rw p
               (some_of (content old) quarters lt is (needs new)
               (subst (needs new) same (subst (λ s. needs s (quad_of (content now) q)) (sym join.unchanged) join.needed)));
         }
       where
-        told_memory : ◌≡◌ {A = Result T Kind} (Err e) (Err Memory) → e ≡ Memory
-        told_memory same = cc
+        reported_memory : ◌≡◌ {A = Result T Kind} (Err e) (Err Memory) → e ≡ Memory
+        reported_memory same = cc

@@ -1,4 +1,4 @@
--- Calls on one store, one behind the other.
+-- Calls on one store, one after the other.
 use Rattle.std.proofs.Common.{◌≡◌, ◌∙◌, ℕ, List, [], ◌∷◌, ◌++◌, Result, Ok, Err, OnOk, OnErr, refl, inl, inr, subst, Contains}
 use Rattle.std.proofs.lemmas.List.Elements.{Contains-push_cases}
 use Rattle.life_base.specs.Tree.{Tree}
@@ -14,7 +14,7 @@ module _ {S : Type 0} {knows : S → Id → Type 0} {content : S → Id → Tree
     limit = refl;
   }
 
-  -- what two calls keep, one behind the other
+  -- what two calls keep, one after the other
   pub keeps-then : {old mid new : S} → KeepsSquares knows content stored most old mid → KeepsSquares knows content stored most mid new
       → KeepsSquares knows content stored most old new
   keeps-then first second = record {
@@ -23,7 +23,7 @@ module _ {S : Type 0} {knows : S → Id → Type 0} {content : S → Id → Tree
     limit = second.limit ∙ first.limit;
   }
 
-  -- a square that a call answered, behind others
+  -- a square that a call answered, after others
   pub still : {old new : S} {id : Id} {t : Tree} → KeepsSquares knows content stored most old new → knows old id → content old id ≡ t
       → knows new id × (content new id ≡ t)
   still keeps known square = let a = keeps.contents _ known in (a.0, a.1 ∙ square)
@@ -39,7 +39,7 @@ module _ {S : Type 0} {stored : S → List Tree} where
   adds-one {old = old} {t = t} (Ok x) e same = record { each = λ u h. Contains-push_cases (stored old) t u (subst (λ l. Contains l u) e h) }
   adds-one (Err x) e same = record { each = λ u h. inl (subst (λ s. Contains (stored s) u) same h) }
 
-  -- two calls, one behind the other
+  -- two calls, one after the other
   pub adds-then : {A B : (Tree → Type 0) → Type 0} {old mid new : S} (C : (Tree → Type 0) → Type 0) → AddsOnly stored A old mid → AddsOnly stored B mid new
       → ((P : Tree → Type 0) → A P → C P) → ((P : Tree → Type 0) → B P → C P) → AddsOnly stored C old new
   adds-then C first second f g =

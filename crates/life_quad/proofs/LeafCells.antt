@@ -142,7 +142,7 @@ eight_not_blank n l some = by (is_blank_tree (eight n)) refl
     by false e = refl
     by true e = absurd (let z = eight_blank n l e in omega (arith, z, some))
 
--- ---- calls that make the quarters one behind the other
+-- ---- calls that make the quarters one after the other
 
 -- what the first two add, and the first three
 module _ {S : Type 0} {stored : S → List Tree} (cells : ℕ) {o s_1 s_2 : S} (nw : AddsOnly stored (λ P. SomePart P (four (cells / 281474976710656))) o s_1)

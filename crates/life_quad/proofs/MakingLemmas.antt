@@ -22,7 +22,7 @@ module _ {S : Type 0} (knows : S → Id → Type 0) (content : S → Id → Tree
         there : OnOk r (¬ needs old t → stored new ≡ stored old);
         fresh : IfOk r (λ id. needs old t → ¬ knows old id);
         full : (r ≡ Err Full) ↔ (needs old t × (length (stored old) ≡ most old));
-        room : r ≡ Err Memory → length (stored new) < most new;
+        space : r ≡ Err Memory → length (stored new) < most new;
         refusals : IfErr r (IsShortageKind (stored new) (most new));
         needed : OnErr r (needs old t);
         unchanged : OnErr r (new ≡ old);
@@ -33,20 +33,20 @@ module _ {S : Type 0} {knows : S → Id → Type 0} {content : S → Id → Tree
   pub made : {T : Type 0} {Known Square : T → Type 0} {Needed : Type 0} {old new : S} (x : T) → Known x → Square x
       → KeepsSquares knows content stored most old new → MakesSquares knows content stored most old new Known Square Needed (Ok x)
   made x known square keeps =
-      record { known = known; square = square; keeps = keeps; refusals = tt; room = λ f. absurd (cc); needed = tt }
+      record { known = known; square = square; keeps = keeps; refusals = tt; space = λ f. absurd (cc); needed = tt }
 
   -- a refusal that is passed on
   pub refused : {T : Type 0} {old new : S} {needed : Type 0} {e : Kind} (known square : T → Type 0) (r : Result T Kind) → IsErrAnd r (λ f. f ≡ e)
       → KeepsSquares knows content stored most old new → IsShortageKind (stored new) (most new) e → (e ≡ Memory → length (stored new) < most new)
       → needed → MakesSquares knows content stored most old new known square needed r
-  refused known square r told keeps kinds room needed =
-      let p = error_is r told in
+  refused known square r reported keeps kinds space needed =
+      let p = error_is r reported in
       record {
         known = rw p tt;
         square = rw p tt;
         keeps = keeps;
         refusals = rw p kinds;
-        room = λ f. room (let same = sym p ∙ f in cc);
+        space = λ f. space (let same = sym p ∙ f in cc);
         needed = rw p needed;
       }
 
@@ -55,7 +55,16 @@ module _ {S : Type 0} {knows : S → Id → Type 0} {content : S → Id → Tree
     pub joined : {old new : S} {t : Tree} (r : Result Id Kind) → Joins knows content stored most needs old new t r
         → MakesOneSquare knows content stored most needs old new t (λ P. P t) r
     joined {old} {new} {t} r j =
-        record { known = j.known; square = j.square; keeps = j.keeps; adds = j.adds; refusals = j.refusals; room = j.room; needed = now r j.needed j.unchanged }
+        record {
+          known = j.known;
+          square = j.square;
+          keeps = j.keeps;
+          adds = j.adds;
+          refusals = j.refusals;
+          space = j.space;
+          needed =
+              now r j.needed j.unchanged;
+        }
       where
         now : (r : Result Id Kind) → OnErr r (needs old t) → OnErr r (new ≡ old) → OnErr r (needs new t)
         now (Ok id) before same = tt
@@ -73,7 +82,7 @@ module _ {S : Type 0} {knows : S → Id → Type 0} {content : S → Id → Tree
           keeps = keeps-then first last.keeps;
           adds = adds-then Needs before last.adds (λ P a. a) why;
           refusals = last.refusals;
-          room = last.room;
+          space = last.space;
           needed = on_err_weaker r (why (needs new)) last.needed;
         }
 
@@ -82,22 +91,22 @@ module _ {S : Type 0} {knows : S → Id → Type 0} {content : S → Id → Tree
         → IsErrAnd r (λ f. f ≡ e) → KeepsSquares knows content stored most old mid → AddsOnly stored Needs old mid
         → MakesOneSquare knows content stored most needs mid new t M (Err e) → ((P : Tree → Type 0) → M P → Needs P)
         → MakesOneSquare knows content stored most needs old new u Needs r
-    refused-behind {new = new} Needs r told first before call why =
-        let p = error_is r told in
+    refused-behind {new = new} Needs r reported first before call why =
+        let p = error_is r reported in
         record {
           known = rw p tt;
           square = rw p tt;
           keeps = keeps-then first call.keeps;
           adds = adds-then Needs before call.adds (λ P a. a) why;
           refusals = rw p call.refusals;
-          room = λ f. call.room (sym p ∙ f);
+          space = λ f. call.space (sym p ∙ f);
           needed = rw p (why (needs new) call.needed);
         }
 
     pub refused-only : {old mid new : S} {t u : Tree} {e : Kind} (Needs : (Tree → Type 0) → Type 0) (r : Result Id Kind) → IsErrAnd r (λ f. f ≡ e)
         → KeepsSquares knows content stored most old mid → AddsOnly stored Needs old mid → Joins knows content stored most needs mid new t (Err e)
         → ((P : Tree → Type 0) → P t → Needs P) → MakesOneSquare knows content stored most needs old new u Needs r
-    refused-only {e = e} Needs r told first before join why = refused-behind Needs r told first before (joined (Err e) join) why
+    refused-only {e = e} Needs r reported first before join why = refused-behind Needs r reported first before (joined (Err e) join) why
 
   -- calls that end with a join, of whose square something is said
   pub joined-last : {old mid new : S} {t : Tree} {needed : Type 0} (needs : S → Tree → Type 0) (square : Tree → Type 0) (r : Result Id Kind)
@@ -110,6 +119,6 @@ module _ {S : Type 0} {knows : S → Id → Type 0} {content : S → Id → Tree
         square = IfOk-weaker r _ _ (λ id same. subst square (sym same) is) last.square;
         keeps = keeps-then first last.keeps;
         refusals = last.refusals;
-        room = last.room;
+        space = last.space;
         needed = on_err_weaker r why last.needed;
       }

@@ -22,7 +22,7 @@ one_place m n e = by (m / 256) (n / 256) (m / 256 == 258) (n / 256 == 258) (nat_
     by p q false false false true f g h k e = grind (arith, common_steps)
     by p q false false false false f g h k e = e
 
--- absent values behind the others change none
+-- absent values after the others change none
 pub filled : {X : Type 0} (values : List X) (n i : ℕ) (absent : X) → get_or (values ++ replicate n absent) i absent ≡ get_or values i absent
 filled {X} values n i absent = by (nat_lt i (length values)) refl
   where
@@ -49,8 +49,8 @@ behind starts size m n h place none = by (cases_lt (index_in starts n) size)
 -- one page more
 pub one_page : (starts new : List ℕ) (size more place : ℕ) → ArePages starts size → more ≡ size + 256 → more ≤ 4294967295 → start_in new place ≡ size
     → ((p : ℕ) → p ≢ place → start_in new p ≡ start_in starts p) → ArePages new more
-one_page starts new size more place h sum room here others = record
-    { few = room; whole = λ p l. whole p l (cases_eq p place); apart = λ m n e l. apart m n e l (cases_eq (place_of m) place) (cases_eq (place_of n) place) }
+one_page starts new size more place h sum space here others = record
+    { few = space; whole = λ p l. whole p l (cases_eq p place); apart = λ m n e l. apart m n e l (cases_eq (place_of m) place) (cases_eq (place_of n) place) }
   where
     whole : (p : ℕ) → start_in new p < 4294967295 → (p ≡ place) ⊎ (p ≢ place) → start_in new p + 256 ≤ more
     whole p l (inl same) = let start : start_in new p ≡ size = ap (start_in new) same ∙ here in omega (arith, start, sum)
@@ -66,17 +66,17 @@ one_page starts new size more place h sum room here others = record
     apart m n e l (inl a) (inr b) =
         let f : start_in new (place_of m) ≡ size = ap (start_in new) a ∙ here in
         let g = others (place_of n) b in
-        let old = inside starts size n h (omega (arith, g, l, sum, room)) in
+        let old = inside starts size n h (omega (arith, g, l, sum, space)) in
         omega (arith, e, f, g, old)
     apart m n e l (inr a) (inl b) =
         let f = others (place_of m) a in
         let g : start_in new (place_of n) ≡ size = ap (start_in new) b ∙ here in
-        let old = inside starts size m h (omega (arith, e, f, l, sum, room)) in
+        let old = inside starts size m h (omega (arith, e, f, l, sum, space)) in
         omega (arith, e, f, g, old)
     apart m n e l (inr a) (inr b) =
         let f = others (place_of m) a in
         let g = others (place_of n) b in
-        h.apart m n (omega (arith, e, f, g)) (inside starts size n h (omega (arith, g, l, sum, room)))
+        h.apart m n (omega (arith, e, f, g)) (inside starts size n h (omega (arith, g, l, sum, space)))
 
 -- and no value is another by it
 pub same_values : {X : Type 0} (starts new : List ℕ) (values : List X) (absent : X) (place m n : ℕ) → ArePages starts (length values) → place_of m ≡ place

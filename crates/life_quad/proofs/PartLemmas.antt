@@ -73,7 +73,7 @@ pair_kept low x y (quad a b c d) f e = by low (is_blank_tree a && is_blank_tree 
         let g = all_four (is_blank_tree a) (is_blank_tree b) (is_blank_tree c) (is_blank_tree d) h in blank_two x y c d (f.5 ∙ da) (f.6 ∙ da) g.2 g.3
     by true false h = kept_two x y c d (f.5 ∙ da) (f.6 ∙ da)
 
--- the rows of bands one behind the other
+-- the rows of bands one after the other
 row_append : (low : Bool) (y : ℤ) (l m : List Piece)
     → row_cells y (half_band low 1 (l ++ m)) ≡ row_cells y (half_band low 1 l) ++ row_cells y (half_band low 1 m)
 row_append low y l m = ap (row_cells y) (flat_map-append (quarters_at low 1) l m) ∙ map-append _ (half_band low 1 l) (half_band low 1 m)
@@ -121,7 +121,7 @@ four_parts row west band w =
     (row_at false false row i ++ row_at false true (row +ℤ pos 1) i)
     ++ (row_at true false (row +ℤ pos 2) i ++ row_at true true ((row +ℤ pos 2) +ℤ pos 1) i)
 
--- four rows, one behind the other, are the cells of the band
+-- four rows, one after the other, are the cells of the band
 pub rows_are : (row r0 r1 r2 r3 : ℤ) (band : List Piece) (old first second third new : List Cell) → InBand 2 band
     → r0 ≡ row → r1 ≡ row +ℤ pos 1 → r2 ≡ row +ℤ pos 2 → r3 ≡ row +ℤ pos 3
     → first ≡ old ++ part_cells false false r0 band → second ≡ first ++ part_cells false true r1 band → third ≡ second ++ part_cells true false r2 band
@@ -137,7 +137,7 @@ rows_are row r0 r1 r2 r3 band old first second third new (west, w) e0 e1 e2 e3 a
     joined : (o u v w x : List Cell) → (((o ++ u) ++ v) ++ w) ++ x ≡ o ++ ((u ++ v) ++ (w ++ x))
     joined o u v w x = simp append_assoc
 
--- four states, one behind the other
+-- four states, one after the other
 pub states_are : (x y x0 x1 x2 x3 y0 : ℤ) (a b c d : ℕ) (old first second third new : List Cell) → x0 ≡ x → x1 ≡ x +ℤ pos 1 → x2 ≡ x +ℤ pos 2 → x3 ≡ x +ℤ pos 3
     → y0 ≡ y → first ≡ old ++ live_cells x0 y0 (a ∷ []) → second ≡ first ++ live_cells x1 y0 (b ∷ []) → third ≡ second ++ live_cells x2 y0 (c ∷ [])
     → new ≡ third ++ live_cells x3 y0 (d ∷ []) → new ≡ old ++ live_cells x y (a ∷ b ∷ c ∷ d ∷ [])
@@ -173,7 +173,7 @@ pub gathered-more : (before list space gathered after live : List Cell) → list
     → gathered ≡ before ++ live
 gathered-more before list space gathered after live e f g = g ∙ ap (λ l. list ++ l) f ∙ sym (append_assoc list space live) ∙ ap (λ l. l ++ live) e
 
--- the cells of one more square, behind those of the squares before it
+-- the cells of one more square, after those of the squares before it
 pub part_more : (content : Id → Tree) (band : List Placed) (i : ℕ) (p : Placed) (lt : i < length band) (south low : Bool) (y x0 y0 : ℤ) (states : List ℕ)
     (old list new : List Cell) → x0 ≡ (get_or band i p).column → y0 ≡ y → states ≡ row_states south low (content (get_or band i p).square)
     → list ≡ old ++ part_cells south low y (pieces content (take i band)) → new ≡ list ++ live_cells x0 y0 states
@@ -220,11 +220,11 @@ most_population west (p ∷ band) w =
 pub most_cells : (row : ℤ) (band : List Piece) → InBand 2 band → length (band_cells 2 row band) ≤ 16 * length band
 most_cells row band (west, w) = let h = most_population west band w in let l = band_length 2 row west band w in omega (arith, h, l)
 
--- the list is within its limit behind them, where it had the room for them
+-- the list is within its limit after them, where it had the space for them
 pub within_limit : (row : ℤ) (content : Id → Tree) (named seen : List Placed) (count limit : ℕ) (old new : List Cell) → InBand 2 (pieces content named)
     → seen ≡ named → count ≡ length named → count ≤ (limit - length old) / 16 → length old ≤ limit
     → new ≡ old ++ band_cells 2 row (pieces content seen) → length new ≤ limit
-within_limit row content named seen count limit old new band is counted room few e =
+within_limit row content named seen count limit old new band is counted space few e =
     let most = most_cells row (pieces content named) band in
     let squares : length (pieces content named) ≡ length named = length-map _ _ in
     let whole : length new ≡ length old + length (band_cells 2 row (pieces content named)) =

@@ -29,8 +29,8 @@ equal a b = by (numbers a.0 b.0)
     by (inl e) = inl (same_number a b e)
     by (inr o) = inr (λ e. o (ap (λ (q : Id). q.0) e))
 
-slice_get-front : (ids : List Id) (id : Id) (i : ℕ) → i < length ids → slice_get (ids ++ id ∷ []) i ≡ slice_get ids i
-slice_get-front ids id i h =
+slice_get-prefix : (ids : List Id) (id : Id) (i : ℕ) → i < length ids → slice_get (ids ++ id ∷ []) i ≡ slice_get ids i
+slice_get-prefix ids id i h =
     slice_get-get_or (ids ++ id ∷ []) i id (omega (arith, length-append ids (id ∷ [])))
     ∙ ap Some (get_or_append_left ids (id ∷ []) id i h)
     ∙ sym (slice_get-get_or ids i id h)
@@ -48,7 +48,7 @@ one_more ids old new id place h set others absent is = record {
       let l : i < length (ids ++ id ∷ []) = slice_get_within _ i q e in
       elim (lt_or_eq i (length ids) (omega (arith, length-append ids (id ∷ [])))) [
         | inl below ↦
-            let f : slice_get ids i ≡ Some q = sym (slice_get-front ids id i below) ∙ e in
+            let f : slice_get ids i ≡ Some q = sym (slice_get-prefix ids id i below) ∙ e in
             let other : q ≢ id = λ g. absent (i, below, get_or_from_slice_get ids i q id f ∙ g) in
             others q other ∙ h.listed i q f
         | inr last ↦
@@ -64,7 +64,7 @@ one_more ids old new id place h set others absent is = record {
         ap (slice_get (ids ++ id ∷ [])) k ∙ slice_get-end ids id ∙ ap Some (sym here)
     | inr other ↦
         let f : slice_get ids i ≡ Some q = h.placed q i (sym (others q other) ∙ e) in
-        slice_get-front ids id i (slice_get_within ids i q f) ∙ f
+        slice_get-prefix ids id i (slice_get_within ids i q f) ∙ f
   ];
 }
 
@@ -81,7 +81,7 @@ within [] k n e = absurd (omega (arith, e))
 within (x ∷ numbers) zero n e = omega arith
 within (x ∷ numbers) (suc k) n e = omega (arith, within numbers k n e)
 
--- an Id with a number has room for it
+-- an Id with a number has space for it
 numbered : (first : ℕ) (numbers : List ℕ) (q : Id) (n : ℕ) → number_at first numbers q ≡ suc n → (first ≤ q.0) × (q.0 - first < length numbers)
 numbered first numbers q n e = by (le_or_lt first q.0)
   where
@@ -105,10 +105,10 @@ few first ids numbers h =
 one_numbered : (first : ℕ) (ids : List Id) (numbers : List ℕ) (id : Id) (number : ℕ) → HasPlaces ids (number_at first numbers) → ¬ Contains ids id
     → first ≤ id.0 → id.0 - first < length numbers → number ≡ length ids + 1
     → HasPlaces (ids ++ id ∷ []) (number_at first (set numbers (id.0 - first) number))
-one_numbered first ids numbers id number h absent from room is =
+one_numbered first ids numbers id number h absent from space is =
     let new = set numbers (id.0 - first) number in
     one_more ids (number_at first numbers) (number_at first new) id number h
-    (at_from first new id from ∙ get_or-set_same numbers (id.0 - first) number 0 room) (λ q o. others q o (le_or_lt first q.0)) absent is
+    (at_from first new id from ∙ get_or-set_same numbers (id.0 - first) number 0 space) (λ q o. others q o (le_or_lt first q.0)) absent is
   where
     others : (q : Id) → q ≢ id → (first ≤ q.0) ⊎ (q.0 < first) → number_at first (set numbers (id.0 - first) number) q ≡ number_at first numbers q
     others q o (inl le) =
@@ -120,9 +120,9 @@ one_numbered first ids numbers id number h absent from room is =
 -- there is a number for it
 number_left : (first : ℕ) (ids : List Id) (numbers : List ℕ) (id : Id) → HasPlaces ids (number_at first numbers) → ¬ Contains ids id → first ≤ id.0
     → id.0 - first < length numbers → length ids < length numbers
-number_left first ids numbers id h absent from room =
+number_left first ids numbers id h absent from space =
     let p = few first (ids ++ id ∷ []) (set numbers (id.0 - first) (length ids + 1))
-    (one_numbered first ids numbers id (length ids + 1) h absent from room refl) in
+    (one_numbered first ids numbers id (length ids + 1) h absent from space refl) in
     omega (arith, p, length-append ids (id ∷ []), length-set numbers (id.0 - first) (length ids + 1))
 
 -- places that are the same for each Id
@@ -142,10 +142,10 @@ pub in_list : (first : ℕ) (numbers : List ℕ) (paged : Id → ℕ) → 0 < le
 in_list first [] paged some q = absurd (omega arith)
 in_list first (n ∷ numbers) paged some q = refl
 
--- there is room for an Id whose number has a place in the list
-room_there : (first index size : ℕ) (q : Id) → (first ≤ q.0 → index ≡ q.0 - first) → (q.0 < first → 2 ^ 32 ≤ index) → size < 2 ^ 32 → index < size
+-- there is space for an Id whose number has a place in the list
+space_there : (first index size : ℕ) (q : Id) → (first ≤ q.0 → index ≡ q.0 - first) → (q.0 < first → 2 ^ 32 ≤ index) → size < 2 ^ 32 → index < size
     → (first ≤ q.0) × (index ≡ q.0 - first)
-room_there first index size q from before short lt = by (le_or_lt first q.0)
+space_there first index size q from before short lt = by (le_or_lt first q.0)
   where
     by : (first ≤ q.0) ⊎ (q.0 < first) → (first ≤ q.0) × (index ≡ q.0 - first)
     by (inl le) = (le, from le)
@@ -169,18 +169,18 @@ listed_places first ids numbers paged some h =
 pub number_left_by : (first : ℕ) (ids : List Id) (numbers : List ℕ) (paged : Id → ℕ) (id : Id) (index : ℕ) → HasPlaces ids (number_by first numbers paged)
     → ¬ Contains ids id → (first ≤ id.0 → index ≡ id.0 - first) → (id.0 < first → 2 ^ 32 ≤ index) → length numbers < 2 ^ 32
     → index < length numbers → length ids < length numbers
-number_left_by first ids numbers paged id index h absent from before short room =
-    let at = room_there first index (length numbers) id from before short room in
-    number_left first ids numbers id (listed_places first ids numbers paged (omega (arith, room)) h) absent at.0 (omega (arith, at.1, room))
+number_left_by first ids numbers paged id index h absent from before short space =
+    let at = space_there first index (length numbers) id from before short space in
+    number_left first ids numbers id (listed_places first ids numbers paged (omega (arith, space)) h) absent at.0 (omega (arith, at.1, space))
 
 -- the same in the list, at the place that is the Id's
 pub one_listed : (first : ℕ) (ids : List Id) (numbers : List ℕ) (paged : Id → ℕ) (id : Id) (index number : ℕ) → HasPlaces ids (number_by first numbers paged)
     → ¬ Contains ids id → (first ≤ id.0 → index ≡ id.0 - first) → (id.0 < first → 2 ^ 32 ≤ index) → length numbers < 2 ^ 32
     → index < length numbers → number ≡ length ids + 1
     → HasPlaces (ids ++ id ∷ []) (number_by first (set numbers index number) paged)
-one_listed first ids numbers paged id index number h absent from before short room is =
-    let at = room_there first index (length numbers) id from before short room in
-    let below : id.0 - first < length numbers = omega (arith, at.1, room) in
+one_listed first ids numbers paged id index number h absent from before short space is =
+    let at = space_there first index (length numbers) id from before short space in
+    let below : id.0 - first < length numbers = omega (arith, at.1, space) in
     let new = set numbers (id.0 - first) number in
     let placed = same_places (ids ++ id ∷ []) (number_at first new) (number_by first new paged)
     (in_list first new paged (omega (arith, below, length-set numbers (id.0 - first) number)))

@@ -43,7 +43,7 @@ IsLeastOf P o = MatchOption o ((n : ℕ) → P n → ⊥) (IsLeastNumber P)
 abbrev pub AreLeast : Side → (Id → Tree) → (Id → ℕ) → Type 0
 AreLeast side content kept = (q : Id) → kept q ≢ UNKNOWN → IsLeastNumber (HasCellAt side (content q)) (kept q)
 
--- with the side in the north, the quarters of the square are a and b, and behind them c and d
+-- with the side in the north, the quarters of the square are a and b, and after them c and d
 abbrev pub Faces : Side → Tree → Tree → Tree → Tree → Tree → Type 0
 Faces North t a b c d = t ≡ quad a b c d
 Faces South t a b c d = t ≡ quad c d a b

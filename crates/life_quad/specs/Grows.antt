@@ -24,7 +24,7 @@ pub record Grows {X A : Type 0} (S : Ghosts X) (old new : X) (r : Result A Kind)
   pub needed : r ≡ Err Full → Needs (S.needs_node new)
   pub adds : AddsOnly S.stored Needs old new
 
--- the same of a call that is refused for want of memory too only where the store lacks such a square
+-- the same of a call that is refused for lack of memory too only where the store lacks such a square
 pub record GrowsOnly {X A : Type 0} (S : Ghosts X) (old new : X) (r : Result A Kind) (Needs : (Tree → Type 0) → Type 0) : Type 0 where
   pub keeps : KeepsStore S old new
   pub refusals : IfErr r (IsShortageKind (S.stored new) (S.most new))

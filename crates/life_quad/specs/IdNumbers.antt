@@ -2,19 +2,19 @@
 use Rattle.std.specs.Prelude.{◌≡◌, ◌≤◌, ◌<◌, ◌+◌, ◌-◌, ℕ, suc, nat_lt, if◌then◌else◌, List, [], ◌∷◌, Some, slice_get, slice_index_or}
 use Rattle.life_quad.specs.declared.id.Id.{Id}
 
--- the least number of an Id that there is room for, and how many there are from it on
-pub record NumberRoom : Type 0 where
+-- the least Id that has a number, and how many there are from it on
+pub record NumberRange : Type 0 where
   pub first : ℕ
   pub size : ℕ
 
--- the Ids that have a number, in its order, and which Ids there is room for
+-- the Ids that have a number, in its order, and which Ids have a number
 pub record NumberedIds : Type 0 where
   pub ids : List Id
-  pub room : NumberRoom
+  pub space : NumberRange
 
--- whether there is room for an Id's number
-abbrev pub HasNumberRoom : NumberRoom → Id → Type 0
-HasNumberRoom room id = (room.first ≤ id.0) × (id.0 < room.first + room.size)
+-- whether an Id has a number in the range
+abbrev pub IsInNumberRange : NumberRange → Id → Type 0
+IsInNumberRange space id = (space.first ≤ id.0) × (id.0 < space.first + space.size)
 
 -- the least number of the Id of a square of this level or a higher one that isn't blank: a node's, or a small square's
 abbrev pub first_of : ℕ → ℕ

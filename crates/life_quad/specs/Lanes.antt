@@ -6,7 +6,7 @@ use Rattle.life_quad.specs.declared.seed.Lanes.{Lanes}
 unfoldable pub number_of_bytes : List ℕ → ℕ
 number_of_bytes bs = if nat_eq (length bs) 4 then slice_index bs 0 + slice_index bs 1 * 256 + slice_index bs 2 * 65536 + slice_index bs 3 * 16777216 else 0
 
--- the state behind such a text: its number times the next key is added, and the keys go round
+-- the state after such a text: its number times the next key is added, and the keys go round
 unfoldable pub write : Lanes → List ℕ → Lanes
 write h bs = record { sum = (h.sum + (h.next * number_of_bytes bs) % 2 ^ 64) % 2 ^ 64; next = h.second; second = h.third; third = h.fourth; fourth = h.next }
 

@@ -26,7 +26,7 @@ pub record CanJoin (knows : Id → Type 0) (content : Id → Tree) (quarters : Q
   pub ne_level : depth (content quarters.ne) ≡ depth (content quarters.nw)
   pub sw_level : depth (content quarters.sw) ≡ depth (content quarters.nw)
   pub se_level : depth (content quarters.se) ≡ depth (content quarters.nw)
-  pub room : depth (content quarters.nw) < MAX_LEVEL
+  pub space : depth (content quarters.nw) < MAX_LEVEL
 
 -- the square of four quarters
 abbrev pub quad_of : (Id → Tree) → Quarters → Tree

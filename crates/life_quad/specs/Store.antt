@@ -169,7 +169,7 @@ pub record AnswersJoin (old new : Nodes) (t : Tree) (r : Result Id Kind) : Type 
   pub joined : IfOk r (Joined old new t)
   pub limit : new.limit ≡ old.limit
   pub full : (r ≡ Err Full) ↔ (¬ Contains (stored_squares old) t × (length (stored_squares old) ≡ old.limit))
-  pub room : r ≡ Err Memory → length (stored_squares new) < new.limit
+  pub space : r ≡ Err Memory → length (stored_squares new) < new.limit
   pub refusals : IfErr r (IsShortageKind (stored_squares new) new.limit)
   pub needed : OnErr r (¬ Contains (stored_squares old) t)
   pub unchanged : OnErr r (new ≡ old)

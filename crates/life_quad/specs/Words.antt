@@ -8,7 +8,7 @@ pub use Rattle.life_quad.specs.Cells.{IsCellList, IsBoundingBoxOfTree, IsRunInsi
 pub use Rattle.life_quad.specs.Distances.{AreLeast, Faces, HasCellAt, HasCellInTwo, IsLeastOf, lesser_of}
 pub use Rattle.life_quad.specs.Grows.{Makes, MakesSquare, MakesSomeSquare}
 pub use Rattle.life_quad.specs.IdMap.{HasPage, SetsValue, value_of_id}
-pub use Rattle.life_quad.specs.IdNumbers.{first_of, HasNumberRoom, number_by}
+pub use Rattle.life_quad.specs.IdNumbers.{first_of, IsInNumberRange, number_by}
 pub use Rattle.life_quad.specs.Laws.{BlankByCells, CellsAreListed, CellsLieInside, EqualByCells, EqualByPlane, EqualSquaresHaveOneId, GrowingKeepsCells}
 pub use Rattle.life_quad.specs.Laws.{KnownSquaresAreFull, ListIsPopulation, TrimmedByCells, TrimmedIsFixed, TrimmedIsLowest, TrimmingIgnoresGrowth}
 pub use Rattle.life_quad.specs.Laws.{TrimmingKeepsCells, TrimmingStops}

@@ -75,7 +75,7 @@ fn index_of(starts: &[u32], number: u64) -> usize
 
 /// Makes a place, without a page.
 fn make_place(starts: &mut Vec<u32>, place: u64) -> Result<(), Kind>
-    ensures room { OnOk result (place < vec_len starts.new) }
+    ensures space { OnOk result (place < vec_len starts.new) }
     ensures same { (n : ℕ) → slice_index_or starts.new.items n 4294967295
         ≡ slice_index_or starts.old.items n 4294967295 }
     ensures kind { IfErr result IsMemory }
@@ -133,8 +133,8 @@ impl<T: Copy> IdMap<T> {
     }
 
     /// Makes the page of an Id. Each value stays as it was, also where `Memory` refuses the page.
-    pub(crate) fn make_room(&mut self, id: Id) -> Result<(), Kind>
-        ensures room { OnOk result (HasPage self.new id) }
+    pub(crate) fn make_space(&mut self, id: Id) -> Result<(), Kind>
+        ensures space { OnOk result (HasPage self.new id) }
         ensures same { (q : IdValue) → value_of_id self.new q ≡ value_of_id self.old q }
         ensures refusals { IfErr result IsMemory }
     {
@@ -183,7 +183,7 @@ impl<T: Copy> IdMap<T> {
     fn set_apart(&mut self, id: Id, value: T) -> Result<(), Kind>
         ensures { SetsValue self.old self.new id value result }
     {
-        self.make_room(id)?;
+        self.make_space(id)?;
         self.put(id, value);
         Ok(())
     }

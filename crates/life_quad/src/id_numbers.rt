@@ -1,6 +1,6 @@
 //! Numbers for the Ids of a store.
 ghost use Rattle.std.specs.Prelude.{◌≡◌, ◌≢◌, ◌^◌, false, ◌++◌, ◌∷◌, ◌-◌, ◌<◌, ◌≤◌, [], length, slice_get, AllPairs, Contains, IfOk, IfErr, OnOk, OnErr, IfSome, MatchOption, Some};
-ghost use Rattle.life_quad.specs.Words.{Memory, IdValue, depth, is_blank_tree, Knows, content, value_of_id, HasNumberRoom, first_of, number_by, IsMemory};
+ghost use Rattle.life_quad.specs.Words.{Memory, IdValue, depth, is_blank_tree, Knows, content, value_of_id, IsInNumberRange, first_of, number_by, IsMemory};
 
 use crate::id::FIRST_NODE;
 use crate::id_map::IdMap;
@@ -34,7 +34,7 @@ impl Model for IdNumbers {
 
     ghost Value = { NumberedIds };
 
-    ghost view = { λ a. record { ids = map id_of a.log.ids; room = record { first = a.first; size = length a.numbers.items } } };
+    ghost view = { λ a. record { ids = map id_of a.log.ids; space = record { first = a.first; size = length a.numbers.items } } };
 
     ghost invariant = { λ a. HasPlaces (map id_of a.log.ids) (number_by a.first a.numbers.items (value_of_id a.pages)) × (a.count ≡ length (map id_of a.log.ids)) × (length a.numbers.items < 2 ^ 32) × (a.first ≤ 66064) };
 }
@@ -78,9 +78,9 @@ impl IdNumbers {
     /// `Memory`, and nothing else.
     pub fn new(alloc: Global, store: &Shared, level: u8) -> Result<IdNumbers, Kind>
         ensures none { IfOk result (λ numbers. numbers.ids ≡ []) }
-        ensures room { IfOk result (λ numbers. (id : IdValue) → Knows store.now id
+        ensures space { IfOk result (λ numbers. (id : IdValue) → Knows store.now id
             → level ≤ depth (content store.now id) → is_blank_tree (content store.now id) ≡ false
-            → HasNumberRoom numbers.room id) }
+            → IsInNumberRange numbers.space id) }
         ensures kind { IfErr result IsMemory }
     {
         let first = first_of(level);
@@ -148,10 +148,10 @@ impl IdNumbers {
         requires { ¬ Contains self.old.ids id }
         ensures added { OnOk result (self.new.ids ≡ self.old.ids ++ id ∷ []) }
         ensures number { IfOk result (λ number. number ≡ length self.new.ids) }
-        ensures room { OnOk result (self.new.room ≡ self.old.room) }
+        ensures space { OnOk result (self.new.space ≡ self.old.space) }
         ensures same { OnErr result (self.new ≡ self.old) }
         ensures kind { IfErr result IsMemory }
-        ensures needed { OnErr result (¬ HasNumberRoom self.old.room id) }
+        ensures needed { OnErr result (¬ IsInNumberRange self.old.space id) }
     {
         let index = index_from(self.first, id);
         if index >= self.numbers.len() {
@@ -167,10 +167,10 @@ impl IdNumbers {
     #[inline(never)]
     fn push_apart(&mut self, id: Id) -> Result<u64, Kind>
         requires new { ¬ Contains self.old.ids id }
-        requires apart { ¬ HasNumberRoom self.old.room id }
+        requires apart { ¬ IsInNumberRange self.old.space id }
         ensures added { OnOk result (self.new.ids ≡ self.old.ids ++ id ∷ []) }
         ensures number { IfOk result (λ number. number ≡ length self.new.ids) }
-        ensures room { OnOk result (self.new.room ≡ self.old.room) }
+        ensures space { OnOk result (self.new.space ≡ self.old.space) }
         ensures same { OnErr result (self.new ≡ self.old) }
         ensures kind { IfErr result IsMemory }
     {

@@ -389,8 +389,8 @@ fn append_band<S: Squares>(
         + length (band_cells level row (pieces (S.content squares.now) band.items))) }
     ensures refusals { IfErr result (λ e. (e ≡ TooManyCells) ⊎ (e ≡ Memory)) }
 {
-    let room = limit - list.len() as u64;
-    if room < band.len() as u64 {
+    let free = limit - list.len() as u64;
+    if free < band.len() as u64 {
         return Err(Kind::TooManyCells);
     }
     if band.is_empty() {
@@ -399,7 +399,7 @@ fn append_band<S: Squares>(
     if level == 0 {
         return append_row(squares, &band, row, list);
     }
-    if level == 2 && band.len() as u64 <= room / 16 {
+    if level == 2 && band.len() as u64 <= free / 16 {
         return append_rows(squares, &band, row, list);
     }
     let (north, south) = halves(alloc, squares, &band, level)?;

@@ -53,7 +53,7 @@ pub trait Squares {
         requires ne_level { depth (content self.old ne) ≡ depth (content self.old nw) }
         requires sw_level { depth (content self.old sw) ≡ depth (content self.old nw) }
         requires se_level { depth (content self.old se) ≡ depth (content self.old nw) }
-        requires room { depth (content self.old nw) < MAX_LEVEL }
+        requires space { depth (content self.old nw) < MAX_LEVEL }
         ensures known { IfOk result (λ id. knows self.new id) }
         ensures square { IfOk result (λ id. content self.new id
             ≡ quad (content self.old nw) (content self.old ne) (content self.old sw)
@@ -80,7 +80,7 @@ pub trait Squares {
         ensures full { let t = quad (content self.old nw) (content self.old ne)
             (content self.old sw) (content self.old se) in (result ≡ Err Full)
             ↔ (needs_node self.old t × (length (stored self.old) ≡ most self.old)) }
-        ensures room { result ≡ Err Memory → length (stored self.new) < most self.new }
+        ensures space { result ≡ Err Memory → length (stored self.new) < most self.new }
         ensures refusals { IfErr result (IsShortageKind (stored self.new) (most self.new)) }
         ensures needed { let t = quad (content self.old nw) (content self.old ne)
             (content self.old sw) (content self.old se) in OnErr result (needs_node self.old t) }
@@ -102,7 +102,7 @@ pub trait Squares {
         ensures keeps { KeepsSquares knows content stored most self.old self.new }
         ensures adds { AddsOnly stored
             (λ P. SomeOf P (quads_of (content self.old) quarters.now)) self.old self.new }
-        ensures room { result ≡ Err Memory → length (stored self.new) < most self.new }
+        ensures space { result ≡ Err Memory → length (stored self.new) < most self.new }
         ensures refusals { IfErr result (IsShortageKind (stored self.new) (most self.new)) }
         ensures needed { OnErr result
             (SomeOf (needs_node self.new) (quads_of (content self.old) quarters.now)) }

@@ -197,13 +197,13 @@ adv-over level rule g c line = record {
       (s.0, inr (IsMarked-push level lines s.0 line s.1), no_more before (runs_of (placed_items s.0)) (known-runs level lines s.0 before (inr s.1) h));
 }
 
--- the items are sound behind the file
+-- the items are sound after the file
 sound-behind : (level : ℕ) (rule : Rule) (c : Cursor) (file : Rle) (items : List Item) → IsAfterItems c file → rule ≡ file.rule
     → first_fault level rule (placed_at c items) ≡ None → first_fault level file.rule (placed_after file.position file.items items) ≡ None
 sound-behind level rule c file items b r h = ap (λ ps. first_fault level file.rule ps) (sym (behind-items c file items b).0)
     ∙ ap (λ x. first_fault level x (placed_at c items)) (sym r) ∙ h
 
--- a line of items behind the file
+-- a line of items after the file
 module _ (level : ℕ) (rule : Rule) (g : Position) (c now : Cursor) (line : List ℕ) (items : List Item) (runs : List Run) (form : later_of line ≡ Ok Data) where
   unmarked : (lines : List (List ℕ)) → AreItemsRead level rule c line items End now runs → (s : StandsAt level (phases.Items rule g) c lines)
       → IsUnmarked level (lines ++ line ∷ []) (with_items s.0 items)

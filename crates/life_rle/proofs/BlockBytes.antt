@@ -4,7 +4,7 @@ use Rattle.std.proofs.Math.Nat.{mul-le-mul_right}
 use Rattle.std.proofs.lemmas.Str.Parse.{digits_value_short}
 use Rattle.std.specs.Char.{is_ascii_digit}
 use Rattle.std.specs.List.{prefix_len}
-use Rattle.life_base.proofs.FrontDigits.{list_all-front}
+use Rattle.life_base.proofs.PrefixDigits.{list_all-prefix}
 use Rattle.life_base.proofs.Numbers.{own}
 use Rattle.life_base.proofs.WordEnds.{length-trim_start}
 use Rattle.life_base.specs.Lines.{joined_lines}
@@ -23,56 +23,56 @@ use Rattle.life_rle.proofs.Shrinks.{LeavesState, state_at-leaves}
 
 -- what stands in an item's place of bytes before which some stand already: its item weighs no more than the bytes that it takes
 abbrev Pays : ℕ → ℕ → List ℕ → Next → Type 0
-Pays n front bytes End = Unit {0}
-Pays n front bytes Mark = Unit {0}
-Pays n front bytes (Broken kind) = Unit {0}
-Pays n front bytes (Spelled item rest) = weights n (item_count item) + 14 * length rest * 2 ^ n ≤ 14 * (front + length bytes) * 2 ^ n
+Pays n prefix bytes End = Unit {0}
+Pays n prefix bytes Mark = Unit {0}
+Pays n prefix bytes (Broken kind) = Unit {0}
+Pays n prefix bytes (Spelled item rest) = weights n (item_count item) + 14 * length rest * 2 ^ n ≤ 14 * (prefix + length bytes) * 2 ^ n
 
 -- an item of one byte more than the digits
-pays-one : (n front count : ℕ) (bytes rest : List ℕ) → weights n count ≤ 14 * (front + 1) * 2 ^ n → length rest + 1 ≤ length bytes
-    → weights n count + 14 * length rest * 2 ^ n ≤ 14 * (front + length bytes) * 2 ^ n
-pays-one n front count bytes rest w le =
-    let more : 14 * (front + 1 + length rest) ≤ 14 * (front + length bytes) = omega (arith, le) in
+pays-one : (n prefix count : ℕ) (bytes rest : List ℕ) → weights n count ≤ 14 * (prefix + 1) * 2 ^ n → length rest + 1 ≤ length bytes
+    → weights n count + 14 * length rest * 2 ^ n ≤ 14 * (prefix + length bytes) * 2 ^ n
+pays-one n prefix count bytes rest w le =
+    let more : 14 * (prefix + 1 + length rest) ≤ 14 * (prefix + length bytes) = omega (arith, le) in
     let all = mul-le-mul_right (2 ^ n) more in
     omega (arith, w, all)
 
-cells_of-pays : (n front count : ℕ) (o : Option (ℕ × List ℕ)) (bytes : List ℕ) → weights n count ≤ 14 * (front + 1) * 2 ^ n → LeavesState bytes o
-    → Pays n front bytes (next_of_cells count o)
-cells_of-pays n front count None bytes w h = tt
-cells_of-pays n front count (Some found) bytes w h = pays-one n front count bytes found.1 w h
+cells_of-pays : (n prefix count : ℕ) (o : Option (ℕ × List ℕ)) (bytes : List ℕ) → weights n count ≤ 14 * (prefix + 1) * 2 ^ n → LeavesState bytes o
+    → Pays n prefix bytes (next_of_cells count o)
+cells_of-pays n prefix count None bytes w h = tt
+cells_of-pays n prefix count (Some found) bytes w h = pays-one n prefix count bytes found.1 w h
 
-item_behind-pays : (n front count : ℕ) (bytes : List ℕ) → weights n count ≤ 14 * (front + 1) * 2 ^ n → Pays n front bytes (item_after count bytes)
-item_behind-pays n front count [] w = tt
-item_behind-pays n front count (b ∷ bytes) w =
-    elim (eqb b 36) as (λ t. Pays n front (b ∷ bytes) (cond t (Spelled (RowEnds count) bytes) (next_of_cells count (leading_state (b ∷ bytes))))) [
-      | true ↦ pays-one n front count (b ∷ bytes) bytes w (omega arith)
-      | false ↦ cells_of-pays n front count (leading_state (b ∷ bytes)) (b ∷ bytes) w (state_at-leaves (b ∷ bytes))
+item_behind-pays : (n prefix count : ℕ) (bytes : List ℕ) → weights n count ≤ 14 * (prefix + 1) * 2 ^ n → Pays n prefix bytes (item_after count bytes)
+item_behind-pays n prefix count [] w = tt
+item_behind-pays n prefix count (b ∷ bytes) w =
+    elim (eqb b 36) as (λ t. Pays n prefix (b ∷ bytes) (cond t (Spelled (RowEnds count) bytes) (next_of_cells count (leading_state (b ∷ bytes))))) [
+      | true ↦ pays-one n prefix count (b ∷ bytes) bytes w (omega arith)
+      | false ↦ cells_of-pays n prefix count (leading_state (b ∷ bytes)) (b ∷ bytes) w (state_at-leaves (b ∷ bytes))
     ]
 
 counted-pays : (n level : ℕ) (digits bytes : List ℕ) → value_of digits < 10 ^ length digits → Pays n (length digits) bytes (item_with_digits level digits bytes)
 counted-pays n level [] bytes h = item_behind-pays n 0 1 bytes (let w = byte-pays n in omega (arith, w))
 counted-pays n level (d ∷ digits) bytes h =
     let v = value_of (d ∷ digits) in
-    let front = length (d ∷ digits) in
-    let one : front ≡ suc (length digits) = omega arith in
+    let prefix = length (d ∷ digits) in
+    let one : prefix ≡ suc (length digits) = omega arith in
     let w = digits-pay n (length digits) v (subst (λ k. v < 10 ^ k) one h) in
-    elim (eqb v 0) as (λ t. Pays n front bytes (cond t (Broken ZeroCount) (cond (ltb (2 ^ level) v) (Broken TooLarge) (item_after v bytes)))) [
+    elim (eqb v 0) as (λ t. Pays n prefix bytes (cond t (Broken ZeroCount) (cond (ltb (2 ^ level) v) (Broken TooLarge) (item_after v bytes)))) [
       | true ↦ tt
-      | false ↦ elim (ltb (2 ^ level) v) as (λ t. Pays n front bytes (cond t (Broken TooLarge) (item_after v bytes)))
-          [ true ↦ tt | false ↦ item_behind-pays n front v bytes (rw one (omega (arith, w))) ]
+      | false ↦ elim (ltb (2 ^ level) v) as (λ t. Pays n prefix bytes (cond t (Broken TooLarge) (item_after v bytes)))
+          [ true ↦ tt | false ↦ item_behind-pays n prefix v bytes (rw one (omega (arith, w))) ]
     ]
 
-Pays-longer : (n front : ℕ) (short long : List ℕ) (next : Next) → front + length short ≤ length long → Pays n front short next → Pays n 0 long next
-Pays-longer n front short long End le h = tt
-Pays-longer n front short long Mark le h = tt
-Pays-longer n front short long (Broken kind) le h = tt
-Pays-longer n front short long (Spelled item rest) le h =
-    let more : 14 * (front + length short) ≤ 14 * (0 + length long) = omega (arith, le) in
+Pays-longer : (n prefix : ℕ) (short long : List ℕ) (next : Next) → prefix + length short ≤ length long → Pays n prefix short next → Pays n 0 long next
+Pays-longer n prefix short long End le h = tt
+Pays-longer n prefix short long Mark le h = tt
+Pays-longer n prefix short long (Broken kind) le h = tt
+Pays-longer n prefix short long (Spelled item rest) le h =
+    let more : 14 * (prefix + length short) ≤ 14 * (0 + length long) = omega (arith, le) in
     let all = mul-le-mul_right (2 ^ n) more in
     omega (arith, h, all)
 
 digits-small : (bytes : List ℕ) → value_of (leading_digits bytes) < 10 ^ length (leading_digits bytes)
-digits-small bytes = digits_value_short own (leading_digits bytes) (length (leading_digits bytes)) (list_all-front is_ascii_digit bytes) (omega arith)
+digits-small bytes = digits_value_short own (leading_digits bytes) (length (leading_digits bytes)) (list_all-prefix is_ascii_digit bytes) (omega arith)
 
 digits-apart : (bytes : List ℕ) → length (leading_digits bytes) + length (after_digits_of bytes) ≤ length bytes
 digits-apart bytes =
@@ -84,12 +84,12 @@ digits-apart bytes =
 item_in-pays : (n level : ℕ) (bytes : List ℕ) → Pays n 0 bytes (item_in level bytes)
 item_in-pays n level [] = tt
 item_in-pays n level (b ∷ bytes) =
-    let front = leading_digits (b ∷ bytes) in
+    let prefix = leading_digits (b ∷ bytes) in
     let rest = after_digits_of (b ∷ bytes) in
-    elim (eqb b 33) as (λ t. Pays n 0 (b ∷ bytes) (cond t Mark (item_with_digits level front rest))) [
+    elim (eqb b 33) as (λ t. Pays n 0 (b ∷ bytes) (cond t Mark (item_with_digits level prefix rest))) [
       | true ↦ tt
-      | false ↦ Pays-longer n (length front) rest (b ∷ bytes) (item_with_digits level front rest) (digits-apart (b ∷ bytes))
-          (counted-pays n level front rest (digits-small (b ∷ bytes)))
+      | false ↦ Pays-longer n (length prefix) rest (b ∷ bytes) (item_with_digits level prefix rest) (digits-apart (b ∷ bytes))
+          (counted-pays n level prefix rest (digits-small (b ∷ bytes)))
     ]
 
 next_of-pays : (n level : ℕ) (bytes : List ℕ) → Pays n 0 bytes (next_of level bytes)
@@ -157,12 +157,12 @@ IsUnmarked-pays n level lines file b =
 pub file-pays : (n level : ℕ) (lines : List (List ℕ)) (file : Rle) → IsRle level lines file → all_weigh n file.items ≤ 14 * length (joined_lines lines) * 2 ^ n
 file-pays n level lines file (inl b) = IsUnmarked-pays n level lines file b
 file-pays n level lines file (inr b) =
-    let begun = IsUnmarked-pays n level b.front (record file { items = b.earlier }) b.begun in
+    let begun = IsUnmarked-pays n level b.prefix (record file { items = b.earlier }) b.begun in
     let last = LineSpells-pays n level b.last b.final Mark b.marked in
     let both = all_weigh-append n b.earlier b.final in
     let whole = ap (λ (ls : List (List ℕ)). length (joined_lines ls)) b.whole in
-    let apart = joined-append b.front (b.last ∷ b.free) in
+    let apart = joined-append b.prefix (b.last ∷ b.free) in
     let size = joined-length b.last b.free in
-    let more : 14 * (length (joined_lines b.front) + length b.last) ≤ 14 * length (joined_lines lines) = omega (arith, whole, apart, size) in
+    let more : 14 * (length (joined_lines b.prefix) + length b.last) ≤ 14 * length (joined_lines lines) = omega (arith, whole, apart, size) in
     let all = mul-le-mul_right (2 ^ n) more in
     subst (λ (is : List Item). all_weigh n is ≤ 14 * length (joined_lines lines) * 2 ^ n) (sym b.items) (omega (arith, begun, last, both, all))

@@ -152,7 +152,7 @@ module _ (m left : ℕ) (h : 0 < m) where
 
 -- ---- cells
 
--- a column of cells with no place of the pen in the square of a column nor in the next lies before it or behind the same column of the next
+-- a column of cells with no place of the pen in the square of a column nor in the next lies before it or after the same column of the next
 apart : (m z c : ℕ) → 0 < m → z / m ≢ c / m → z / m ≢ c / m + 1 → (z ≤ c) ⊎ (c + m < z)
 apart m z c h p q = elim (cases_lt c z) [
   | inl lt ↦

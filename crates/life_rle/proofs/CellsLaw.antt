@@ -35,7 +35,7 @@ merged true true near far s n = refl
 merged true false near far s n = refl
 merged false here near far s n = refl
 
--- a cell in front of items
+-- a cell before items
 with_cell-state : (left column row : ℤ) (s : ℕ) (items : List Item) (x y : ℤ) → state_from left column row (with_cells 1 s items) x y
     ≡ cond (int_eq y row && int_eq x column) s (state_from left (column +ℤ pos 1) row items x y)
 with_cell-state left column row s [] x y = ap (λ t. cond (int_eq y row && t) s 0) (one_column column x)
@@ -67,7 +67,7 @@ AreGood rule left column row (Cells n s ∷ items) =
 AreGood rule left column row (RowEnds n ∷ items) = (0 < n) × (n ≤ most_count MAX_LEVEL) × ((row +ℤ pos n) ≤ℤ rle_plane_end MAX_LEVEL)
     × AreGood rule left left (row +ℤ pos n) items
 
--- they lie behind their place
+-- they lie after their place
 AreGood-behind : (rule : Rule) (left column row : ℤ) (items : List Item) (x y : ℤ) → AreGood rule left column row items → (y <ℤ row)
     ⊎ ((y ≡ row) × (x <ℤ column)) → state_from left column row items x y ≡ 0
 AreGood-behind rule left column row [] x y g h = refl
@@ -83,7 +83,7 @@ AreGood-behind rule left column row (Cells n s ∷ items) x y g (inr h) =
 AreGood-behind rule left column row (RowEnds n ∷ items) x y g (inl h) = AreGood-behind rule left left (row +ℤ pos n) items x y g.3 (inl (omega (arith, ints)))
 AreGood-behind rule left column row (RowEnds n ∷ items) x y g (inr h) = AreGood-behind rule left left (row +ℤ pos n) items x y g.3 (inl (omega (arith, ints)))
 
--- dead cells in front of items change no state
+-- dead cells before items change no state
 with_gap-state : (rule : Rule) (left column row : ℤ) (n : ℕ) (items : List Item) (x y : ℤ) → AreGood rule left (column +ℤ pos n) row items
     → state_from left column row (with_gap n items) x y ≡ state_from left (column +ℤ pos n) row items x y
 with_gap-state rule left column row zero items x y g = ap (λ c. state_from left c row items x y) (omega (arith, ints))
@@ -119,7 +119,7 @@ AreGood-with_gap rule left column row (suc n) items low high inside g = (omega a
 distance : (low high : ℤ) → low ≤ℤ high → low +ℤ pos (nat_abs (high -ℤ low)) ≡ high
 distance low high h = grind (arith, ints)
 
--- the items of a cell and of those behind it, from the cell on
+-- the items of a cell and of those after it, from the cell on
 abbrev behind : ℤ → Cell → List Cell → List Item
 behind left c cells = with_cells 1 c.state (items_from left (c.x +ℤ pos 1) c.y cells)
 

@@ -28,8 +28,8 @@ use Rattle.life_base.specs.declared.cell.TheConstants.{MAX_LEVEL}
 use Rattle.life_rle.specs.Plane.{most_count}
 
 -- the bytes spell these items, whatever follows them
-abbrev pub Fronts : List ℕ → List Item → Type 0
-Fronts bytes items = (rest : List ℕ) → Spells MAX_LEVEL (bytes ++ rest) items (next_of MAX_LEVEL rest)
+abbrev pub Prefixes : List ℕ → List Item → Type 0
+Prefixes bytes items = (rest : List ℕ) → Spells MAX_LEVEL (bytes ++ rest) items (next_of MAX_LEVEL rest)
 
 Spells-more : (items : List Item) (bytes : List ℕ) (item : Item) (rest : List ℕ) (next : Next) → Spells MAX_LEVEL bytes items next → next ≡ Spelled item rest
     → Spells MAX_LEVEL bytes (items ++ item ∷ []) (next_of MAX_LEVEL rest)
@@ -37,27 +37,27 @@ Spells-more [] bytes item rest next h e = (rest, h ∙ e, refl)
 Spells-more (i ∷ items) bytes item rest next h e = (h.0, h.1, Spells-more items h.0 item rest next h.2 e)
 
 -- one more item's text
-Fronts-push : StatesReadBack → (rule : Rule) (bytes : List ℕ) (items : List Item) (item : Item) → Fronts bytes items → IsWritten rule item
-    → Fronts (bytes ++ item_text rule item) (items ++ item ∷ [])
-Fronts-push states rule bytes items item h w rest =
+Prefixes-push : StatesReadBack → (rule : Rule) (bytes : List ℕ) (items : List Item) (item : Item) → Prefixes bytes items → IsWritten rule item
+    → Prefixes (bytes ++ item_text rule item) (items ++ item ∷ [])
+Prefixes-push states rule bytes items item h w rest =
     subst (λ bs. Spells MAX_LEVEL bs (items ++ item ∷ []) (next_of MAX_LEVEL rest)) (sym (append_assoc bytes (item_text rule item) rest))
     (Spells-more items (bytes ++ (item_text rule item ++ rest)) item rest (next_of MAX_LEVEL (item_text rule item ++ rest)) (h (item_text rule item ++ rest))
     (item_text-Spelled states rule item rest w))
 
--- a line whose front is no comment's and no header's
+-- a line whose prefix is no comment's and no header's
 abbrev pub BeginsAsItem : List ℕ → Type 0
 BeginsAsItem [] = ⊥
 BeginsAsItem (b ∷ []) = (is_whitespace b ≡ false) × (eqb b 35 ≡ false) × (eqb b 120 ≡ false)
 BeginsAsItem (b ∷ c ∷ rest) = (is_whitespace b ≡ false) × (eqb b 35 ≡ false) × ((eqb b 120 ≡ false) ⊎ ((eqb c 32 ≡ false) × (eqb c 61 ≡ false)))
 
--- more bytes behind it
+-- more bytes after it
 BeginsAsItem-append : (line more : List ℕ) → BeginsAsItem line → BeginsAsItem (line ++ more)
 BeginsAsItem-append [] more h = absurd h
 BeginsAsItem-append (b ∷ []) [] h = h
 BeginsAsItem-append (b ∷ []) (c ∷ more) h = (h.0, h.1, inl h.2)
 BeginsAsItem-append (b ∷ c ∷ rest) more h = h
 
--- the choice that a line behind the header makes, by its tests
+-- the choice that a line after the header makes, by its tests
 abbrev choice : (long blank position comment header : Bool) → Result Later Kind
 choice long blank position comment header = cond long (Err LineTooLong)
     (cond blank (Ok Passed) (cond position (Err LateHeader) (cond comment (Ok Passed) (cond header (Err SecondHeader) (Ok Data)))))
@@ -175,41 +175,42 @@ Starts-full line now n (inr s) h e = s
 Starts-full line now n (inl z) h e = let none : length line ≡ 0 = ap length z.0 in absurd (grind (arith, nat_tests))
 
 -- a full line is read
-full-IsUnmarked : (front : List (List ℕ)) (file : Rle) (line : List ℕ) (now : List Item) → IsUnmarked MAX_LEVEL front file → Fronts line now → BeginsAsItem line
+full-IsUnmarked : (prefix : List (List ℕ)) (file : Rle) (line : List ℕ) (now : List Item) → IsUnmarked MAX_LEVEL prefix file → Prefixes line now
+    → BeginsAsItem line
     → length line ≤ 70 → first_fault MAX_LEVEL file.rule (placed_after file.position file.items now) ≡ None
-    → IsUnmarked MAX_LEVEL (front ++ line ∷ []) (with_items file now)
-full-IsUnmarked front file line now begun h start short sound =
-    IsUnmarked-push MAX_LEVEL front file line now begun
+    → IsUnmarked MAX_LEVEL (prefix ++ line ∷ []) (with_items file now)
+full-IsUnmarked prefix file line now begun h start short sound =
+    IsUnmarked-push MAX_LEVEL prefix file line now begun
     (inr (later_of-items line start short, subst (λ bs. Spells MAX_LEVEL bs now End) (append-nil line) (h []))) sound
 
-last-IsMarked : (front : List (List ℕ)) (file : Rle) (line : List ℕ) (now : List Item) → IsUnmarked MAX_LEVEL front file → Fronts line now → Starts line now
+last-IsMarked : (prefix : List (List ℕ)) (file : Rle) (line : List ℕ) (now : List Item) → IsUnmarked MAX_LEVEL prefix file → Prefixes line now → Starts line now
     → length line + 1 ≤ 70 → first_fault MAX_LEVEL file.rule (placed_after file.position file.items now) ≡ None
-    → IsMarked MAX_LEVEL (front ++ (line ++ 33 ∷ []) ∷ []) (with_items file now)
-last-IsMarked front file line now begun h start short sound =
+    → IsMarked MAX_LEVEL (prefix ++ (line ++ 33 ∷ []) ∷ []) (with_items file now)
+last-IsMarked prefix file line now begun h start short sound =
     let size = length-append line (33 ∷ []) in
-    IsMarked-begun MAX_LEVEL front file (line ++ 33 ∷ []) now begun
+    IsMarked-begun MAX_LEVEL prefix file (line ++ 33 ∷ []) now begun
     (inr (later_of-items (line ++ 33 ∷ []) (Starts-append line (33 ∷ []) now start (refl, refl, refl)) (omega (arith, size)), h (33 ∷ []))) sound
 
 -- each wrapped line is read, and the mark ends the last
-pub wrapped-IsMarked : StatesReadBack → (front : List (List ℕ)) (file : Rle) (line : List ℕ) (now items : List Item) → IsUnmarked MAX_LEVEL front file
-    → Fronts line now → Starts line now → length line ≤ 70 → AreWritten file.rule items
+pub wrapped-IsMarked : StatesReadBack → (prefix : List (List ℕ)) (file : Rle) (line : List ℕ) (now items : List Item) → IsUnmarked MAX_LEVEL prefix file
+    → Prefixes line now → Starts line now → length line ≤ 70 → AreWritten file.rule items
     → first_fault MAX_LEVEL file.rule (placed_after file.position file.items (now ++ items)) ≡ None
-    → IsMarked MAX_LEVEL (front ++ wrapped_lines line (map (item_text file.rule) items ++ (33 ∷ []) ∷ [])) (with_items file (now ++ items))
-wrapped-IsMarked states front file line now [] begun h start short w sound =
+    → IsMarked MAX_LEVEL (prefix ++ wrapped_lines line (map (item_text file.rule) items ++ (33 ∷ []) ∷ [])) (with_items file (now ++ items))
+wrapped-IsMarked states prefix file line now [] begun h start short w sound =
     let only : now ++ [] ≡ now = append-nil now in
     let sound' : first_fault MAX_LEVEL file.rule (placed_after file.position file.items now)
     ≡ None = subst (λ xs. first_fault MAX_LEVEL file.rule (placed_after file.position file.items xs) ≡ None) only sound in
-    subst (λ xs. IsMarked MAX_LEVEL (front ++ wrapped_lines line ((33 ∷ []) ∷ [])) (with_items file xs)) (sym only)
+    subst (λ xs. IsMarked MAX_LEVEL (prefix ++ wrapped_lines line ((33 ∷ []) ∷ [])) (with_items file xs)) (sym only)
     (elim (leb (length line + 1) 70)
-    as (λ t. leb (length line + 1) 70 ≡ t → IsMarked MAX_LEVEL (front ++ cond t ((line ++ 33 ∷ []) ∷ []) (line ∷ (33 ∷ []) ∷ [])) (with_items file now)) [
-      | true ↦ λ e. last-IsMarked front file line now begun h start (grind (arith, nat_tests)) sound'
+    as (λ t. leb (length line + 1) 70 ≡ t → IsMarked MAX_LEVEL (prefix ++ cond t ((line ++ 33 ∷ []) ∷ []) (line ∷ (33 ∷ []) ∷ [])) (with_items file now)) [
+      | true ↦ λ e. last-IsMarked prefix file line now begun h start (grind (arith, nat_tests)) sound'
       | false ↦ λ e.
-          let full = full-IsUnmarked front file line now begun h (Starts-full line now 1 start (omega arith) e) short sound' in
-          let end = last-IsMarked (front ++ line ∷ []) (with_items file now) [] [] full (λ rest. refl) (inl (refl, refl)) (omega arith) refl in
-          subst (λ ls. IsMarked MAX_LEVEL ls (with_items file now)) (append_assoc front (line ∷ []) ((33 ∷ []) ∷ []))
-          (subst (λ f. IsMarked MAX_LEVEL ((front ++ line ∷ []) ++ (33 ∷ []) ∷ []) f) (with_items-nil (with_items file now)) end)
+          let full = full-IsUnmarked prefix file line now begun h (Starts-full line now 1 start (omega arith) e) short sound' in
+          let end = last-IsMarked (prefix ++ line ∷ []) (with_items file now) [] [] full (λ rest. refl) (inl (refl, refl)) (omega arith) refl in
+          subst (λ ls. IsMarked MAX_LEVEL ls (with_items file now)) (append_assoc prefix (line ∷ []) ((33 ∷ []) ∷ []))
+          (subst (λ f. IsMarked MAX_LEVEL ((prefix ++ line ∷ []) ++ (33 ∷ []) ∷ []) f) (with_items-nil (with_items file now)) end)
     ] refl)
-wrapped-IsMarked states front file line now (item ∷ items) begun h start short w sound =
+wrapped-IsMarked states prefix file line now (item ∷ items) begun h start short w sound =
     let rule = file.rule in
     let text = item_text rule item in
     let texts = map (item_text rule) items ++ (33 ∷ []) ∷ [] in
@@ -218,18 +219,18 @@ wrapped-IsMarked states front file line now (item ∷ items) begun h start short
     let parts = fault-parts MAX_LEVEL file now (item ∷ items) sound in
     elim (leb (length line + length text) 70)
     as (λ t. leb (length line + length text) 70 ≡ t
-    → IsMarked MAX_LEVEL (front ++ cond t (wrapped_lines (line ++ text) texts) (line ∷ wrapped_lines text texts))
+    → IsMarked MAX_LEVEL (prefix ++ cond t (wrapped_lines (line ++ text) texts) (line ∷ wrapped_lines text texts))
     (with_items file (now ++ item ∷ items))) [
       | true ↦ λ e.
-          subst (λ xs. IsMarked MAX_LEVEL (front ++ wrapped_lines (line ++ text) texts) (with_items file xs)) group
-          (wrapped-IsMarked states front file (line ++ text) (now ++ item ∷ []) items begun (Fronts-push states rule line now item h w.0)
+          subst (λ xs. IsMarked MAX_LEVEL (prefix ++ wrapped_lines (line ++ text) texts) (with_items file xs)) group
+          (wrapped-IsMarked states prefix file (line ++ text) (now ++ item ∷ []) items begun (Prefixes-push states rule line now item h w.0)
           (inr (Starts-append line text now start (item_text-BeginsAsItem rule item w.0))) (grind (arith, nat_tests)) w.1
           (subst (λ xs. first_fault MAX_LEVEL rule (placed_after file.position file.items xs) ≡ None) (sym group) sound))
       | false ↦ λ e.
-          let full = full-IsUnmarked front file line now begun h (Starts-full line now (length text) start (item_text-short rule item w.0) e) short parts.0 in
-          subst (λ ls. IsMarked MAX_LEVEL ls (with_items file (now ++ item ∷ items))) (append_assoc front (line ∷ []) (wrapped_lines text texts))
-          (subst (IsMarked MAX_LEVEL ((front ++ line ∷ []) ++ wrapped_lines text texts)) (with_items-twice file now (item ∷ items))
-          (wrapped-IsMarked states (front ++ line ∷ []) (with_items file now) text (item ∷ []) items full
-          (Fronts-push states rule [] [] item (λ rest. refl) w.0)
+          let full = full-IsUnmarked prefix file line now begun h (Starts-full line now (length text) start (item_text-short rule item w.0) e) short parts.0 in
+          subst (λ ls. IsMarked MAX_LEVEL ls (with_items file (now ++ item ∷ items))) (append_assoc prefix (line ∷ []) (wrapped_lines text texts))
+          (subst (IsMarked MAX_LEVEL ((prefix ++ line ∷ []) ++ wrapped_lines text texts)) (with_items-twice file now (item ∷ items))
+          (wrapped-IsMarked states (prefix ++ line ∷ []) (with_items file now) text (item ∷ []) items full
+          (Prefixes-push states rule [] [] item (λ rest. refl) w.0)
           (inr (item_text-BeginsAsItem rule item w.0)) (item_text-short rule item w.0) w.1 parts.1))
     ] refl

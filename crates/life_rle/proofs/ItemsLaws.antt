@@ -55,7 +55,7 @@ covers-place level rule left column row (RowEnds n ∷ items) zero p x y g e h =
 covers-place level rule left column row (RowEnds n ∷ items) (suc i) p x y g e h =
     inl (lower left row x y n g.0 (covers-place level rule left left (row +ℤ pos n) items i p x y g.1 e h))
 
--- so no pair of an item is one of an item behind it
+-- so no pair of an item is one of an item after it
 not_twice : (row column x y : ℤ) (n : ℕ) → among row column n x y ≡ true → NotBefore (column +ℤ pos n) row x y → ⊥
 not_twice row column x y n h (inl k) = let a = among-place row column x y n h in omega (arith, ints, a.0, k)
 not_twice row column x y n h (inr k) = let a = among-place row column x y n h in omega (arith, ints, a.2, k.1)

@@ -4,7 +4,7 @@ pub mod Shrinks
 pub mod Progress
 pub mod Unique
 pub mod Refusal
-pub mod FrontDigits
+pub mod PrefixDigits
 pub mod NumbersRead
 pub mod Fields
 pub mod PlaneLemmas
@@ -25,7 +25,7 @@ pub mod RuleTexts
 pub mod StatesRead
 pub mod GreedyLines
 pub mod TextBack
-pub mod ItemRoom
+pub mod ItemSpace
 pub mod PutItems
 pub mod TakeCells
 pub mod LineKinds
@@ -35,7 +35,7 @@ pub mod RunEnds
 pub mod RunsLaws
 pub mod ItemsLaws
 pub mod DecidedLaw
-pub mod DigitInFront
+pub mod DigitInPrefix
 pub mod FormatLaws
 pub mod Rows
 pub mod ReadInputs
@@ -45,7 +45,7 @@ pub mod PlainWords
 pub mod PlainPosition
 pub mod MarkPlace
 pub mod PlainFaults
-pub mod FrontLaws
+pub mod PrefixLaws
 pub mod ValidFiles
 pub mod LongestRuns
 pub mod PlainFiles
@@ -57,4 +57,4 @@ pub mod BlockSums
 pub mod BlockCover
 pub mod BlockBytes
 pub mod BlockLaw
-pub mod BlockFronts
+pub mod BlockPrefixes

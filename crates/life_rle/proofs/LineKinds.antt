@@ -64,7 +64,7 @@ opening-tame level line =
     (position-tame level (is_too_long line) (position_of level line) (position_of-plane level line))
     (header-tame level (is_too_long line) (header_of line) (header-kind (header_form line)))
 
--- what a line is behind the header, by whether it is too long
+-- what a line is after the header, by whether it is too long
 abbrev IsTameLater : Bool → Result Later Kind → Type 0
 IsTameLater long (Ok later) = Unit {0}
 IsTameLater long (Err kind) = IsLineKind long kind
@@ -102,28 +102,28 @@ item-kind level rule row column (Cells n s) = cells-choice (not (is_state_of rul
 item-kind level rule row column (RowEnds n) = elim (int_le (row +ℤ pos n) (rle_plane_end level)) as (λ t. IsLive (cond t None (Some OutOfPlane)))
     [ true ↦ tt | false ↦ refl ]
 
-Breaks-line_kind : (level : ℕ) (front : List (List ℕ)) (line : List ℕ) (kind : Kind) → BreaksRle level front line kind → IsLineKind (is_too_long line) kind
-Breaks-line_kind level front line kind (before_header o h e) = subst (IsTameOpening level (is_too_long line)) e (opening-tame level line)
-Breaks-line_kind level front line kind (by_form file h e) = subst (IsTameLater (is_too_long line)) e (later-tame line)
-Breaks-line_kind level front line kind (by_text file items h form s sound) = short-line (is_too_long line) kind (text-kind level items line kind s)
-Breaks-line_kind level front line kind (by_item file items item rest h form s sound fault) =
+Breaks-line_kind : (level : ℕ) (prefix : List (List ℕ)) (line : List ℕ) (kind : Kind) → BreaksRle level prefix line kind → IsLineKind (is_too_long line) kind
+Breaks-line_kind level prefix line kind (before_header o h e) = subst (IsTameOpening level (is_too_long line)) e (opening-tame level line)
+Breaks-line_kind level prefix line kind (by_form file h e) = subst (IsTameLater (is_too_long line)) e (later-tame line)
+Breaks-line_kind level prefix line kind (by_text file items h form s sound) = short-line (is_too_long line) kind (text-kind level items line kind s)
+Breaks-line_kind level prefix line kind (by_item file items item rest h form s sound fault) =
     short-line (is_too_long line) kind
     (subst IsLive fault (item-kind level file.rule (file.position.y +ℤ pos (rows_in (file.items ++ items)))
     (file.position.x +ℤ pos (columns_in (file.items ++ items))) item))
 
-pub Breaks-kind : (level : ℕ) (front : List (List ℕ)) (line : List ℕ) (kind : Kind) → BreaksRle level front line kind → is_rle_kind kind ≡ true
-Breaks-kind level front line kind b = line-rle (is_too_long line) kind (Breaks-line_kind level front line kind b)
+pub Breaks-kind : (level : ℕ) (prefix : List (List ℕ)) (line : List ℕ) (kind : Kind) → BreaksRle level prefix line kind → is_rle_kind kind ≡ true
+Breaks-kind level prefix line kind b = line-rle (is_too_long line) kind (Breaks-line_kind level prefix line kind b)
 
 -- only a line that is too long breaks the rule of lengths
-pub Breaks-long : (level : ℕ) (front : List (List ℕ)) (line : List ℕ) → BreaksRle level front line LineTooLong → is_too_long line ≡ true
-Breaks-long level front line b = only-long (is_too_long line) (Breaks-line_kind level front line LineTooLong b)
+pub Breaks-long : (level : ℕ) (prefix : List (List ℕ)) (line : List ℕ) → BreaksRle level prefix line LineTooLong → is_too_long line ≡ true
+Breaks-long level prefix line b = only-long (is_too_long line) (Breaks-line_kind level prefix line LineTooLong b)
 
 -- each of these kinds names a line
 pub names_line : (kind : Kind) → is_rle_kind kind ≡ true → is_placeless kind ≡ false
 names_line = kinds_name_lines is_rle_kind refl
 
-pub Breaks-placed : (level : ℕ) (front : List (List ℕ)) (line : List ℕ) (kind : Kind) → BreaksRle level front line kind → is_placeless kind ≡ false
-Breaks-placed level front line kind b = names_line kind (Breaks-kind level front line kind b)
+pub Breaks-placed : (level : ℕ) (prefix : List (List ℕ)) (line : List ℕ) (kind : Kind) → BreaksRle level prefix line kind → is_placeless kind ≡ false
+Breaks-placed level prefix line kind b = names_line kind (Breaks-kind level prefix line kind b)
 
 -- an answer that isn't want of memory is the definition's
 pub answered : {X : Type 0} (r expected : Result X Kind) (x : X) → r ≡ Ok x → Answers r expected → expected ≡ Ok x

@@ -47,7 +47,7 @@ chain-longest items c = record {
 
 -- ---- the items of cells
 
--- cells of this state in front
+-- cells of this state at the beginning
 abbrev Begins : ℕ → List Item → Type 0
 Begins state [] = ⊥
 Begins state (Cells count other ∷ items) = other ≡ state
@@ -76,14 +76,14 @@ with_cell-begins state (Cells n other ∷ items) live c = by (eqb state other) r
         (longer n (1 + n) state items (omega arith) (subst P (same-state state other e) c), refl)
     by false e = ((omega arith, eqb-false state other e, c), refl)
 
--- dead cells in front of live ones
+-- dead cells before live ones
 gap-chain : (gap state : ℕ) (items : List Item) → 1 ≤ state → BeginsAs state items → Chain (with_gap gap items)
 gap-chain zero state items live b = b.0
 gap-chain (suc n) state [] live b = absurd b.1
 gap-chain (suc n) state (RowEnds count ∷ items) live b = absurd b.1
 gap-chain (suc n) state (Cells count other ∷ items) live b = (omega arith, λ e. omega (arith, b.1, e), b.0)
 
--- and ends of rows in front of both
+-- and ends of rows before both
 row-chain : (rows gap state : ℕ) (items : List Item) → 1 ≤ rows → 1 ≤ state → BeginsAs state items → Chain (RowEnds rows ∷ with_gap gap items)
 row-chain rows zero state [] some live b = absurd b.1
 row-chain rows zero state (RowEnds count ∷ items) some live b = absurd b.1

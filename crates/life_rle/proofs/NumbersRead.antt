@@ -33,28 +33,28 @@ both_out z w h k = (k ∙ sym h, λ e. cc)
 abbrev read_by : (ℕ → ℤ) → ℕ → Bool → Bool → Result ℤ Kind
 read_by sign n digits fits = result_map sign (cond (not digits) (Err BadNumber) (cond fits (Ok n) (Err TooLarge)))
 
-abbrev told_by : (ℕ → ℤ) → ℕ → Bool → Option ℤ
-told_by sign n digits = cond digits (Some (sign n)) None
+abbrev reported_by : (ℕ → ℤ) → ℕ → Bool → Option ℤ
+reported_by sign n digits = cond digits (Some (sign n)) None
 
 keeps_by : (sign : ℕ → ℤ) (n : ℕ) (digits fits : Bool) → (fits ≡ false → is_coordinate MAX_LEVEL (sign n) ≡ false)
-    → Keeps (read_by sign n digits fits) (told_by sign n digits)
+    → Keeps (read_by sign n digits fits) (reported_by sign n digits)
 keeps_by sign n false fits h = tt
 keeps_by sign n true true h = (refl, λ _. refl)
 keeps_by sign n true false h = both_out greatest (sign n) (above_out (2 ^ 63 - 1) (omega arith)) (h refl)
 
 negative : (text : List ℕ) → Keeps (result_map (λ n. neg_ℤ (pos n)) (number_up_to (2 ^ 63) text))
-    (told_by (λ n. neg_ℤ (pos n)) (value_of text) (is_digit_text text))
+    (reported_by (λ n. neg_ℤ (pos n)) (value_of text) (is_digit_text text))
 negative text = keeps_by (λ n. neg_ℤ (pos n)) (value_of text) (is_digit_text text) (leb (value_of text) (2 ^ 63))
     (λ e. let big : 2 ^ 63 ≤ value_of text = grind (arith, nat_tests) in below_out (value_of text) big)
 
-positive : (text : List ℕ) → Keeps (result_map (λ n. pos n) (number_up_to (2 ^ 63 - 1) text)) (told_by (λ n. pos n) (value_of text) (is_digit_text text))
+positive : (text : List ℕ) → Keeps (result_map (λ n. pos n) (number_up_to (2 ^ 63 - 1) text)) (reported_by (λ n. pos n) (value_of text) (is_digit_text text))
 positive text = keeps_by (λ n. pos n) (value_of text) (is_digit_text text) (leb (value_of text) (2 ^ 63 - 1))
     (λ e. let big : 2 ^ 63 - 1 ≤ value_of text = grind (arith, nat_tests) in above_out (value_of text) big)
 
 by_sign : (sign : Bool) (text : List ℕ)
     → Keeps (cond sign (result_map (λ n. neg_ℤ (pos n)) (number_up_to (2 ^ 63) (drop 1 text))) (result_map (λ n. pos n) (number_up_to (2 ^ 63 - 1) text)))
-    (cond sign (told_by (λ n. neg_ℤ (pos n)) (value_of (drop 1 text)) (is_digit_text (drop 1 text)))
-    (told_by (λ n. pos n) (value_of text) (is_digit_text text)))
+    (cond sign (reported_by (λ n. neg_ℤ (pos n)) (value_of (drop 1 text)) (is_digit_text (drop 1 text)))
+    (reported_by (λ n. pos n) (value_of text) (is_digit_text text)))
 by_sign true text = negative (drop 1 text)
 by_sign false text = positive text
 

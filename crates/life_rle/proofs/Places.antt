@@ -1,4 +1,4 @@
--- The sums behind an item follow those before it: so places can be kept as running numbers.
+-- The sums after an item follow those before it: so places can be kept as running numbers.
 use Rattle.std.proofs.Common.{◌≡◌, ℕ, ◌+◌, Bool, true, false, cond, List, [], ◌∷◌, ◌++◌, refl, ap, ◌∙◌, ℤ, pos, ◌+ℤ◌, arith, sym}
 use Rattle.std.proofs.lemmas.Int.{ints}
 use Rattle.std.specs.List.{list_any}

@@ -12,8 +12,8 @@ use Rattle.life_rle.specs.declared.item.Item.TheVariants.{Cells, RowEnds}
 use Rattle.life_rle.specs.Plane.{most_count}
 use Rattle.life_rle.specs.Items.{leading_digits, after_digits_of, Mark, Spelled, Broken, next_of_cells, item_after, item_with_digits, item_in, next_of}
 use Rattle.life_rle.specs.Plain.{IsCountText, HasNoIndent, HasNoDigit, HasNoState, HasItemPlace, IsNoItem, zero_count, large_count, no_state, FaultsArePlain}
-use Rattle.life_base.proofs.FrontDigits.{list_all-front}
-use Rattle.life_rle.proofs.Texts.{Stops, front-stop, behind-stop}
+use Rattle.life_base.proofs.PrefixDigits.{list_all-prefix}
+use Rattle.life_rle.proofs.Texts.{Stops, prefix-stop, behind-stop}
 use Rattle.life_rle.proofs.PlainItems.{IsRead-text, IsTextOf-Spells, Spells-IsTextOf, state_at-text}
 use Rattle.life_rle.proofs.PlainHeader.{trim_start-HasNoIndent}
 use Rattle.life_rle.proofs.ReadBack.{digits-all}
@@ -24,7 +24,7 @@ plain-Stops : (rest : List ℕ) → HasNoDigit rest → Stops is_ascii_digit res
 plain-Stops [] h = tt
 plain-Stops (b ∷ rest) h = h
 
--- what is in front of an item's place
+-- what is before an item's place
 next_of-place : (level : ℕ) (bytes : List ℕ) → HasItemPlace bytes → next_of level bytes ≡ item_with_digits level (leading_digits bytes) (after_digits_of bytes)
 next_of-place level [] h = absurd h
 next_of-place level (b ∷ bytes) h =
@@ -39,7 +39,7 @@ next_of-counted : (level : ℕ) (digits rest bytes : List ℕ) → HasItemPlace 
 next_of-counted level digits rest bytes place e h s =
     next_of-place level bytes place
     ∙ ap (λ (t : List ℕ). item_with_digits level (leading_digits t) (after_digits_of t)) e
-    ∙ ap (λ (front : List ℕ). item_with_digits level front (after_digits_of (digits ++ rest))) (front-stop is_ascii_digit digits rest h (plain-Stops rest s))
+    ∙ ap (λ (prefix : List ℕ). item_with_digits level prefix (after_digits_of (digits ++ rest))) (prefix-stop is_ascii_digit digits rest h (plain-Stops rest s))
     ∙ ap (item_with_digits level digits) (behind-stop is_ascii_digit digits rest h (plain-Stops rest s))
 
 counted-zero : (level : ℕ) (digits rest : List ℕ) → is_digit_text digits ≡ true → value_of digits ≡ 0 → item_with_digits level digits rest ≡ Broken ZeroCount
@@ -162,7 +162,7 @@ item_in-IsNoItem level (b ∷ bytes) kind n read =
       | false ↦ λ e h. (
         (n, λ v. let same : eqb b 33 ≡ true = grind (arith, nat_tests, v) in cc),
         counted-IsNoItem level (leading_digits all) (after_digits_of all) all kind (sym (take-append-drop (prefix_len is_ascii_digit all) all))
-            (list_all-front is_ascii_digit all) (behind-HasNoDigit all) h,
+            (list_all-prefix is_ascii_digit all) (behind-HasNoDigit all) h,
       )
     ] refl read
 

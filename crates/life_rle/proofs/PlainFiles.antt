@@ -50,8 +50,8 @@ hash-first b rest h = grind (arith, nat_tests)
 position-first : (line : List ℕ) → is_position_line line ≡ true → (rest : List ℕ) × (line ≡ 35 ∷ rest)
 position-first [] h = cc
 position-first (b ∷ rest) h =
-    let front = (and_parts (begins_with (b ∷ rest) (codes "#CXRLE")) (is_blank (take 1 (drop 6 (b ∷ rest)))) h).0 in
-    (rest, ap (λ c. c ∷ rest) (hash-first b rest front))
+    let prefix = (and_parts (begins_with (b ∷ rest) (codes "#CXRLE")) (is_blank (take 1 (drop 6 (b ∷ rest)))) h).0 in
+    (rest, ap (λ c. c ∷ rest) (hash-first b rest prefix))
 
 no-position : (line : List ℕ) → begins_with line (codes "#") ≡ false → is_position_line line ≡ false
 no-position line h = by (is_position_line line) refl
@@ -132,7 +132,7 @@ opening-header : (level : ℕ) (line : List ℕ) (rule : Rule) → opening_of le
 opening-header level line rule q =
     let h = opening-is level line (Ok (Header rule)) q in (short-of line h.0, rule-line line rule (header_form line) refl h.1)
 
--- ---- lines in front of it
+-- ---- lines before it
 
 preamble-plain : (level : ℕ) (given position : Position) (lines : List (List ℕ)) → IsPreamble level given lines position
     → ArePreamble level given lines position
@@ -149,7 +149,7 @@ plain-preamble level given position (line ∷ lines) (short, inl h) = inl (comme
 plain-preamble level given position (line ∷ lines) (short, inr h) = inr
     (h.0, position-opening level line h.0 short h.1, plain-preamble level h.0 position lines h.2)
 
--- ---- a line behind the header
+-- ---- a line after the header
 
 abbrev later-by : (long blank position comment header : Bool) → Result Later Kind
 later-by long blank position comment header = cond long (Err LineTooLong)

@@ -10,9 +10,9 @@ use Rattle.life_base.specs.Text.{is_empty, is_whitespace, is_blank, is_digit_tex
 use Rattle.life_rle.specs.Items.{leading_digits, after_digits_of}
 use Rattle.life_rle.specs.Header.{◌>>=◌, after_word, after_number, rule_part, header_form}
 use Rattle.life_rle.specs.Plain.{AreTokens, size_tokens, HasNoIndent, IsHeaderLine, HeadersArePlain}
-use Rattle.life_rle.proofs.Texts.{Stops, front-stop, behind-stop, digit-plain}
+use Rattle.life_rle.proofs.Texts.{Stops, prefix-stop, behind-stop, digit-plain}
 use Rattle.life_rle.proofs.PlainItems.{indented}
-use Rattle.life_base.proofs.Texts.{blank_front}
+use Rattle.life_base.proofs.Texts.{blank_prefix}
 
 -- one token, whitespace, and a text that begins with none
 abbrev IsToken : List ℕ → List ℕ → List ℕ → Type 0
@@ -77,7 +77,7 @@ token-after_word word space more bytes h e n =
     ∙ ap (λ t. cond t (Some (trim_start (drop (length word) all))) None)
     ((bytes_eq-Decides (take (length word) all) word).1 (take-append_seam word (space ++ more)))
     ∙ ap (λ (t : List ℕ). Some (trim_start t)) (drop-append_seam word (space ++ more))
-    ∙ ap Some (blank_front space more h ∙ no_indent more n)
+    ∙ ap Some (blank_prefix space more h ∙ no_indent more n)
 
 space-Stops : (space more : List ℕ) → is_blank space ≡ true → Stops is_ascii_digit more → Stops is_ascii_digit (space ++ more)
 space-Stops [] more h s = s
@@ -92,10 +92,10 @@ token-after_number digits space more bytes d h e n s =
     let parts = and_parts (not (is_empty digits)) (list_all is_ascii_digit digits) d in
     ap after_number e
     ∙ ap (λ (t : List ℕ). cond (is_digit_text t) (Some (trim_start (after_digits_of all))) None)
-    (front-stop is_ascii_digit digits (space ++ more) parts.1 stops)
+    (prefix-stop is_ascii_digit digits (space ++ more) parts.1 stops)
     ∙ ap (λ t. cond t (Some (trim_start (after_digits_of all))) None) d
     ∙ ap (λ (t : List ℕ). Some (trim_start t)) (behind-stop is_ascii_digit digits (space ++ more) parts.1 stops)
-    ∙ ap Some (blank_front space more h ∙ no_indent more n)
+    ∙ ap Some (blank_prefix space more h ∙ no_indent more n)
 
 digits-HasNoIndent : (digits more : List ℕ) → is_digit_text digits ≡ true → HasNoIndent (digits ++ more)
 digits-HasNoIndent [] more h = cc
@@ -178,7 +178,7 @@ tokens-rule_part bytes (Some text) h =
           (some-then (after_word (codes "=") r.1) (λ rest. Some (Some rest)) e.1 (Some text) three last)),
     )
 
--- the tokens up to the height, and what stands behind them
+-- the tokens up to the height, and what comes after them
 abbrev IsSized : List ℕ → List ℕ → Type 0
 IsSized line behind =
     (width height : List ℕ) × (is_digit_text width ≡ true) × (is_digit_text height ≡ true)

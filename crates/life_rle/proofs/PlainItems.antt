@@ -13,8 +13,8 @@ use Rattle.life_rle.specs.declared.item.Item.TheVariants.{Cells, RowEnds}
 use Rattle.life_rle.specs.Plane.{most_count}
 use Rattle.life_rle.specs.Items.{leading_digits, after_digits_of, Next, End, Mark, Spelled, Broken, next_of_cells, item_after, item_with_digits, item_in, next_of, Spells}
 use Rattle.life_rle.specs.Plain.{IsStateText, letter_b, dot, letter_o, letter, prefixed, IsCountText, IsItemText, IsTextOfItems, ItemsArePlain}
-use Rattle.life_base.proofs.FrontDigits.{list_all-front}
-use Rattle.life_base.proofs.Texts.{blank_front}
+use Rattle.life_base.proofs.PrefixDigits.{list_all-prefix}
+use Rattle.life_base.proofs.Texts.{blank_prefix}
 use Rattle.life_rle.proofs.Texts.{IsTag, IsTag-letter, next_of-tag, next_of-digits}
 use Rattle.life_rle.proofs.StatesRead.{one-byte, two-bytes}
 
@@ -73,13 +73,13 @@ next_of-item : (level : ℕ) (space text more : List ℕ) (item : Item) → is_b
     → next_of level (space ++ (text ++ more)) ≡ Spelled item more
 next_of-item level space text more (Cells count state) h i =
     let r = IsRead-text count state i.1 more i.4 in
-    ap (item_in level) (blank_front space (text ++ more) h)
+    ap (item_in level) (blank_prefix space (text ++ more) h)
     ∙ ap (λ (t : List ℕ). next_of level (t ++ more)) i.2
     ∙ ap (next_of level) (append_assoc i.0 i.1 more)
     ∙ next_of-count level count i.0 (i.1 ++ more) i.3 r.0
     ∙ r.1
 next_of-item level space text more (RowEnds count) h i =
-    ap (item_in level) (blank_front space (text ++ more) h)
+    ap (item_in level) (blank_prefix space (text ++ more) h)
     ∙ ap (λ (t : List ℕ). next_of level (t ++ more)) i.2
     ∙ ap (next_of level) (append_assoc i.0 i.1 more)
     ∙ ap (λ (t : List ℕ). next_of level (i.0 ++ (t ++ more))) i.4
@@ -88,11 +88,11 @@ next_of-item level space text more (RowEnds count) h i =
 -- so the texts of items spell them
 pub IsTextOf-Spells : (level : ℕ) (items : List Item) (line rest : List ℕ) (last : Next) → next_of level rest ≡ last → IsTextOfItems level line items rest
     → Spells level line items last
-IsTextOf-Spells level [] line rest last h i = ap (next_of level) i.2 ∙ ap (item_in level) (blank_front i.0 rest i.1) ∙ h
+IsTextOf-Spells level [] line rest last h i = ap (next_of level) i.2 ∙ ap (item_in level) (blank_prefix i.0 rest i.1) ∙ h
 IsTextOf-Spells level (item ∷ items) line rest last h i =
     (i.2, ap (next_of level) i.5 ∙ next_of-item level i.0 i.1 i.2 item i.3 i.4, IsTextOf-Spells level items i.2 rest last h i.6)
 
--- what stands in front of a text without its whitespace is whitespace
+-- what stands at the beginning of a text without its whitespace is whitespace
 pub indented : (text : List ℕ) → (space : List ℕ) × (is_blank space ≡ true) × (text ≡ space ++ trim_start text)
 indented [] = ([], refl, refl)
 indented (b ∷ text) =
@@ -102,7 +102,7 @@ indented (b ∷ text) =
       | false ↦ λ e. ([], refl, refl)
     ] refl
 
--- the text of a state and what stands behind it
+-- the text of a state and what comes after it
 abbrev StateAt : List ℕ → ℕ → List ℕ → Type 0
 StateAt bytes state rest = (text : List ℕ) × IsStateText text state × (bytes ≡ text ++ rest)
 
@@ -196,7 +196,7 @@ state_at-text (b ∷ c ∷ bytes) rest state h = pick (first-either (with_rest (
     pick (inl e) = found-single b state rest (c ∷ bytes) e
     pick (inr e) = found-prefixed b c state rest bytes e
 
--- what an item's place holds, if it is an item: its text behind the digits
+-- what an item's place holds, if it is an item: its text after the digits
 abbrev IsFound : ℕ → List ℕ → List ℕ → Next → Type 0
 IsFound level digits bytes End = ⊥
 IsFound level digits bytes Mark = ⊥
@@ -254,7 +254,7 @@ item_in-held level (b ∷ bytes) =
       | true ↦ λ e. let v : b ≡ 33 = grind (arith, nat_tests, e) in (bytes, ap (λ (n : ℕ). n ∷ bytes) v)
       | false ↦ λ e. held level (leading_digits all) (after_digits_of all) all (item_with_digits level (leading_digits all) (after_digits_of all))
           (sym (take-append-drop (prefix_len is_ascii_digit all) all))
-          (counted-found level (leading_digits all) (after_digits_of all) (list_all-front is_ascii_digit all))
+          (counted-found level (leading_digits all) (after_digits_of all) (list_all-prefix is_ascii_digit all))
     ] refl
 
 next_of-held : (level : ℕ) (bytes : List ℕ) (next : Next) → next_of level bytes ≡ next → IsHeld level (trim_start bytes) next
@@ -271,7 +271,7 @@ Spells-IsTextOf level (item ∷ items) line last Rest f h =
     let more = Spells-IsTextOf level items h.0 last Rest f h.2 in
     (more.0, more.1, (i.0, k.0, h.0, i.1, k.1, i.2 ∙ ap (λ (t : List ℕ). i.0 ++ t) k.2, more.2))
 
--- the same behind items, of one item more
+-- the same after items, of one item more
 Spells-item : (level : ℕ) (line : List ℕ) (items : List Item) (item : Item) (rest : List ℕ) → Spells level line items (Spelled item rest)
     ↔ ((text : List ℕ) × IsItemText level text item × IsTextOfItems level line items (text ++ rest))
 Spells-item level line items item rest = (

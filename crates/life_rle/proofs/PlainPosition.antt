@@ -18,7 +18,7 @@ use Rattle.life_rle.specs.PlainPosition.{AreWords, IsNumberText, IsFieldText, co
 use Rattle.life_rle.proofs.ReadPosition.{is_plain, digits-plain, signed_number-digits, before-comma, after-comma}
 use Rattle.life_rle.proofs.PlainWords.{AreWords-words_of, words_of-AreWords, no}
 
--- ---- words in front
+-- ---- words at the beginning
 
 -- a text begins with a word exactly if it is that word and a rest
 begins-split : (text word : List ℕ) → begins_with text word ≡ true → text ≡ word ++ drop (length word) text
@@ -79,7 +79,7 @@ IsCutBy n m text = (text ≡ take n text ++ 44 ∷ drop m text) ⊎ (drop m text
 abbrev IsCutAt : ℕ → List ℕ → Type 0
 IsCutAt n text = IsCutBy n (n + 1) text
 
--- a text with a comma is what stands before the first, the comma, and what stands behind it
+-- a text with a comma is what stands before the first, the comma, and what comes after it
 at-comma : (text : List ℕ) → IsCutAt (position_or_len (λ b. eqb b 44) text) text
 at-comma [] = inr refl
 at-comma (b ∷ text) = by (eqb b 44) refl (at-comma text)
@@ -271,12 +271,12 @@ fields-read level o (word ∷ words) (field ∷ fields) h =
 
 -- words of which the first that is no field breaks this rule
 record ReadsFault (level : ℕ) (words : List (List ℕ)) (kind : Kind) : Type 0 where
-  front : List (List ℕ)
+  prefix : List (List ℕ)
   word : List ℕ
   rest : List (List ℕ)
   fields : List Field
-  whole : words ≡ front ++ word ∷ rest
-  each : AreFields level front fields
+  whole : words ≡ prefix ++ word ∷ rest
+  each : AreFields level prefix fields
   fault : IsNoField level word kind
 
 read-fault : (level : ℕ) (o : Position) (words : List (List ℕ)) (kind : Kind) → position_with level o words ≡ Err kind → ReadsFault level words kind
@@ -289,7 +289,7 @@ read-fault level o (word ∷ words) kind h = by (field_of level word) refl h (λ
     by (Ok field) e k next =
         let more = next field k in
         record {
-          front = word ∷ more.front;
+          prefix = word ∷ more.prefix;
           word = more.word;
           rest = more.rest;
           fields = field ∷ more.fields;
@@ -299,26 +299,26 @@ read-fault level o (word ∷ words) kind h = by (field_of level word) refl h (λ
         }
     by (Err found) e k next =
         let same : found ≡ kind = cc in
-        record { front = []; word = word; rest = words; fields = []; whole = refl; each = tt; fault = field-fault level word kind (e ∙ ap Err same) }
+        record { prefix = []; word = word; rest = words; fields = []; whole = refl; each = tt; fault = field-fault level word kind (e ∙ ap Err same) }
 
-fault-read : (level : ℕ) (o : Position) (front : List (List ℕ)) (word : List ℕ) (rest : List (List ℕ)) (fields : List Field) (kind : Kind)
-    → AreFields level front fields → IsNoField level word kind → position_with level o (front ++ word ∷ rest) ≡ Err kind
+fault-read : (level : ℕ) (o : Position) (prefix : List (List ℕ)) (word : List ℕ) (rest : List (List ℕ)) (fields : List Field) (kind : Kind)
+    → AreFields level prefix fields → IsNoField level word kind → position_with level o (prefix ++ word ∷ rest) ≡ Err kind
 fault-read level o [] word rest fields kind h n =
     ap (λ r. and_then r (λ found. position_with level (position_with_field o found) rest)) (fault-field level word kind n)
-fault-read level o (first ∷ front) word rest [] kind h n = absurd h
-fault-read level o (first ∷ front) word rest (field ∷ fields) kind h n =
-    ap (λ r. and_then r (λ found. position_with level (position_with_field o found) (front ++ word ∷ rest))) (text-field level first field h.0)
-    ∙ fault-read level (position_with_field o field) front word rest fields kind h.1 n
+fault-read level o (first ∷ prefix) word rest [] kind h n = absurd h
+fault-read level o (first ∷ prefix) word rest (field ∷ fields) kind h n =
+    ap (λ r. and_then r (λ found. position_with level (position_with_field o found) (prefix ++ word ∷ rest))) (text-field level first field h.0)
+    ∙ fault-read level (position_with_field o field) prefix word rest fields kind h.1 n
 
 -- ---- the last of several fields counts
 
 abbrev LastCorner : Position → List Field → ℤ → ℤ → Type 0
 LastCorner o fields x y =
-    (HasNoCorner fields × (x ≡ o.x) × (y ≡ o.y)) ⊎ ((front rest : List Field) × (fields ≡ front ++ Corner x y ∷ rest) × HasNoCorner rest)
+    (HasNoCorner fields × (x ≡ o.x) × (y ≡ o.y)) ⊎ ((prefix rest : List Field) × (fields ≡ prefix ++ Corner x y ∷ rest) × HasNoCorner rest)
 
 abbrev LastGeneration : Position → List Field → ℕ → Type 0
 LastGeneration o fields n =
-    (HasNoGeneration fields × (n ≡ o.generation)) ⊎ ((front rest : List Field) × (fields ≡ front ++ Generation n ∷ rest) × HasNoGeneration rest)
+    (HasNoGeneration fields × (n ≡ o.generation)) ⊎ ((prefix rest : List Field) × (fields ≡ prefix ++ Generation n ∷ rest) × HasNoGeneration rest)
 
 corner-behind : (o p : Position) (field : Field) (fields : List Field) (x y : ℤ)
     → (HasNoCorner fields → (x ≡ p.x) × (y ≡ p.y) → LastCorner o (field ∷ fields) x y)
@@ -369,9 +369,9 @@ kept-generation o (Corner x y ∷ fields) h = kept-generation (position_with_fie
 kept-generation o (Generation n ∷ fields) h = absurd h
 kept-generation o (Other ∷ fields) h = kept-generation o fields h
 
-with-append : (o : Position) (front rest : List Field) → with_fields o (front ++ rest) ≡ with_fields (with_fields o front) rest
+with-append : (o : Position) (prefix rest : List Field) → with_fields o (prefix ++ rest) ≡ with_fields (with_fields o prefix) rest
 with-append o [] rest = refl
-with-append o (field ∷ front) rest = with-append (position_with_field o field) front rest
+with-append o (field ∷ prefix) rest = with-append (position_with_field o field) prefix rest
 
 corner-last : (o : Position) (fields : List Field) (x y : ℤ) → LastCorner o fields x y → ((with_fields o fields).x ≡ x) × ((with_fields o fields).y ≡ y)
 corner-last o fields x y (inl h) = let k = kept-corner o fields h.0 in (k.0 ∙ sym h.1, k.1 ∙ sym h.2)
@@ -439,7 +439,7 @@ position-fault level line kind h =
     let read = read-fault level default_position (words_of text) kind h.1 in
     record {
       text = text;
-      words = read.front;
+      words = read.prefix;
       word = read.word;
       behind = read.rest;
       fields = read.fields;

@@ -11,7 +11,7 @@ take-EndsWord : (text : List ℕ) → is_blank (take 1 text) ≡ true → EndsWo
 take-EndsWord [] h = tt
 take-EndsWord (b ∷ text) h = (and_parts (is_whitespace b) true h).0
 
--- some whitespace in front
+-- some whitespace at the beginning
 space-take : (space text : List ℕ) → is_empty space ≡ false → is_blank space ≡ true → is_blank (take 1 (space ++ text)) ≡ true
 space-take [] text n h = cc
 space-take (b ∷ space) text n h = ap (λ v. v && true) (and_parts (is_whitespace b) (is_blank space) h).0
@@ -31,7 +31,7 @@ AreWords-words_of (word ∷ words) text h =
       ap words_of h.5 ∙ blank_words h.0 (word ++ h.1) h.3 ∙ first-word word h.1 h.4 more.0 ∙ ap (λ (ws : List (List ℕ)). word ∷ ws) more.1,
     )
 
--- the same with whitespace or the end behind each word
+-- the same with whitespace or the end after each word
 abbrev Separated : List ℕ → List (List ℕ) → Type 0
 Separated text [] = is_blank text ≡ true
 Separated text (word ∷ words) =

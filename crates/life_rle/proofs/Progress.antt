@@ -1,4 +1,4 @@
--- Reading line by line, and that it follows the grammar: so what the lines are is determined, also by their front.
+-- Reading line by line, and that it follows the grammar: so what the lines are is determined, also by their prefix.
 use Rattle.std.proofs.Common.{◌≡◌, ℕ, List, [], ◌∷◌, ◌++◌, length, refl, sym, ap, ◌∙◌, subst, inl, inr, Some, None, Ok, Err, Option, Result, append_assoc, ◌⊎◌, append-nil}
 use Rattle.life_base.specs.declared.kind.Kind.{Kind}
 use Rattle.life_base.specs.declared.kind.Kind.TheVariants.{BadItem}
@@ -22,7 +22,7 @@ fault_of_next Mark = None
 fault_of_next (Spelled item rest) = None
 fault_of_next (Broken kind) = Some kind
 
--- which rule further items break first behind a file, or what stands behind them
+-- which rule further items break first after a file, or what comes after them
 abbrev pub items_fault : ℕ → Rle → List Item → Next → Option Kind
 items_fault level file items last = option_or (first_fault level file.rule (placed_after file.position file.items items)) (fault_of_next last)
 
@@ -94,7 +94,7 @@ pub progress-Ended : (level : ℕ) (file : Rle) (lines : List (List ℕ)) → pr
 progress-Ended level file [] = refl
 progress-Ended level file (line ∷ lines) = progress-Ended level file lines
 
--- items behind items
+-- items after items
 pub placed_behind-append : (o : Position) (before xs ys : List Item) → placed_after o before (xs ++ ys) ≡ placed_after o before xs
     ++ placed_after o (before ++ xs) ys
 placed_behind-append o before [] ys = ap (λ b. placed_after o b ys) (sym (append-nil before))
@@ -156,7 +156,7 @@ pub IsMarked-begun : (level : ℕ) (lines : List (List ℕ)) (file : Rle) (line 
     → LineSpells level line more Mark → first_fault level file.rule (placed_after file.position file.items more) ≡ None
     → IsMarked level (lines ++ line ∷ []) (with_items file more)
 IsMarked-begun level lines file line more b s sound = record {
-  front = lines;
+  prefix = lines;
   last = line;
   free = [];
   whole = refl;
@@ -171,10 +171,10 @@ IsMarked-begun level lines file line more b s sound = record {
 
 pub IsMarked-append : (level : ℕ) (lines more : List (List ℕ)) (file : Rle) → IsMarked level lines file → IsMarked level (lines ++ more) file
 IsMarked-append level lines more file b = record {
-  front = b.front;
+  prefix = b.prefix;
   last = b.last;
   free = b.free ++ more;
-  whole = ap (λ (ls : List (List ℕ)). ls ++ more) b.whole ∙ append_assoc b.front (b.last ∷ b.free) more;
+  whole = ap (λ (ls : List (List ℕ)). ls ++ more) b.whole ∙ append_assoc b.prefix (b.last ∷ b.free) more;
   earlier = b.earlier;
   final = b.final;
   items = b.items;
@@ -205,13 +205,13 @@ IsOpenBy-map preamble rule items sound lines file b = record {
 }
 
 pub IsEndedBy-map : {IsOpen IsOpen' : List (List ℕ) → Rle → Type 0} {IsLast IsLast' : List ℕ → List Item → Type 0} {IsSound IsSound' : Rle → Type 0}
-    → ((front : List (List ℕ)) (file : Rle) → IsOpen front file → IsOpen' front file)
+    → ((prefix : List (List ℕ)) (file : Rle) → IsOpen prefix file → IsOpen' prefix file)
     → ((last : List ℕ) (items : List Item) → IsLast last items → IsLast' last items) → ((file : Rle) → IsSound file → IsSound' file)
     → (lines : List (List ℕ)) (file : Rle) → IsEndedBy IsOpen IsLast IsSound lines file → IsEndedBy IsOpen' IsLast' IsSound' lines file
 IsEndedBy-map begun marked sound lines file b = record {
-  front = b.front;
+  prefix = b.prefix;
   earlier = b.earlier;
-  begun = begun b.front (record file { items = b.earlier }) b.begun;
+  begun = begun b.prefix (record file { items = b.earlier }) b.begun;
   last = b.last;
   final = b.final;
   marked = marked b.last b.final b.marked;
@@ -280,12 +280,12 @@ step-Stands level lines (Begun file) line h = later_step-Stands level lines file
 step-Stands level lines (Ended file) line h = IsMarked-push level lines file line h
 step-Stands level lines (Refused kind) line h = tt
 
-progress-Stands : (level : ℕ) (front : List (List ℕ)) (p : Progress) (lines : List (List ℕ)) → Stands level front p
-    → Stands level (front ++ lines) (progress level p lines)
-progress-Stands level front p [] h = subst (λ ls. Stands level ls p) (sym (append-nil front)) h
-progress-Stands level front p (line ∷ lines) h =
-    subst (λ ls. Stands level ls (progress level (step level p line) lines)) (append_assoc front (line ∷ []) lines)
-    (progress-Stands level (front ++ line ∷ []) (step level p line) lines (step-Stands level front p line h))
+progress-Stands : (level : ℕ) (prefix : List (List ℕ)) (p : Progress) (lines : List (List ℕ)) → Stands level prefix p
+    → Stands level (prefix ++ lines) (progress level p lines)
+progress-Stands level prefix p [] h = subst (λ ls. Stands level ls p) (sym (append-nil prefix)) h
+progress-Stands level prefix p (line ∷ lines) h =
+    subst (λ ls. Stands level ls (progress level (step level p line) lines)) (append_assoc prefix (line ∷ []) lines)
+    (progress-Stands level (prefix ++ line ∷ []) (step level p line) lines (step-Stands level prefix p line h))
 
 -- what the lines are by reading them
 pub lines-Stands : (level : ℕ) (lines : List (List ℕ)) → Stands level lines (progress level start lines)

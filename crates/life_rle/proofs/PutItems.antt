@@ -47,14 +47,14 @@ lines-text position header rule items first second new a b e =
     ∙ append_assoc (position ++ 10 ∷ []) (header ++ 10 ∷ []) rest
     ∙ ap (λ t. (position ++ 10 ∷ []) ++ ((header ++ 10 ∷ []) ++ t)) (sym (wrapped-text [] (map (item_text rule) items ++ (33 ∷ []) ∷ [])))
 
--- four texts, one behind the other
+-- four texts, one after the other
 pub four-texts : (a b c d old first second third new : List ℕ) → first ≡ old ++ a → second ≡ first ++ b → third ≡ second ++ c → new ≡ third ++ d
     → new ≡ old ++ (((a ++ b) ++ c) ++ d)
 four-texts a b c d old first second third new e f g h =
     h ∙ ap (λ t. t ++ d) (g ∙ ap (λ t. t ++ c) (f ∙ ap (λ t. t ++ b) e ∙ append_assoc old a b) ∙ append_assoc old (a ++ b) c)
     ∙ append_assoc old ((a ++ b) ++ c) d
 
--- three texts, one behind the other
+-- three texts, one after the other
 pub three-texts : (a b c old first second new : List ℕ) → first ≡ old ++ a → second ≡ first ++ b → new ≡ second ++ c → new ≡ old ++ (a ++ (b ++ c))
 three-texts a b c old first second new e f g = rw (g, f, e) (simp append_assoc)
 
@@ -90,14 +90,14 @@ short-length n letter small = by (n == 1) refl
     by true e = omega arith
     by false e = let len = ap (λ ds. length (ds ++ letter ∷ [])) digit in omega (arith, len)
 
--- such a count and a letter, on a line with room for two bytes
+-- such a count and a letter, on a line with space for two bytes
 pub Puts-short : (rule : Rule) (item : Item) (old new : ItemLines) (count letter : ℕ) → count ≡ item_count item → tag_text rule item ≡ letter ∷ [] → count < 10
     → old.used + 2 ≤ 70 → new.used ≡ old.used + length (count_text count ++ letter ∷ [])
     → new.text.items ≡ old.text.items ++ (count_text count ++ letter ∷ []) → PutsItems rule old (item ∷ []) new
-Puts-short rule item old new count letter counted tag small room u e =
+Puts-short rule item old new count letter counted tag small space u e =
     let len = short-length count letter small in
     Puts-fitting rule item old new (count_text count ++ letter ∷ []) (count-and-tag rule item ∙ (λ i. count_text (sym counted i) ++ tag i))
-    (omega (arith, len, room)) e u
+    (omega (arith, len, space)) e u
 
 -- two facts of a success
 pub on-ok-both : {T E A B C : Type 0} (r : Result T E) → (A → B → C) → OnOk r A → OnOk r B → OnOk r C

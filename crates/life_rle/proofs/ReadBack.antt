@@ -10,7 +10,7 @@ use Rattle.std.specs.Char.{is_ascii_digit}
 use Rattle.life_rle.specs.Items.{after_digits_of}
 use Rattle.life_rle.specs.Header.{◌>>=◌, after_word, after_number, rule_part, header_form, rule_in, header_of}
 use Rattle.life_rle.specs.Written.{header_text}
-use Rattle.life_rle.proofs.Texts.{decimal-is_digit_text, digit-plain, Stops, front-stop, behind-stop}
+use Rattle.life_rle.proofs.Texts.{decimal-is_digit_text, digit-plain, Stops, prefix-stop, behind-stop}
 
 -- no line feed in the line
 abbrev pub is_one_line : List ℕ → Bool
@@ -44,13 +44,13 @@ pub digits-all : (digits : List ℕ) → is_digit_text digits ≡ true → list_
 digits-all [] h = refl
 digits-all (d ∷ digits) h = h
 
--- a number and what stands behind it
+-- a number and what comes after it
 after_number-digits : (digits rest : List ℕ) → is_digit_text digits ≡ true → Stops is_ascii_digit rest → after_number (trim_start (digits ++ rest))
     ≡ Some (trim_start rest)
 after_number-digits digits rest h s =
     let all = digits-all digits h in
     ap after_number (digits-trimmed digits rest h)
-    ∙ ap (λ front. cond (is_digit_text front) (Some (trim_start (after_digits_of (digits ++ rest)))) None) (front-stop is_ascii_digit digits rest all s)
+    ∙ ap (λ prefix. cond (is_digit_text prefix) (Some (trim_start (after_digits_of (digits ++ rest)))) None) (prefix-stop is_ascii_digit digits rest all s)
     ∙ ap (λ t. cond t (Some (trim_start (after_digits_of (digits ++ rest)))) None) h
     ∙ ap (λ left. Some (trim_start left)) (behind-stop is_ascii_digit digits rest all s)
 
@@ -82,7 +82,7 @@ header_form-written w h r dw dh =
     ∙ ap behind_width (after_number-digits w (codes ", y = " ++ (h ++ (codes ", rule = " ++ r))) dw refl)
     ∙ ap behind_height (after_number-digits h (codes ", rule = " ++ r) dh refl)
 
--- and its rule is read, where the rule's text is read and has no whitespace in front
+-- and its rule is read, where the rule's text is read and has no whitespace at the beginning
 pub header_of-written : (w h : ℕ) (rule : Rule) → w < 2 ^ 64 → h < 2 ^ 64 → trim_start (rule_text rule) ≡ rule_text rule → rule_of (rule_text rule) ≡ Ok rule
     → header_of (header_text w h rule) ≡ Ok rule
 header_of-written w h rule sw sh bare law =

@@ -18,15 +18,16 @@ pub no_runs : (level : ℕ) (lines : List (List ℕ)) (runs : List Run) → line
 no_runs level lines runs e f = subst (λ ls. HasRuns level ls runs) (sym e) (inl (default_position, refl, f))
 
 -- why an input is refused of which this line breaks a rule
-pub refused_here : (level : ℕ) (lines : List (List ℕ)) (before : List (ℕ × List ℕ)) (k : ℕ) (line : List ℕ) (rest : List (ℕ × List ℕ)) (front : List (List ℕ))
+pub refused_here : (level : ℕ) (lines : List (List ℕ)) (before : List (ℕ × List ℕ)) (k : ℕ) (line : List ℕ) (rest : List (ℕ × List ℕ)) (prefix : List (List ℕ))
     (fault : Fault)
-    → before ++ (k, line) ∷ rest ≡ numbered_from 1 lines → front ≡ texts before → BreaksRle level front line fault.kind → fault.place.line ≡ k
+    → before ++ (k, line) ∷ rest ≡ numbered_from 1 lines → prefix ≡ texts before → BreaksRle level prefix line fault.kind → fault.place.line ≡ k
     → RefusesRle level lines fault
-refused_here level lines before k line rest front fault e f b l =
-    let long : length front ≡ length (texts before) = ap length f in
-    let at : fault.place.line ≡ min (length front + 1) (2 ^ 64 - 1) = omega
+refused_here level lines before k line rest prefix fault e f b l =
+    let long : length prefix ≡ length (texts before) = ap length f in
+    let at : fault.place.line ≡ min (length prefix + 1) (2 ^ 64 - 1) = omega
     (arith, l, number_at lines before 1 k line rest (omega arith) e, length_texts before, long) in
-    Breaks-IsRefusal level lines front line (texts rest) fault (sym (lines_around lines before k line rest e) ∙ ap (λ ls. ls ++ line ∷ texts rest) (sym f)) b at
+    Breaks-IsRefusal level lines prefix line (texts rest) fault (sym (lines_around lines before k line rest e)
+    ∙ ap (λ ls. ls ++ line ∷ texts rest) (sym f)) b at
 
 -- why an input is refused that ends before its header
 pub refused_at_end : (level : ℕ) (lines read : List (List ℕ)) (position : Position) (number last : ℕ) (kind : Kind)

@@ -68,7 +68,7 @@ pub spelled-as : (level : ℕ) (line : List ℕ) (items : List Item) (next other
     → Spells level line items other
 spelled-as level line items next other h e = subst (Spells level line items) e h
 
--- one more item, its run behind those that were there
+-- one more item, its run after those that were there
 pub reads_more : (level : ℕ) (rule : Rule) (from now : Cursor) (line rest : List ℕ) (before found more : List Run) (item : Item) (next : Cursor)
     → ReadsItems level rule from line (Spelled item rest) now before found → item_fault level rule now.y now.x item ≡ None
     → next ≡ cursor_after_item now item → IsNear level next → more ≡ found ++ with_run now.y now.x item []

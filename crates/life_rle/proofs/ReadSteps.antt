@@ -3,7 +3,7 @@ use Rattle.std.proofs.Common.{◌≡◌, ℕ, zero, suc, List, [], ◌∷◌, re
 use Rattle.life_rle.specs.declared.item.Item.{Item}
 use Rattle.life_rle.specs.Items.{Next, End, Mark, Spelled, Broken, next_of, Spells}
 
--- the items that at most n steps read from here, and what stands behind them
+-- the items that at most n steps read from here, and what comes after them
 abbrev pub items_read : ℕ → ℕ → Next → List Item
 items_read level zero next = []
 items_read level (suc n) End = []

@@ -34,15 +34,15 @@ Stands-Prefix level lines (Refused kind) h g = absurd g
 pub Goes-Prefix : (level : ℕ) (lines : List (List ℕ)) → Goes (progress level start lines) → Prefix (IsSomeRle level) lines
 Goes-Prefix level lines g = Stands-Prefix level lines (progress level start lines) (lines-Stands level lines) g
 
-Goes-front_at : (level : ℕ) (p : Progress) (ys : List (List ℕ)) → Goes (progress level p ys) → Goes p
-Goes-front_at level (Before o) ys g = tt
-Goes-front_at level (Begun f) ys g = tt
-Goes-front_at level (Ended f) ys g = tt
-Goes-front_at level (Refused k) ys g = subst Goes (progress-Refused level k ys) g
+Goes-prefix_at : (level : ℕ) (p : Progress) (ys : List (List ℕ)) → Goes (progress level p ys) → Goes p
+Goes-prefix_at level (Before o) ys g = tt
+Goes-prefix_at level (Begun f) ys g = tt
+Goes-prefix_at level (Ended f) ys g = tt
+Goes-prefix_at level (Refused k) ys g = subst Goes (progress-Refused level k ys) g
 
--- and so can their fronts
-pub Goes-front : (level : ℕ) (xs ys : List (List ℕ)) → Goes (progress level start (xs ++ ys)) → Goes (progress level start xs)
-Goes-front level xs ys g = Goes-front_at level (progress level start xs) ys (subst Goes (progress-append level start xs ys) g)
+-- and so can their prefixes
+pub Goes-prefix : (level : ℕ) (xs ys : List (List ℕ)) → Goes (progress level start (xs ++ ys)) → Goes (progress level start xs)
+Goes-prefix level xs ys g = Goes-prefix_at level (progress level start xs) ys (subst Goes (progress-append level start xs ys) g)
 
 pub IsRle-Goes : (level : ℕ) (lines : List (List ℕ)) (file : Rle) → IsRle level lines file → Goes (progress level start lines)
 IsRle-Goes level lines file (inl b) = subst Goes (sym (IsUnmarked-progress level lines file b)) tt
@@ -50,59 +50,60 @@ IsRle-Goes level lines file (inr b) = subst Goes (sym (IsMarked-progress level l
 
 -- lines that can be continued, by whatever lines, break no rule
 pub Prefix-Goes : (level : ℕ) (lines : List (List ℕ)) → Prefix (IsSomeRle level) lines → Goes (progress level start lines)
-Prefix-Goes level lines p = Goes-front level lines (kept_lines p.0 continuations) (IsRle-Goes level (lines ++ kept_lines p.0 continuations) p.1.0 p.1.1)
+Prefix-Goes level lines p = Goes-prefix level lines (kept_lines p.0 continuations) (IsRle-Goes level (lines ++ kept_lines p.0 continuations) p.1.0 p.1.1)
 
-pub Breaks-Goes : (level : ℕ) (front : List (List ℕ)) (line : List ℕ) (kind : Kind) → BreaksRle level front line kind → Goes (progress level start front)
-Breaks-Goes level front line kind (before_header o h e) = subst Goes (sym (IsPreamble-progress level default_position o front h)) tt
-Breaks-Goes level front line kind (by_form file h e) = subst Goes (sym (IsUnmarked-progress level front file h)) tt
-Breaks-Goes level front line kind (by_text file items h form s sound) = subst Goes (sym (IsUnmarked-progress level front file h)) tt
-Breaks-Goes level front line kind (by_item file items item rest h form s sound fault) = subst Goes (sym (IsUnmarked-progress level front file h)) tt
+pub Breaks-Goes : (level : ℕ) (prefix : List (List ℕ)) (line : List ℕ) (kind : Kind) → BreaksRle level prefix line kind → Goes (progress level start prefix)
+Breaks-Goes level prefix line kind (before_header o h e) = subst Goes (sym (IsPreamble-progress level default_position o prefix h)) tt
+Breaks-Goes level prefix line kind (by_form file h e) = subst Goes (sym (IsUnmarked-progress level prefix file h)) tt
+Breaks-Goes level prefix line kind (by_text file items h form s sound) = subst Goes (sym (IsUnmarked-progress level prefix file h)) tt
+Breaks-Goes level prefix line kind (by_item file items item rest h form s sound fault) = subst Goes (sym (IsUnmarked-progress level prefix file h)) tt
 
-pub take-Goes : (level : ℕ) (k : ℕ) (front : List (List ℕ)) → Goes (progress level start front) → Goes (progress level start (take k front))
-take-Goes level k front g = Goes-front level (take k front) (drop k front) (subst (λ ls. Goes (progress level start ls)) (sym (take-append-drop k front)) g)
+pub take-Goes : (level : ℕ) (k : ℕ) (prefix : List (List ℕ)) → Goes (progress level start prefix) → Goes (progress level start (take k prefix))
+take-Goes level k prefix g =
+    Goes-prefix level (take k prefix) (drop k prefix) (subst (λ ls. Goes (progress level start ls)) (sym (take-append-drop k prefix)) g)
 
--- the number of a line behind a front
-behind-length : (front : List (List ℕ)) (line : List ℕ) (rest : List (List ℕ)) → length (front ++ line ∷ rest) ≡ length front + 1 + length rest
-behind-length front line rest = omega (arith, length-append front (line ∷ rest))
+-- the number of a line after a prefix
+behind-length : (prefix : List (List ℕ)) (line : List ℕ) (rest : List (List ℕ)) → length (prefix ++ line ∷ rest) ≡ length prefix + 1 + length rest
+behind-length prefix line rest = omega (arith, length-append prefix (line ∷ rest))
 
-behind-whole : (lines front : List (List ℕ)) (line : List ℕ) (rest : List (List ℕ)) → lines ≡ front ++ line ∷ rest → take (length front + 1) lines ≡ front
+behind-whole : (lines prefix : List (List ℕ)) (line : List ℕ) (rest : List (List ℕ)) → lines ≡ prefix ++ line ∷ rest → take (length prefix + 1) lines ≡ prefix
     ++ line ∷ []
-behind-whole lines front line rest e =
-    let whole : lines ≡ (front ++ line ∷ []) ++ rest = e ∙ sym (append_assoc front (line ∷ []) rest) in
-    let long : length front + 1 ≡ length (front ++ line ∷ []) = omega (arith, length-append front (line ∷ [])) in
-    rw (whole, long) (take-append_seam (front ++ line ∷ []) rest)
+behind-whole lines prefix line rest e =
+    let whole : lines ≡ (prefix ++ line ∷ []) ++ rest = e ∙ sym (append_assoc prefix (line ∷ []) rest) in
+    let long : length prefix + 1 ≡ length (prefix ++ line ∷ []) = omega (arith, length-append prefix (line ∷ [])) in
+    rw (whole, long) (take-append_seam (prefix ++ line ∷ []) rest)
 
 -- the line that breaks a rule is the place
-pub Breaks-IsPlace : (level : ℕ) (lines front : List (List ℕ)) (line : List ℕ) (rest : List (List ℕ)) (kind : Kind) → lines ≡ front ++ line ∷ rest
-    → BreaksRle level front line kind → IsPlace (IsSomeRle level) lines (length front + 1)
-Breaks-IsPlace level lines front line rest kind e b =
-    let len : length lines ≡ length front + 1 + length rest = ap length e ∙ behind-length front line rest in
+pub Breaks-IsPlace : (level : ℕ) (lines prefix : List (List ℕ)) (line : List ℕ) (rest : List (List ℕ)) (kind : Kind) → lines ≡ prefix ++ line ∷ rest
+    → BreaksRle level prefix line kind → IsPlace (IsSomeRle level) lines (length prefix + 1)
+Breaks-IsPlace level lines prefix line rest kind e b =
+    let len : length lines ≡ length prefix + 1 + length rest = ap length e ∙ behind-length prefix line rest in
     record {
       counted = omega arith;
       within = omega arith;
-      before = λ k h. let short : k ≤ length front = omega arith in
-          let same : take k lines ≡ take k front = ap (take k) e ∙ take-append-le k front (line ∷ rest) short in
-          subst (Prefix (IsSomeRle level)) (sym same) (Goes-Prefix level (take k front) (take-Goes level k front (Breaks-Goes level front line kind b)));
-      here = λ _ p. Breaks-no_prefix level front line kind b (subst (Prefix (IsSomeRle level)) (behind-whole lines front line rest e) p);
+      before = λ k h. let short : k ≤ length prefix = omega arith in
+          let same : take k lines ≡ take k prefix = ap (take k) e ∙ take-append-le k prefix (line ∷ rest) short in
+          subst (Prefix (IsSomeRle level)) (sym same) (Goes-Prefix level (take k prefix) (take-Goes level k prefix (Breaks-Goes level prefix line kind b)));
+      here = λ _ p. Breaks-no_prefix level prefix line kind b (subst (Prefix (IsSomeRle level)) (behind-whole lines prefix line rest e) p);
     }
 
 -- so the fault of such a line is the input's fault
-pub Breaks-IsRefusal : (level : ℕ) (lines front : List (List ℕ)) (line : List ℕ) (rest : List (List ℕ)) (fault : Fault) → lines ≡ front ++ line ∷ rest
-    → BreaksRle level front line fault.kind → fault.place.line ≡ min (length front + 1) (2 ^ 64 - 1) → RefusesRle level lines fault
-Breaks-IsRefusal level lines front line rest fault e b at =
-    let len : length lines ≡ length front + 1 + length rest = ap length e ∙ behind-length front line rest in
-    let less : length front + 1 - 1 ≡ length front = omega arith in
-    let fore : take (length front) lines ≡ front = ap (take (length front)) e ∙ take-append_seam front (line ∷ rest) in
-    let item : slice_index_or lines (length front) [] ≡ line = ap (λ ls. slice_index_or ls (length front) []) e ∙ get_or-append_seam front line rest [] in
+pub Breaks-IsRefusal : (level : ℕ) (lines prefix : List (List ℕ)) (line : List ℕ) (rest : List (List ℕ)) (fault : Fault) → lines ≡ prefix ++ line ∷ rest
+    → BreaksRle level prefix line fault.kind → fault.place.line ≡ min (length prefix + 1) (2 ^ 64 - 1) → RefusesRle level lines fault
+Breaks-IsRefusal level lines prefix line rest fault e b at =
+    let len : length lines ≡ length prefix + 1 + length rest = ap length e ∙ behind-length prefix line rest in
+    let less : length prefix + 1 - 1 ≡ length prefix = omega arith in
+    let fore : take (length prefix) lines ≡ prefix = ap (take (length prefix)) e ∙ take-append_seam prefix (line ∷ rest) in
+    let item : slice_index_or lines (length prefix) [] ≡ line = ap (λ ls. slice_index_or ls (length prefix) []) e ∙ get_or-append_seam prefix line rest [] in
     record {
-      refused = λ (file, h). Breaks-no_more level front line fault.kind rest file b
-          (subst (λ ls. IsRle level ls file) (e ∙ sym (append_assoc front (line ∷ []) rest)) h);
-      n = length front + 1;
-      place = Breaks-IsPlace level lines front line rest fault.kind e b;
+      refused = λ (file, h). Breaks-no_more level prefix line fault.kind rest file b
+          (subst (λ ls. IsRle level ls file) (e ∙ sym (append_assoc prefix (line ∷ []) rest)) h);
+      n = length prefix + 1;
+      place = Breaks-IsPlace level lines prefix line rest fault.kind e b;
       line = at;
       at_line = λ _. subst (λ k. BreaksRle level (take k lines) (slice_index_or lines k []) fault.kind) (sym less)
-          (subst (λ f. BreaksRle level f (slice_index_or lines (length front) []) fault.kind) (sym fore)
-          (subst (λ l. BreaksRle level front l fault.kind) (sym item) b));
+          (subst (λ f. BreaksRle level f (slice_index_or lines (length prefix) []) fault.kind) (sym fore)
+          (subst (λ l. BreaksRle level prefix l fault.kind) (sym item) b));
       at_end = λ h. absurd (omega arith);
     }
 

@@ -53,7 +53,7 @@ further low z n h = omega (arith, ints)
 up-to : (a b : ℤ) → a <ℤ b → a ≤ℤ b
 up-to a b h = omega (arith, ints)
 
--- behind an item without a fault
+-- after an item without a fault
 pub cursor-near : (rule : Rule) (c : Cursor) (item : Item) → IsNear MAX_LEVEL c → item_fault MAX_LEVEL rule c.y c.x item ≡ None
     → IsNear MAX_LEVEL (cursor_after_item c item)
 cursor-near rule c (Cells n s) near e =

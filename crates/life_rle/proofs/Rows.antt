@@ -41,7 +41,7 @@ glider-Spells = line-Spells MAX_LEVEL 7 (codes "bo$2bo$3o!")
 glider-IsRle : IsRle MAX_LEVEL (lines_of (codes "x = 3, y = 3, rule = B3/S23\nbo$2bo$3o!\n")) glider
 unfolding rule_of life_sets four_sets
 glider-IsRle = inr (record {
-  front = codes "x = 3, y = 3, rule = B3/S23" ∷ [];
+  prefix = codes "x = 3, y = 3, rule = B3/S23" ∷ [];
   last = codes "bo$2bo$3o!";
   free = [];
   whole = refl;
@@ -216,7 +216,7 @@ past_run = refl
 between_rows : rle_cell two_rows (neg_ℤ (pos 4)) (pos 8) ≡ 0
 between_rows = refl
 
--- faults of a line behind a header
+-- faults of a line after a header
 abbrev blank : Rle
 blank = record { rule = b3s23; position = default_position; items = [] }
 
@@ -224,7 +224,7 @@ blank-IsUnmarked : IsUnmarked MAX_LEVEL (codes "x = 1, y = 1, rule = B3/S23" ∷
 unfolding rule_of life_sets four_sets
 blank-IsUnmarked = header-IsUnmarked MAX_LEVEL [] default_position (codes "x = 1, y = 1, rule = B3/S23") b3s23 refl refl
 
--- what breaks a line of items behind this header, where an item should stand
+-- what breaks a line of items after this header, where an item should stand
 broken_text : (n : ℕ) (line : List ℕ) (kind : Kind) → later_of line ≡ Ok Data → last_read MAX_LEVEL n (next_of MAX_LEVEL line) ≡ Broken kind
     → first_fault MAX_LEVEL b3s23 (placed_after default_position [] (items_read MAX_LEVEL n (next_of MAX_LEVEL line))) ≡ None
     → BreaksRle MAX_LEVEL (codes "x = 1, y = 1, rule = B3/S23" ∷ []) line kind
@@ -249,7 +249,7 @@ large_count = broken_text 3 (codes "4611686018427387905b!") _ refl refl refl
 cut_count : BreaksRle MAX_LEVEL (codes "x = 1, y = 1, rule = B3/S23" ∷ []) (codes "bo$2") kinds.BadItem
 cut_count = broken_text 4 (codes "bo$2") _ refl refl refl
 
--- at the last row a row end is accepted, and a second one or a cell behind it isn't
+-- at the last row a row end is accepted, and a second one or a cell after it isn't
 abbrev at_bottom : Rle
 at_bottom = record { rule = b3s23; position = record { x = pos 0; y = pos 2305843009213693951; generation = 0 }; items = [] }
 
@@ -259,7 +259,7 @@ one_end = refl
 two_ends : fault_after MAX_LEVEL at_bottom [] (RowEnds 2) ≡ Some kinds.OutOfPlane
 two_ends = refl
 
--- at the last column one cell of any state is accepted, and a second one isn't; behind a row end the column is the corner's
+-- at the last column one cell of any state is accepted, and a second one isn't; after a row end the column is the corner's
 abbrev at_right : Rle
 at_right = record { rule = b3s23; position = corner_and_generation (pos 2305843009213693951) (pos 0) 0; items = [] }
 

@@ -157,7 +157,7 @@ runs-good level rule left column row (Cells n (suc s) ∷ items) l x y g = (
 runs-good level rule left column row (RowEnds n ∷ items) l x y g = runs-good level rule left left (row +ℤ pos n) items l l
     (further (neg_ℤ (rle_plane_end level)) row n y) g.1
 
--- runs stand behind a place
+-- runs comes after a place
 abbrev Behind : ℤ → ℤ → List Run → Type 0
 Behind column row [] = Unit {0}
 Behind column row (run ∷ runs) = ((row <ℤ run.y) ⊎ ((row ≡ run.y) × (column ≤ℤ run.x))) × Behind column row runs
@@ -217,7 +217,7 @@ runs-order level rule left column row (RowEnds n ∷ items) g = runs-order level
 
 -- ---- their cells
 
--- what stands behind a place says nothing of the pairs before it
+-- what comes after a place says nothing of the pairs before it
 before-zero : (column row : ℤ) (runs : List Run) (x y : ℤ) → Behind column row runs → (y <ℤ row) ⊎ ((y ≡ row) × (x <ℤ column)) → rle_state_by runs x y ≡ 0
 before-zero column row [] x y b h = refl
 before-zero column row (run ∷ runs) x y b h =

@@ -23,7 +23,7 @@ use Rattle.life_rle.specs.ShortItems.{short_count, short_digits, IsShortItem, Is
 use Rattle.life_rle.proofs.PlainItems.{IsRead, IsRead-text, state_at-text}
 use Rattle.life_rle.proofs.StatesRead.{one-byte, two-bytes}
 use Rattle.life_rle.proofs.Texts.{next_of-tag}
-use Rattle.life_rle.proofs.DigitInFront.{text_at, digit_in_front, two_digits_in_front}
+use Rattle.life_rle.proofs.DigitInPrefix.{text_at, digit_in_prefix, two_digits_in_prefix}
 use Rattle.life_rle.proofs.ReadItems.{reads-as, reads_more}
 use Rattle.life_rle.proofs.RowLimits.{fault-by, further}
 use Rattle.life_base.proofs.Basics.{int_le_trans, le-int_le}
@@ -51,7 +51,7 @@ digits_of b h =
     let at : entry (b + 256) ≡ short_digits b = rw (second, same) refl in
     entry_of (b + 256) (omega (arith, h)) ∙ at
 
--- a state behind a count
+-- a state after a count
 state-item : (count state : ℕ) (bytes rest : List ℕ) → leading_state bytes ≡ Some (state, rest) → IsRead count bytes (Cells count state) rest
 state-item count state bytes rest e =
     let found = state_at-text bytes rest state e in
@@ -97,7 +97,7 @@ one-digit line at h low high =
           let read : IsRead (first - 48) (second ∷ behind) (Cells (first - 48) state) rest =
           state-item (first - 48) state (second ∷ behind) rest (ap leading_state (sym parts) ∙ e) in
           ap (next_of MAX_LEVEL) (text_at line at (omega arith) ∙ ap (λ t. first ∷ t) parts)
-          ∙ digit_in_front first second behind low high read.0.1
+          ∙ digit_in_prefix first second behind low high read.0.1
           ∙ read.1;
     }
 
@@ -118,7 +118,7 @@ many-dead line at h low high from to dead =
     text_at line at (omega (arith, h))
     ∙ ap (λ t. first ∷ t) (text_at line (at + 1) (omega (arith, h)) ∙ ap (λ n. second ∷ drop n line) one ∙ ap (λ t. second ∷ t) third) in
     let read : IsRead count (98 ∷ rest) (Cells count 0) rest = state-item count 0 (98 ∷ rest) rest (one-byte 98 0 rest refl) in
-    ap (next_of MAX_LEVEL) parts ∙ two_digits_in_front first second 98 rest low high from to refl ∙ read.1
+    ap (next_of MAX_LEVEL) parts ∙ two_digits_in_prefix first second 98 rest low high from to refl ∙ read.1
 
 -- what the table says of the item at a place
 pub is-short : (line : List ℕ) (at : ℕ) → at + 1 < length line
@@ -144,7 +144,7 @@ bare-cells line at state h k small = record {
   read = (no-digit line at h).spelled state (drop (at + 1) line) (state-byte line at (get_or line at 0) state (omega (arith, h)) refl k);
 }
 
--- a state behind what may be a count
+-- a state after what may be a count
 pub counted-cells : (line : List ℕ) (at count place state behind : ℕ) → IsShortItem MAX_LEVEL line at count place → IsStateAt line place state behind
     → AreShortCells MAX_LEVEL line at count state behind
 counted-cells line at count place state behind item found =
@@ -176,25 +176,25 @@ low-limit y =
 
 -- cells within the limit
 within : (x limit : ℤ) (n left : ℕ) → n ≤ 9 → 0 < left → (x +ℤ pos (9 * left)) ≤ℤ limit → (x +ℤ pos n) ≤ℤ limit
-within x limit n left few some room = omega (arith, ints)
+within x limit n left few some space = omega (arith, ints)
 
 later : (x limit : ℤ) (n before after : ℕ) → n ≤ 9 → after + 1 ≤ before → (x +ℤ pos (9 * before)) ≤ℤ limit → ((x +ℤ pos n) +ℤ pos (9 * after)) ≤ℤ limit
-later x limit n before after few less room = omega (arith, ints)
+later x limit n before after few less space = omega (arith, ints)
 
--- behind a short item there is room again
-pub still-room : (line : List ℕ) (at count state behind : ℕ) (here : Cursor) → RowHasSpace MAX_LEVEL line at here → count ≤ 9 → at < behind
+-- after a short item there is space again
+pub still-space : (line : List ℕ) (at count state behind : ℕ) (here : Cursor) → RowHasSpace MAX_LEVEL line at here → count ≤ 9 → at < behind
     → behind ≤ length line
     → RowHasSpace MAX_LEVEL line behind (cursor_after_item here (Cells count state))
-still-room line at count state behind here h few on inside =
+still-space line at count state behind here h few on inside =
     let limit = row_limit MAX_LEVEL here.y in
-    let cells = within here.x limit count (length line - at) few (omega (arith, on, inside)) h.room in
+    let cells = within here.x limit count (length line - at) few (omega (arith, on, inside)) h.space in
     record {
       near = record {
         left = h.near.left;
         x = (further (neg_ℤ (rle_plane_end MAX_LEVEL)) here.x count h.near.x.0, int_le_trans _ _ _ cells (low-limit here.y));
         y = h.near.y;
       };
-      room = later here.x limit count (length line - at) (length line - behind) few (omega (arith, on, inside)) h.room;
+      space = later here.x limit count (length line - at) (length line - behind) few (omega (arith, on, inside)) h.space;
     }
 
 -- one more short item is read
@@ -205,13 +205,13 @@ pub reads-short : (line : List ℕ) (at count state behind : ℕ) (here : Cursor
 reads-short line at count state behind here found more h few on inside spelled adds rule known from before read =
     let item : Item = Cells count state in
     let limit = row_limit MAX_LEVEL here.y in
-    let cells = within here.x limit count (length line - at) few (omega (arith, on, inside)) h.room in
+    let cells = within here.x limit count (length line - at) few (omega (arith, on, inside)) h.space in
     let sound : item_fault MAX_LEVEL rule here.y here.x item ≡ None =
     fault-by (is_state_of rule state) here.y here.x limit count h.near.x.0 refl known true (le-int_le _ _ cells) in
     reads_more MAX_LEVEL rule from here line (drop behind line) before found more item (cursor_after_item here item)
-    (reads-as MAX_LEVEL rule from line _ _ here before found read spelled) sound refl (still-room line at count state behind here h few on inside).near adds
+    (reads-as MAX_LEVEL rule from line _ _ here before found read spelled) sound refl (still-space line at count state behind here h few on inside).near adds
 
--- one stretch behind another
+-- one stretch after another
 pub reads-on : (rule : Rule) (line : List ℕ) (at middle behind : ℕ) (here halfway there : Cursor) (found some more : List Run)
     → ReadsOn MAX_LEVEL rule line at here found middle halfway some → ReadsOn MAX_LEVEL rule line middle halfway some behind there more
     → ReadsOn MAX_LEVEL rule line at here found behind there more
@@ -237,16 +237,16 @@ reads-none rule from line runs near = record {
 }
 
 two-digit-cells : (x limit : ℤ) (n : ℕ) → n ≤ 99 → (x +ℤ pos 9437283) ≤ℤ limit → (x +ℤ pos n) ≤ℤ limit
-two-digit-cells x limit n few room = omega (arith, ints)
+two-digit-cells x limit n few space = omega (arith, ints)
 
-room-of-line : (x limit : ℤ) (n len behind : ℕ) → n ≤ 99 → len ≤ 1048576 → (x +ℤ pos 9437283) ≤ℤ limit
+space-of-line : (x limit : ℤ) (n len behind : ℕ) → n ≤ 99 → len ≤ 1048576 → (x +ℤ pos 9437283) ≤ℤ limit
     → ((x +ℤ pos n) +ℤ pos (9 * (len - behind))) ≤ℤ limit
-room-of-line x limit n len behind few short room = omega (arith, ints)
+space-of-line x limit n len behind few short space = omega (arith, ints)
 
--- there is room behind dead cells of two digits that are not near the edge of the plane
-pub many-room : (line : List ℕ) (at count behind : ℕ) (here : Cursor) → RowHasSpace MAX_LEVEL line at here → count ≤ 99 → length line ≤ 1048576
+-- there is space after dead cells of two digits that are not near the edge of the plane
+pub many-space : (line : List ℕ) (at count behind : ℕ) (here : Cursor) → RowHasSpace MAX_LEVEL line at here → count ≤ 99 → length line ≤ 1048576
     → (here.x +ℤ pos 9437283) ≤ℤ row_limit MAX_LEVEL here.y → RowHasSpace MAX_LEVEL line behind (cursor_after_item here (Cells count 0))
-many-room line at count behind here h few short far =
+many-space line at count behind here h few short far =
     let limit = row_limit MAX_LEVEL here.y in
     let cells = two-digit-cells here.x limit count few far in
     record {
@@ -255,7 +255,7 @@ many-room line at count behind here h few short far =
         x = (further (neg_ℤ (rle_plane_end MAX_LEVEL)) here.x count h.near.x.0, int_le_trans _ _ _ cells (low-limit here.y));
         y = h.near.y;
       };
-      room = room-of-line here.x limit count (length line) behind few short far;
+      space = space-of-line here.x limit count (length line) behind few short far;
     }
 
 -- such dead cells are read
@@ -274,4 +274,4 @@ reads-many-dead line at count here inside h short far low high from to dead e ru
     let spelled = subst (λ n. next_of MAX_LEVEL (drop at line) ≡ Spelled (Cells n 0) (drop (at + 3) line)) (sym e)
     (many-dead line at inside low high from to dead) in
     reads-one rule line at (at + 3) here (cursor_after_item here item) found found item spelled sound refl
-    (many-room line at count (at + 3) here h few short far).near (sym (append-nil found))
+    (many-space line at count (at + 3) here h few short far).near (sym (append-nil found))

@@ -10,7 +10,7 @@ use Rattle.life_rle.specs.Grammar.{IsSomeRle, IsMarked}
 use Rattle.life_rle.proofs.Unique.{IsUnmarked-progress, IsMarked-progress}
 use Rattle.life_rle.proofs.Refusal.{Goes, Goes-Prefix, IsPreamble-Prefix, IsPreamble-refused}
 
--- where a reader stands that refused nothing, the lines are a front
+-- where a reader stands that refused nothing, the lines are a prefix
 pub StandsAt-Prefix : (level : ℕ) (phase : Phase) (cursor : Cursor) (lines : List (List ℕ)) → StandsAt level phase cursor lines → is_refused phase ≡ false
     → Prefix (IsSomeRle level) lines
 StandsAt-Prefix level phases.Refused cursor lines s r = cc

@@ -1,4 +1,4 @@
--- A cell joins the run in front of it, or ends it.
+-- A cell joins the run before it, or ends it.
 use Rattle.std.proofs.Common.{◌≡◌, ℕ, zero, suc, ◌+◌, ◌<◌, ◌⊎◌, inl, inr, Bool, true, false, cond, ◌&&◌, List, [], ◌∷◌, ◌++◌, refl, sym, ap, ◌∙◌, subst, arith, eqb, ℤ, pos, ◌+ℤ◌, ◌-ℤ◌, ◌≤ℤ◌, ◌<ℤ◌, FitsSigned, w64, nat_abs, to_z, of_z}
 use Rattle.std.specs.Ordering.{int_eq}
 use Rattle.std.proofs.lemmas.Int.{ints, to_z-of_z}
@@ -26,7 +26,7 @@ eqb-same n = grind (arith, nat_tests)
 more-cells : (n m : ℕ) → n + (1 + m) ≡ (n + 1) + m
 more-cells n m = omega arith
 
--- a cell of the run's state behind it
+-- a cell of the run's state after it
 with_cells-same : (n s : ℕ) (items : List Item) → with_cells n s (with_cells 1 s items) ≡ with_cells (n + 1) s items
 with_cells-same n s [] = ap (λ t. cond t (Cells (n + 1) s ∷ []) (Cells n s ∷ Cells 1 s ∷ [])) (eqb-same s)
 with_cells-same n s (RowEnds k ∷ items) = ap (λ t. cond t (Cells (n + 1) s ∷ RowEnds k ∷ items) (Cells n s ∷ Cells 1 s ∷ RowEnds k ∷ items)) (eqb-same s)
@@ -38,7 +38,7 @@ with_cells-same n s (Cells m t ∷ items) =
       | false ↦ ap (λ c. cond c (Cells (n + 1) s ∷ Cells m t ∷ items) (Cells n s ∷ Cells 1 s ∷ Cells m t ∷ items)) (eqb-same s)
     ]
 
--- a cell of another state behind it
+-- a cell of another state after it
 with_cells-other : (n s t : ℕ) (items : List Item) → eqb s t ≡ false → with_cells n s (with_cells 1 t items) ≡ Cells n s ∷ with_cells 1 t items
 with_cells-other n s t [] e = ap (λ c. cond c (Cells (n + 1) s ∷ []) (Cells n s ∷ Cells 1 t ∷ [])) e
 with_cells-other n s t (RowEnds k ∷ items) e = ap (λ c. cond c (Cells (n + 1) s ∷ RowEnds k ∷ items) (Cells n s ∷ Cells 1 t ∷ RowEnds k ∷ items)) e
@@ -49,7 +49,7 @@ with_cells-other n s t (Cells m u ∷ items) e =
       | false ↦ ap (λ c. cond c (Cells (n + 1) s ∷ Cells m u ∷ items) (Cells n s ∷ Cells 1 t ∷ Cells m u ∷ items)) e
     ]
 
--- dead cells behind a run of live ones
+-- dead cells after a run of live ones
 with_cells-gap : (n s k : ℕ) (items : List Item) → 0 < s → 0 < k → with_cells n s (with_gap k items) ≡ Cells n s ∷ with_gap k items
 with_cells-gap n s zero items live some = absurd (omega arith)
 with_cells-gap n s (suc k) items live some = let e : eqb s 0 ≡ false = grind (arith, nat_tests) in
@@ -128,7 +128,7 @@ cell-ends n s left x y c cells live ahead apart =
 
 -- ---- the steps of the writer
 
--- the column behind a longer run
+-- the column after a longer run
 column-longer : (x : ℤ) (n : ℕ) → (x +ℤ pos (n + 1)) ≡ ((x +ℤ pos n) +ℤ pos 1)
 column-longer x n = omega (arith, ints)
 
@@ -198,7 +198,7 @@ pub record WritesUpTo (rule : Rule) (whole : List ℕ) (pen : Pen) (cells : List
   pub follow : Follow rule pen.left (column_after_run pen.run) pen.run.y cells
   pub text : pen_text rule pen cells ≡ whole
 
--- the first cell, and all behind it
+-- the first cell, and all after it
 pub from-first : (rule : Rule) (bounds : Bounds) (first : Cell) (cells : List Cell) (text : List ℕ) (gap : ℕ) (old new : ItemLines) → bounds.top ≡ first.y
     → gap ≡ nat_abs (first.x -ℤ bounds.left) → old.text.items ≡ text → old.used ≡ 0 → PutsItems rule old (with_gap gap []) new
     → pen_text rule (record { lines = new; left = bounds.left; run = run_of first }) cells

@@ -30,7 +30,7 @@ use Rattle.life_rle.proofs.Sorting.{AreGood-AreWritten, AreGood-sound, sorted-Fo
 use Rattle.life_base.proofs.Basics.{plus_zero}
 use Rattle.life_base.proofs.Texts.{digits_fit}
 
--- ---- the numbers of the two lines in front
+-- ---- the numbers of the two lines before
 
 short-coordinate : (z : ℤ) → neg_ℤ (rle_plane_end MAX_LEVEL) ≤ℤ z → z <ℤ rle_plane_end MAX_LEVEL → IsShort z
 short-coordinate (pos n) h k = omega (arith, ints)

@@ -52,13 +52,13 @@ prefix_len-stop test (x ∷ xs) ys h s =
     let one : 1 + length xs ≡ suc (length xs) = omega arith in
     ap (λ t. cond t (1 + prefix_len test (xs ++ ys)) 0) parts.0 ∙ ap (λ n. 1 + n) (prefix_len-stop test xs ys parts.1 s) ∙ one
 
-pub front-stop : (test : ℕ → Bool) (xs ys : List ℕ) → list_all test xs ≡ true → Stops test ys → take (prefix_len test (xs ++ ys)) (xs ++ ys) ≡ xs
-front-stop test xs ys h s = ap (λ n. take n (xs ++ ys)) (prefix_len-stop test xs ys h s) ∙ take-append_seam xs ys
+pub prefix-stop : (test : ℕ → Bool) (xs ys : List ℕ) → list_all test xs ≡ true → Stops test ys → take (prefix_len test (xs ++ ys)) (xs ++ ys) ≡ xs
+prefix-stop test xs ys h s = ap (λ n. take n (xs ++ ys)) (prefix_len-stop test xs ys h s) ∙ take-append_seam xs ys
 
 pub behind-stop : (test : ℕ → Bool) (xs ys : List ℕ) → list_all test xs ≡ true → Stops test ys → drop (prefix_len test (xs ++ ys)) (xs ++ ys) ≡ ys
 behind-stop test xs ys h s = ap (λ n. drop n (xs ++ ys)) (prefix_len-stop test xs ys h s) ∙ drop-append_seam xs ys
 
--- a state or `$`: no whitespace, no digit and no `!` in front
+-- a state or `$`: no whitespace, no digit and no `!` at the beginning
 abbrev pub IsTag : List ℕ → Type 0
 IsTag [] = ⊥
 IsTag (b ∷ bytes) = (is_whitespace b ≡ false) × (is_ascii_digit b ≡ false) × (eqb b 33 ≡ false)
@@ -79,7 +79,7 @@ next_of-tag level (b ∷ bytes) h =
 pub digit-plain : (b : ℕ) → is_ascii_digit b ≡ true → (is_whitespace b ≡ false) × (eqb b 33 ≡ false)
 digit-plain b h = (grind (arith, nat_tests), grind (arith, nat_tests))
 
--- a state or `$` behind digits
+-- a state or `$` after digits
 pub next_of-digits : (level n : ℕ) (digits tag : List ℕ) → is_digit_text digits ≡ true → n ≡ value_of digits → 0 < n → n ≤ most_count level → IsTag tag
     → next_of level (digits ++ tag) ≡ item_after n tag
 next_of-digits level n [] tag h v low high t = cc
@@ -91,7 +91,7 @@ next_of-digits level n (d ∷ digits) tag h v low high t =
     let few : ltb (most_count level) n ≡ false = grind (arith, nat_tests) in
     ap (item_in level) trimmed
     ∙ ap (λ t. cond t Mark (item_with_digits level (leading_digits ((d ∷ digits) ++ tag)) (after_digits_of ((d ∷ digits) ++ tag)))) plain.1
-    ∙ ap (λ front. item_with_digits level front (after_digits_of ((d ∷ digits) ++ tag))) (front-stop is_ascii_digit (d ∷ digits) tag h (IsTag-Stops tag t))
+    ∙ ap (λ prefix. item_with_digits level prefix (after_digits_of ((d ∷ digits) ++ tag))) (prefix-stop is_ascii_digit (d ∷ digits) tag h (IsTag-Stops tag t))
     ∙ ap (item_with_digits level (d ∷ digits)) (behind-stop is_ascii_digit (d ∷ digits) tag h (IsTag-Stops tag t))
     ∙ ap (λ m. cond (eqb m 0) (Broken ZeroCount) (cond (ltb (most_count level) m) (Broken TooLarge) (item_after m tag))) (sym v)
     ∙ ap (λ t. cond t (Broken ZeroCount) (cond (ltb (most_count level) n) (Broken TooLarge) (item_after n tag))) some

@@ -78,8 +78,8 @@ IsMarked-progress level lines file b =
     ≡ None = ap (λ xs. first_fault level file.rule (placed_after file.position [] xs)) (sym b.items) ∙ b.sound in
     let parts = fault-parts level (record { rule = file.rule; position = file.position; items = [] }) b.earlier b.final sound in
     ap (progress level start) b.whole
-    ∙ progress-append level start b.front (b.last ∷ b.free)
-    ∙ ap (λ p. progress level p (b.last ∷ b.free)) (IsUnmarked-progress level b.front begun b.begun)
+    ∙ progress-append level start b.prefix (b.last ∷ b.free)
+    ∙ ap (λ p. progress level p (b.last ∷ b.free)) (IsUnmarked-progress level b.prefix begun b.begun)
     ∙ ap (λ p. progress level p b.free) (step-marked level begun b.last b.final b.marked parts.1)
     ∙ progress-Ended level (with_items begun b.final) b.free
     ∙ ap (λ xs. Ended (record { rule = file.rule; position = file.position; items = xs })) (sym b.items)
@@ -125,35 +125,35 @@ step-by_item level file line items item rest kind form h sound fault =
     fault)
     ∙ after_items-Some file (line_items level line) (line_last level line) kind
 
-pub Breaks-progress : (level : ℕ) (front : List (List ℕ)) (line : List ℕ) (kind : Kind) → BreaksRle level front line kind
-    → progress level start (front ++ line ∷ []) ≡ Refused kind
-Breaks-progress level front line kind (before_header o h e) = progress-append level start front (line ∷ [])
-    ∙ ap (λ p. step level p line) (IsPreamble-progress level default_position o front h) ∙ ap (open_step o) e
-Breaks-progress level front line kind (by_form file h e) = progress-append level start front (line ∷ [])
-    ∙ ap (λ p. step level p line) (IsUnmarked-progress level front file h) ∙ ap (later_step level file line) e
-Breaks-progress level front line kind (by_text file items h form s sound) =
-    progress-append level start front (line ∷ []) ∙ ap (λ p. step level p line) (IsUnmarked-progress level front file h)
+pub Breaks-progress : (level : ℕ) (prefix : List (List ℕ)) (line : List ℕ) (kind : Kind) → BreaksRle level prefix line kind
+    → progress level start (prefix ++ line ∷ []) ≡ Refused kind
+Breaks-progress level prefix line kind (before_header o h e) = progress-append level start prefix (line ∷ [])
+    ∙ ap (λ p. step level p line) (IsPreamble-progress level default_position o prefix h) ∙ ap (open_step o) e
+Breaks-progress level prefix line kind (by_form file h e) = progress-append level start prefix (line ∷ [])
+    ∙ ap (λ p. step level p line) (IsUnmarked-progress level prefix file h) ∙ ap (later_step level file line) e
+Breaks-progress level prefix line kind (by_text file items h form s sound) =
+    progress-append level start prefix (line ∷ []) ∙ ap (λ p. step level p line) (IsUnmarked-progress level prefix file h)
     ∙ later_step-items level file line items (Broken kind) (Some kind) form s tt (ap (λ k. option_or k (Some kind)) sound)
-Breaks-progress level front line kind (by_item file items item rest h form s sound fault) =
-    progress-append level start front (line ∷ []) ∙ ap (λ p. step level p line) (IsUnmarked-progress level front file h)
+Breaks-progress level prefix line kind (by_item file items item rest h form s sound fault) =
+    progress-append level start prefix (line ∷ []) ∙ ap (λ p. step level p line) (IsUnmarked-progress level prefix file h)
     ∙ step-by_item level file line items item rest kind form s sound fault
 
 -- one kind at most
-pub Breaks-unique : (level : ℕ) (front : List (List ℕ)) (line : List ℕ) (k l : Kind) → BreaksRle level front line k → BreaksRle level front line l → k ≡ l
-Breaks-unique level front line k l a b = let x = Breaks-progress level front line k a in let y = Breaks-progress level front line l b in cc
+pub Breaks-unique : (level : ℕ) (prefix : List (List ℕ)) (line : List ℕ) (k l : Kind) → BreaksRle level prefix line k → BreaksRle level prefix line l → k ≡ l
+Breaks-unique level prefix line k l a b = let x = Breaks-progress level prefix line k a in let y = Breaks-progress level prefix line l b in cc
 
 refused-IsRle : (level : ℕ) (lines : List (List ℕ)) (file : Rle) (kind : Kind) → progress level start lines ≡ Refused kind → IsRle level lines file → ⊥
 refused-IsRle level lines file kind e (inl b) = let x = IsUnmarked-progress level lines file b in cc
 refused-IsRle level lines file kind e (inr b) = let x = IsMarked-progress level lines file b in cc
 
--- whatever follows, behind such a line the lines are no file
-pub Breaks-no_more : (level : ℕ) (front : List (List ℕ)) (line : List ℕ) (kind : Kind) (more : List (List ℕ)) (file : Rle) → BreaksRle level front line kind
-    → IsRle level ((front ++ line ∷ []) ++ more) file → ⊥
-Breaks-no_more level front line kind more file b h =
-    refused-IsRle level ((front ++ line ∷ []) ++ more) file kind
-    (progress-append level start (front ++ line ∷ []) more ∙ ap (λ p. progress level p more) (Breaks-progress level front line kind b)
+-- whatever follows, after such a line the lines are no file
+pub Breaks-no_more : (level : ℕ) (prefix : List (List ℕ)) (line : List ℕ) (kind : Kind) (more : List (List ℕ)) (file : Rle) → BreaksRle level prefix line kind
+    → IsRle level ((prefix ++ line ∷ []) ++ more) file → ⊥
+Breaks-no_more level prefix line kind more file b h =
+    refused-IsRle level ((prefix ++ line ∷ []) ++ more) file kind
+    (progress-append level start (prefix ++ line ∷ []) more ∙ ap (λ p. progress level p more) (Breaks-progress level prefix line kind b)
     ∙ progress-Refused level kind more) h
 
-pub Breaks-no_prefix : (level : ℕ) (front : List (List ℕ)) (line : List ℕ) (kind : Kind) → BreaksRle level front line kind
-    → Prefix (IsSomeRle level) (front ++ line ∷ []) → ⊥
-Breaks-no_prefix level front line kind b p = Breaks-no_more level front line kind (kept_lines p.0 continuations) p.1.0 b p.1.1
+pub Breaks-no_prefix : (level : ℕ) (prefix : List (List ℕ)) (line : List ℕ) (kind : Kind) → BreaksRle level prefix line kind
+    → Prefix (IsSomeRle level) (prefix ++ line ∷ []) → ⊥
+Breaks-no_prefix level prefix line kind b p = Breaks-no_more level prefix line kind (kept_lines p.0 continuations) p.1.0 b p.1.1

@@ -97,7 +97,7 @@ unmarked-valid level lines file u
 
 both-valid : (level : ℕ) (lines : List (List ℕ)) (file : Rle) → IsRle level lines file → IsRule file.rule × (file.position.generation < 2 ^ 64)
 both-valid level lines file (inl u) = unmarked-valid level lines file u
-both-valid level lines file (inr m) = unmarked-valid level m.front (record file { items = m.earlier }) m.begun
+both-valid level lines file (inr m) = unmarked-valid level m.prefix (record file { items = m.earlier }) m.begun
 
 pub files_are_valid : RlesAreValid
 files_are_valid level lines file f =

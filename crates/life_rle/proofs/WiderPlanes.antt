@@ -209,7 +209,7 @@ unmarked-wider level wider lines file wide =
 
 marked-wider : (level wider : ℕ) (lines : List (List ℕ)) (file : Rle) → level ≤ wider → IsMarked level lines file → IsMarked wider lines file
 marked-wider level wider lines file wide =
-    IsEndedBy-map (λ front begun. unmarked-wider level wider front begun wide)
+    IsEndedBy-map (λ prefix begun. unmarked-wider level wider prefix begun wide)
     (λ line items. line-wider level wider line items Mark wide (λ e. cc))
     (λ whole. sound-file level wider whole wide) lines file
 

@@ -38,7 +38,7 @@ FewBlocks =
     (top : ℕ) (lines : List (List ℕ)) (file : Rle) → IsRle top lines file
     → (blocks : List Block) × AreAllBlocks top (rle_cell file) blocks × (length blocks ≤ 14 * length (joined_lines lines) + 4 * top)
 
--- The same of any lines: of their longest front that breaks no rule, whose runs go on from those of each other front.
+-- The same of any lines: of their longest prefix that breaks no rule, whose runs go on from those of each other prefix.
 pub record HasFewBlocks (top : ℕ) (lines : List (List ℕ)) : Type 0 where
   pub rule : Rule
   pub runs : List Run
@@ -47,7 +47,7 @@ pub record HasFewBlocks (top : ℕ) (lines : List (List ℕ)) : Type 0 where
   pub blocks : List Block
   pub all : AreAllBlocks top (rle_state_by runs) blocks
   pub few : length blocks ≤ 14 * length (joined_lines lines) + 4 * top
-  pub most : (front behind : List (List ℕ)) (before : List Run) → lines ≡ front ++ behind → HasRuns top front before → IsPrefixOfRuns before runs
+  pub most : (prefix behind : List (List ℕ)) (before : List Run) → lines ≡ prefix ++ behind → HasRuns top prefix before → IsPrefixOfRuns before runs
   pub whole : (file : Rle) → IsRle top lines file → runs ≡ runs_of (placed_items file)
 
 abbrev pub FewBlocksInPrefixes : Type 0

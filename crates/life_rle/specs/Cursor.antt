@@ -16,12 +16,12 @@ item_count (RowEnds count) = count
 abbrev pub start_of : Position → Cursor
 start_of position = record { left = position.x; x = position.x; y = position.y }
 
--- the place behind an item
+-- the place after an item
 abbrev pub cursor_after_item : Cursor → Item → Cursor
 cursor_after_item c (Cells count state) = record { left = c.left; x = c.x +ℤ pos count; y = c.y }
 cursor_after_item c (RowEnds count) = record { left = c.left; x = c.left; y = c.y +ℤ pos count }
 
--- the place behind items
+-- the place after items
 abbrev pub cursor_after_items : Cursor → List Item → Cursor
 cursor_after_items c [] = c
 cursor_after_items c (item ∷ items) = cursor_after_items (cursor_after_item c item) items
@@ -41,7 +41,7 @@ pub record IsNear (level : ℕ) (c : Cursor) : Type 0 where
   pub x : (neg_ℤ (rle_plane_end level) ≤ℤ c.x) × (c.x ≤ℤ rle_plane_end level)
   pub y : (neg_ℤ (rle_plane_end level) ≤ℤ c.y) × (c.y ≤ℤ rle_plane_end level)
 
--- the place is behind the items of a file
+-- the place is after the items of a file
 pub record IsAfterItems (c : Cursor) (file : Rle) : Type 0 where
   pub left : c.left ≡ file.position.x
   pub x : c.x ≡ file.position.x +ℤ pos (columns_in file.items)

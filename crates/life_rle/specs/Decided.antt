@@ -1,4 +1,4 @@
--- What lines are: a file, the front of one that lacks its header, or lines of which one breaks a rule.
+-- What lines are: a file, a prefix of one that lacks its header, or lines of which one breaks a rule.
 use Rattle.std.specs.Prelude.{◌≡◌, ℕ, ◌⊎◌, List, ◌∷◌, ◌++◌}
 use Rattle.life_base.specs.declared.kind.Kind.{Kind}
 use Rattle.life_rle.specs.declared.position.Position.{Position}
@@ -9,14 +9,14 @@ use Rattle.life_rle.specs.Grammar.{IsPreamble, IsSomeRle, BreaksRle}
 abbrev pub LacksHeader : ℕ → List (List ℕ) → Type 0
 LacksHeader level lines = (position : Position) × IsPreamble level default_position lines position
 
--- a line breaks a rule behind those before it
+-- a line breaks a rule after those before it
 pub record HasBroken (level : ℕ) (lines : List (List ℕ)) : Type 0 where
-  pub front : List (List ℕ)
+  pub prefix : List (List ℕ)
   pub line : List ℕ
   pub rest : List (List ℕ)
   pub kind : Kind
-  pub whole : lines ≡ front ++ line ∷ rest
-  pub breaks : BreaksRle level front line kind
+  pub whole : lines ≡ prefix ++ line ∷ rest
+  pub breaks : BreaksRle level prefix line kind
 
 -- exactly one of the three holds
 abbrev pub IsDecided : Type 0

@@ -35,12 +35,12 @@ HasRuns level lines runs =
     ((position : Position) × IsPreamble level default_position lines position × (runs ≡ []))
     ⊎ ((file : Rle) × IsRle level lines file × (runs ≡ runs_of (placed_items file)))
 
--- the runs of further lines are put behind those that were there
+-- the runs of further lines are put after those that were there
 pub record AddsRuns (level : ℕ) (lines more : List (List ℕ)) (old new : List Run) : Type 0 where
   pub runs : List Run
   pub added : new ≡ old ++ runs
   pub found : (before : List Run) → HasRuns level lines before → HasRuns level more (before ++ runs)
 
--- runs, and perhaps more runs behind them
+-- runs, and perhaps more runs after them
 abbrev pub IsPrefixOfRuns : List Run → List Run → Type 0
-IsPrefixOfRuns front runs = (more : List Run) × (runs ≡ front ++ more)
+IsPrefixOfRuns prefix runs = (more : List Run) × (runs ≡ prefix ++ more)

@@ -28,7 +28,7 @@ opening_of level line =
     else if begins_with line (codes "x") then and_then (header_of line) (λ rule. Ok (Header rule))
     else Err NoHeader
 
--- what a line is behind the header: passed over, or data
+-- what a line is after the header: passed over, or data
 abbrev pub later_of : List ℕ → Result Later Kind
 later_of line =
     if is_too_long line then Err LineTooLong
@@ -45,19 +45,19 @@ IsPreamble level given (line ∷ lines) position =
     ((opening_of level line ≡ Ok Comment) × IsPreamble level given lines position)
     ⊎ ((here : Position) × (opening_of level line ≡ Ok (PositionLine here)) × IsPreamble level here lines position)
 
--- a line behind the header that spells these items, and then `last` stands in an item's place
+-- a line after the header that spells these items, and then `last` stands in an item's place
 abbrev pub LineSpells : ℕ → List ℕ → List Item → Next → Type 0
 LineSpells level line items last =
     ((later_of line ≡ Ok Passed) × (items ≡ []) × (last ≡ End))
     ⊎ ((later_of line ≡ Ok Data) × Spells level line items last)
 
--- lines behind the header that spell these items together, with no `!` in an item's place
+-- lines after the header that spell these items together, with no `!` in an item's place
 abbrev pub BodySpells : ℕ → List (List ℕ) → List Item → Type 0
 BodySpells level [] items = items ≡ []
 BodySpells level (line ∷ lines) items =
     (first rest : List Item) × (items ≡ first ++ rest) × LineSpells level line first End × BodySpells level lines rest
 
--- lines before the header, the header, and lines of items behind it, with these words for each part
+-- lines before the header, the header, and lines of items after it, with these words for each part
 pub record IsOpenBy (ArePreamble : List (List ℕ) → Position → Type 0) (IsHeader : List ℕ → Rule → Type 0) (AreItems : List (List ℕ) → List Item → Type 0)
     (IsSound : Rle → Type 0) (lines : List (List ℕ)) (file : Rle) : Type 0 where
   pub before : List (List ℕ)
@@ -69,17 +69,17 @@ pub record IsOpenBy (ArePreamble : List (List ℕ) → Position → Type 0) (IsH
   pub items : AreItems body file.items
   pub sound : IsSound file
 
--- lines of the earlier items, the line that ends them with the final ones, and lines behind it, which are free, with these words for each part
+-- lines of the earlier items, the line that ends them with the final ones, and lines after it, which are free, with these words for each part
 pub record IsEndedBy (IsOpen : List (List ℕ) → Rle → Type 0) (IsLast : List ℕ → List Item → Type 0) (IsSound : Rle → Type 0) (lines : List (List ℕ))
     (file : Rle) : Type 0 where
-  pub front : List (List ℕ)
+  pub prefix : List (List ℕ)
   pub last : List ℕ
   pub free : List (List ℕ)
-  pub whole : lines ≡ front ++ last ∷ free
+  pub whole : lines ≡ prefix ++ last ∷ free
   pub earlier : List Item
   pub final : List Item
   pub items : file.items ≡ earlier ++ final
-  pub begun : IsOpen front (record file { items = earlier })
+  pub begun : IsOpen prefix (record file { items = earlier })
   pub marked : IsLast last final
   pub sound : IsSound file
 
@@ -92,7 +92,7 @@ abbrev pub IsUnmarked : ℕ → List (List ℕ) → Rle → Type 0
 IsUnmarked level =
     IsOpenBy (IsPreamble level default_position) (λ line rule. opening_of level line ≡ Ok (Header rule)) (BodySpells level) (HasNoFault level)
 
--- a line's `!` ends the pattern, and the lines behind it are free
+-- a line's `!` ends the pattern, and the lines after it are free
 abbrev pub IsMarked : ℕ → List (List ℕ) → Rle → Type 0
 IsMarked level = IsEndedBy (IsUnmarked level) (λ line items. LineSpells level line items Mark) (HasNoFault level)
 
@@ -108,20 +108,21 @@ IsSomeRle level lines = (file : Rle) × IsRle level lines file
 abbrev pub fault_after : ℕ → Rle → List Item → Item → Option Kind
 fault_after level file items item = placed_fault level file.rule (placed_item file.position (file.items ++ items) item)
 
--- which rule the line breaks first behind these lines
-pub data BreaksRle (level : ℕ) (front : List (List ℕ)) (line : List ℕ) (kind : Kind) : Type 0 where
+-- which rule the line breaks first after these lines
+pub data BreaksRle (level : ℕ) (prefix : List (List ℕ)) (line : List ℕ) (kind : Kind) : Type 0 where
   -- as a line before the header
-  before_header : (position : Position) → IsPreamble level default_position front position → opening_of level line ≡ Err kind → BreaksRle level front line kind
-  -- as a line behind the header, before its items
-  by_form : (file : Rle) → IsUnmarked level front file → later_of line ≡ Err kind → BreaksRle level front line kind
-  -- behind items that break none, in the place of an item
-  by_text : (file : Rle) (items : List Item) → IsUnmarked level front file → later_of line ≡ Ok Data → Spells level line items (Broken kind)
-      → first_fault level file.rule (placed_after file.position file.items items) ≡ None → BreaksRle level front line kind
-  -- behind items that break none, by an item
-  by_item : (file : Rle) (items : List Item) (item : Item) (rest : List ℕ) → IsUnmarked level front file → later_of line ≡ Ok Data
+  before_header : (position : Position) → IsPreamble level default_position prefix position → opening_of level line ≡ Err kind
+      → BreaksRle level prefix line kind
+  -- as a line after the header, before its items
+  by_form : (file : Rle) → IsUnmarked level prefix file → later_of line ≡ Err kind → BreaksRle level prefix line kind
+  -- after items that break none, in the place of an item
+  by_text : (file : Rle) (items : List Item) → IsUnmarked level prefix file → later_of line ≡ Ok Data → Spells level line items (Broken kind)
+      → first_fault level file.rule (placed_after file.position file.items items) ≡ None → BreaksRle level prefix line kind
+  -- after items that break none, by an item
+  by_item : (file : Rle) (items : List Item) (item : Item) (rest : List ℕ) → IsUnmarked level prefix file → later_of line ≡ Ok Data
       → Spells level line items (Spelled item rest)
       → first_fault level file.rule (placed_after file.position file.items items) ≡ None → fault_after level file items item ≡ Some kind
-      → BreaksRle level front line kind
+      → BreaksRle level prefix line kind
 
 -- the kinds of rule that a line of RLE can break
 abbrev pub is_rle_kind : Kind → Bool

@@ -13,11 +13,11 @@ abbrev pub ◌>>=◌ : {A B : Type 0} → Option A → (A → Option B) → Opti
 None >>= f = None
 (Some a) >>= f = f a
 
--- what stands behind this word and the whitespace after it
+-- what comes after this word and the whitespace after it
 abbrev pub after_word : List ℕ → List ℕ → Option (List ℕ)
 after_word word bytes = if begins_with bytes word then Some (trim_start (drop (length word) bytes)) else None
 
--- what stands behind a digit text and the whitespace after it
+-- what comes after a digit text and the whitespace after it
 abbrev pub after_number : List ℕ → Option (List ℕ)
 after_number bytes = if is_digit_text (leading_digits bytes) then Some (trim_start (after_digits_of bytes)) else None
 

@@ -12,15 +12,15 @@ use Rattle.life_rle.specs.declared.item.Item.TheVariants.{Cells, RowEnds}
 use Rattle.life_rle.specs.Plane.{most_count}
 use Rattle.life_rle.specs.States.{leading_state}
 
--- the digits in front of a text
+-- the digits at the beginning of a text
 abbrev pub leading_digits : List ℕ → List ℕ
 leading_digits text = take_while is_ascii_digit text
 
--- what stands behind the digits in front of a text
+-- what comes after the digits at the beginning of a text
 abbrev pub after_digits_of : List ℕ → List ℕ
 after_digits_of text = drop (prefix_len is_ascii_digit text) text
 
--- what stands in an item's place: nothing, the mark `!`, an item and the bytes behind it, or none of these
+-- what stands in an item's place: nothing, the mark `!`, an item and the bytes after it, or none of these
 pub data Next : Type 0 where
   End : Next
   Mark : Next
@@ -32,12 +32,12 @@ abbrev pub next_of_cells : ℕ → Option (ℕ × List ℕ) → Next
 next_of_cells count None = Broken BadItem
 next_of_cells count (Some found) = Spelled (Cells count found.0) found.1
 
--- an item with this count, whose `$` or state is in front of the bytes
+-- an item with this count, whose `$` or state is at the beginning of the bytes
 abbrev pub item_after : ℕ → List ℕ → Next
 item_after count [] = Broken BadItem
 item_after count (b ∷ bytes) = if b == byte "$" then Spelled (RowEnds count) bytes else next_of_cells count (leading_state (b ∷ bytes))
 
--- an item with these digits in front; without digits the count is 1, and else from 1 to the width of the plane
+-- an item with these digits first; without digits the count is 1, and else from 1 to the width of the plane
 abbrev pub item_with_digits : ℕ → List ℕ → List ℕ → Next
 item_with_digits level [] bytes = item_after 1 bytes
 item_with_digits level (d ∷ digits) bytes =
@@ -45,7 +45,7 @@ item_with_digits level (d ∷ digits) bytes =
     else if nat_lt (most_count level) (value_of (d ∷ digits)) then Broken TooLarge
     else item_after (value_of (d ∷ digits)) bytes
 
--- what is in front of bytes that begin without whitespace
+-- what is at the beginning of bytes that begin without whitespace
 abbrev pub item_in : ℕ → List ℕ → Next
 item_in level [] = End
 item_in level (b ∷ bytes) = if b == byte "!" then Mark else item_with_digits level (leading_digits (b ∷ bytes)) (after_digits_of (b ∷ bytes))

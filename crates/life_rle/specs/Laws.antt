@@ -24,25 +24,25 @@ IsOneRle = (level : ℕ) (lines : List (List ℕ)) (f g : Rle) → IsRle level l
 abbrev pub WiderPlanesKeepRles : Type 0
 WiderPlanesKeepRles = (level wider : ℕ) (lines : List (List ℕ)) (file : Rle) → level ≤ wider → IsRle level lines file → IsRle wider lines file
 
--- a line that breaks a rule stands behind a front of a file, breaks one kind first, and no lines behind it make a file
+-- a line that breaks a rule comes after a prefix of a file, breaks one kind first, and no lines after it make a file
 abbrev pub BreaksForGood : Type 0
 BreaksForGood =
-    (level : ℕ) (front : List (List ℕ)) (line : List ℕ) (kind : Kind) → BreaksRle level front line kind
-    → Prefix (IsSomeRle level) front
-    × ((other : Kind) → BreaksRle level front line other → other ≡ kind)
-    × ((more : List (List ℕ)) (file : Rle) → IsRle level ((front ++ line ∷ []) ++ more) file → ⊥)
+    (level : ℕ) (prefix : List (List ℕ)) (line : List ℕ) (kind : Kind) → BreaksRle level prefix line kind
+    → Prefix (IsSomeRle level) prefix
+    × ((other : Kind) → BreaksRle level prefix line other → other ≡ kind)
+    × ((more : List (List ℕ)) (file : Rle) → IsRle level ((prefix ++ line ∷ []) ++ more) file → ⊥)
 
--- no line breaks a rule behind those before it
+-- no line breaks a rule after those before it
 abbrev pub IsUnbrokenRle : ℕ → List (List ℕ) → Type 0
 IsUnbrokenRle level lines = (k : ℕ) (kind : Kind) → k < length lines → BreaksRle level (take k lines) (slice_index_or lines k []) kind → ⊥
 
--- lines are the front of a file exactly if no line breaks a rule
+-- lines are a prefix of a file exactly if no line breaks a rule
 abbrev pub RlePrefixesAreUnbroken : Type 0
 RlePrefixesAreUnbroken = (level : ℕ) (lines : List (List ℕ)) → Prefix (IsSomeRle level) lines ↔ IsUnbrokenRle level lines
 
 -- a line breaks a rule with one of the kinds of the format
 abbrev pub RleLinesBreakByKinds : Type 0
-RleLinesBreakByKinds = (level : ℕ) (front : List (List ℕ)) (line : List ℕ) (kind : Kind) → BreaksRle level front line kind → is_rle_kind kind ≡ true
+RleLinesBreakByKinds = (level : ℕ) (prefix : List (List ℕ)) (line : List ℕ) (kind : Kind) → BreaksRle level prefix line kind → is_rle_kind kind ≡ true
 
 -- and each of these kinds names its line
 abbrev pub RleKindsNameLines : Type 0
@@ -79,7 +79,7 @@ pub record AreWrapped (texts lines : List (List ℕ)) : Type 0 where
   pub joined : lines ≡ map (λ group. flat_map (λ text. text) group) groups
   pub full : IsWrapped groups
 
--- behind the two lines in front the items of sorted cells and `!` are wrapped
+-- after the two lines before the items of sorted cells and `!` are wrapped
 abbrev pub WrappedGreedily : Type 0
 WrappedGreedily =
     (rule : Rule) (generation : ℕ) (cells : List Cell) → are_sorted_cells MAX_LEVEL rule cells ≡ true

@@ -13,7 +13,7 @@ abbrev pub IsLive : Item → Type 0
 IsLive (Cells count state) = 1 ≤ state
 IsLive (RowEnds count) = ⊥
 
--- which item may stand behind which: cells behind cells of another state, the end of a row behind live cells, and cells behind ends of rows
+-- which item may comes after which: cells after cells of another state, the end of a row after live cells, and cells after ends of rows
 abbrev pub MayFollow : Item → Item → Type 0
 MayFollow (Cells count state) (Cells more other) = state ≡ other → ⊥
 MayFollow (Cells count state) (RowEnds more) = 1 ≤ state

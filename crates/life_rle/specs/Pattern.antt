@@ -29,7 +29,7 @@ rows_in [] = 0
 rows_in (Cells count state ∷ items) = rows_in items
 rows_in (RowEnds count ∷ items) = count + rows_in items
 
--- the sum of the counts of the items behind the last row end
+-- the sum of the counts of the items after the last row end
 abbrev pub columns_in : List Item → ℕ
 columns_in [] = 0
 columns_in (Cells count state ∷ items) = if list_any is_row_end items then columns_in items else count + columns_in items
@@ -41,11 +41,11 @@ pub record PlacedItem : Type 0 where
   pub column : ℤ
   pub item : Item
 
--- where an item stands behind these
+-- where an item comes after these
 abbrev pub placed_item : Position → List Item → Item → PlacedItem
 placed_item position before item = record { row = position.y +ℤ pos (rows_in before); column = position.x +ℤ pos (columns_in before); item = item }
 
--- the items that follow `before`, each where it stands behind all items before it
+-- the items that follow `before`, each where it comes after all items before it
 abbrev pub placed_after : Position → List Item → List Item → List PlacedItem
 placed_after position before [] = []
 placed_after position before (item ∷ items) = placed_item position before item ∷ placed_after position (before ++ item ∷ []) items

@@ -12,7 +12,7 @@ use Rattle.life_rle.specs.Plane.{most_count}
 use Rattle.life_rle.specs.Header.{header_form}
 use Rattle.life_rle.specs.Items.{End, Mark, Spelled, Broken, Spells}
 
--- the text of a state: `b`, `.`, `o`, a letter by its place behind `A`, or a prefix and a letter by their places behind `p` and `A`
+-- the text of a state: `b`, `.`, `o`, a letter by its place after `A`, or a prefix and a letter by their places after `p` and `A`
 pub data IsStateText (text : List ℕ) (state : ℕ) : Type 0 where
   letter_b : text ≡ codes "b" → state ≡ 0 → IsStateText text state
   dot : text ≡ codes "." → state ≡ 0 → IsStateText text state
@@ -39,7 +39,7 @@ IsTextOfItems level line (item ∷ items) rest =
     (space text more : List ℕ) × (is_blank space ≡ true) × IsItemText level text item × (line ≡ space ++ (text ++ more)) × IsTextOfItems level more items rest
 
 -- Reading a line finds items and its end exactly if the line is their texts; items and `!` exactly if it is their texts, `!` and anything
--- behind it; and items, one more and a rest exactly if it is their texts, that item's and the rest.
+-- after it; and items, one more and a rest exactly if it is their texts, that item's and the rest.
 abbrev pub ItemsArePlain : Type 0
 ItemsArePlain =
     (level : ℕ) (line : List ℕ) (items : List Item)
@@ -48,7 +48,7 @@ ItemsArePlain =
     × ((item : Item) (rest : List ℕ) → Spells level line items (Spelled item rest)
     ↔ ((text : List ℕ) × IsItemText level text item × IsTextOfItems level line items (text ++ rest)))
 
--- tokens one after another, each with any whitespace behind it, and then these bytes
+-- tokens one after another, each with any whitespace after it, and then these bytes
 abbrev pub AreTokens : List ℕ → List (List ℕ) → List ℕ → Type 0
 AreTokens line [] rest = line ≡ rest
 AreTokens line (token ∷ tokens) rest = (space more : List ℕ) × (is_blank space ≡ true) × (line ≡ token ++ (space ++ more)) × AreTokens more tokens rest
@@ -74,21 +74,21 @@ IsHeaderLine line (Some text) =
 abbrev pub HeadersArePlain : Type 0
 HeadersArePlain = (line : List ℕ) (rule : Option (List ℕ)) → (header_form line ≡ Some rule) ↔ IsHeaderLine line rule
 
--- digits in front of these bytes have ended
+-- digits at the beginning of these bytes have ended
 abbrev pub HasNoDigit : List ℕ → Type 0
 HasNoDigit [] = Unit {0}
 HasNoDigit (b ∷ bytes) = is_ascii_digit b ≡ false
 
--- neither a state nor `$` in front
+-- beginning with neither a state nor `$`
 abbrev pub HasNoState : List ℕ → Type 0
 HasNoState bytes = ((text rest : List ℕ) (state : ℕ) → IsStateText text state → bytes ≡ text ++ rest → ⊥) × ((rest : List ℕ) → bytes ≡ codes "$" ++ rest → ⊥)
 
--- bytes that begin an item: something, and neither whitespace nor `!` in front
+-- bytes that begin an item: something that begins with neither whitespace nor `!`
 abbrev pub HasItemPlace : List ℕ → Type 0
 HasItemPlace [] = ⊥
 HasItemPlace (b ∷ bytes) = (is_whitespace b ≡ false) × ((b ≡ byte "!") → ⊥)
 
--- Which rule the bytes in an item's place break: a count of 0, a count above the width of the plane, or, behind a count or without one,
+-- Which rule the bytes in an item's place break: a count of 0, a count above the width of the plane, or, after a count or without one,
 -- neither a state nor `$`.
 pub data IsNoItem (level : ℕ) (bytes : List ℕ) (kind : Kind) : Type 0 where
   zero_count : (digits rest : List ℕ) → bytes ≡ digits ++ rest → is_digit_text digits ≡ true → HasNoDigit rest → value_of digits ≡ 0 → kind ≡ ZeroCount

@@ -21,7 +21,7 @@ use Rattle.life_rle.specs.Grammar.{IsRle, IsOpenBy, IsEndedBy}
 abbrev pub IsShortLine : List ℕ → Type 0
 IsShortLine line = length line ≤ 2 ^ 20
 
--- a line that says nothing: whitespace alone, or `#` in front of what is no position line
+-- a line that says nothing: whitespace alone, or `#` before what is no position line
 abbrev pub IsRleComment : List ℕ → Type 0
 IsRleComment line = (is_blank line ≡ true) ⊎ ((begins_with line (codes "#") ≡ true) × (is_position_line line ≡ false))
 
@@ -36,22 +36,22 @@ ArePreamble level given (line ∷ lines) position =
 abbrev pub IsRleRuleLine : List ℕ → Rule → Type 0
 IsRleRuleLine line rule = (IsHeaderLine line None × (rule ≡ default_rule)) ⊎ ((text : List ℕ) × IsHeaderLine line (Some text) × (rule_of text ≡ Ok rule))
 
--- a line of data: not blank, and neither `#`, nor `x` and a space, nor `x=` in front
+-- a line of data: not blank, and beginning with neither `#`, nor `x` and a space, nor `x=`
 pub record IsData (line : List ℕ) : Type 0 where
   pub visible : is_blank line ≡ false
   pub no_comment : begins_with line (codes "#") ≡ false
   pub no_header : begins_with line (codes "x ") ≡ false
   pub no_other_header : begins_with line (codes "x=") ≡ false
 
--- a line behind the header up to its end: a comment, or the texts of these items
+-- a line after the header up to its end: a comment, or the texts of these items
 abbrev pub IsBodyLine : ℕ → List ℕ → List Item → Type 0
 IsBodyLine level line items = IsShortLine line × ((IsRleComment line × (items ≡ [])) ⊎ (IsData line × IsTextOfItems level line items []))
 
--- the line with `!`: the texts of these items in front of it, and anything behind it
+-- the line with `!`: the texts of these items before it, and anything after it
 abbrev pub IsLastLine : ℕ → List ℕ → List Item → Type 0
 IsLastLine level line items = IsShortLine line × IsData line × ((free : List ℕ) × IsTextOfItems level line items (byte "!" ∷ free))
 
--- lines behind the header, of these items together
+-- lines after the header, of these items together
 abbrev pub AreBody : ℕ → List (List ℕ) → List Item → Type 0
 AreBody level [] items = items ≡ []
 AreBody level (line ∷ lines) items = (first rest : List Item) × (items ≡ first ++ rest) × IsBodyLine level line first × AreBody level lines rest

@@ -1,7 +1,7 @@
 -- The plane of a greatest level of 1 or more. The project's own.
 use Rattle.std.specs.Prelude.{ℕ, ◌-◌, ◌^◌, Bool, ◌&&◌, ℤ, pos, neg_ℤ, int_lt, int_le}
 
--- The coordinates of the plane go from -2 ^ (level - 1) to 2 ^ (level - 1) - 1; this is the first number behind them.
+-- The coordinates of the plane go from -2 ^ (level - 1) to 2 ^ (level - 1) - 1; this is the first number after them.
 abbrev pub rle_plane_end : ℕ → ℤ
 rle_plane_end level = pos (2 ^ (level - 1))
 

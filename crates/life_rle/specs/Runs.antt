@@ -7,7 +7,7 @@ use Rattle.life_rle.specs.declared.item.Item.{Item}
 use Rattle.life_rle.specs.declared.item.Item.TheVariants.{Cells, RowEnds}
 use Rattle.life_rle.specs.Pattern.{PlacedItem}
 
--- the run of an item, if its state is nonzero, in front of runs
+-- the run of an item, if its state is nonzero, before runs
 abbrev pub with_run : ℤ → ℤ → Item → List Run → List Run
 with_run row column (Cells count zero) runs = runs
 with_run row column (Cells count (suc n)) runs = record { x = column; y = row; len = count; state = suc n } ∷ runs

@@ -38,10 +38,10 @@ pub record AreShortCells (level : ℕ) (line : List ℕ) (at count state behind 
   pub small : state ≤ 255
   pub read : next_of level (drop at line) ≡ Spelled (Cells count state) (drop behind line)
 
--- from here on the row has room for nine cells at each byte of the line
+-- from here on the row has space for nine cells at each byte of the line
 pub record RowHasSpace (level : ℕ) (line : List ℕ) (at : ℕ) (here : Cursor) : Type 0 where
   pub near : IsNear level here
-  pub room : (here.x +ℤ pos (9 * (length line - at))) ≤ℤ row_limit level here.y
+  pub space : (here.x +ℤ pos (9 * (length line - at))) ≤ℤ row_limit level here.y
 
 -- whatever was read up to a place of the line is read up to another one, with more runs
 abbrev pub ReadsOn : ℕ → Rule → List ℕ → ℕ → Cursor → List Run → ℕ → Cursor → List Run → Type 0
@@ -53,5 +53,5 @@ ReadsOn level rule line at here found behind there more =
 pub record PassesDead (level : ℕ) (line : List ℕ) (at : ℕ) (here : Cursor) (behind : ℕ) (there : Cursor) : Type 0 where
   pub inside : (at ≤ behind) × (behind ≤ at + 2)
   pub row : there.y ≡ here.y
-  pub room : RowHasSpace level line behind there
+  pub space : RowHasSpace level line behind there
   pub read : (rule : Rule) (found : List Run) → ReadsOn level rule line at here found behind there found

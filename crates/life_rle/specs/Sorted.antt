@@ -10,7 +10,7 @@ use Rattle.life_rle.specs.States.{is_state_of}
 abbrev pub is_live_cell : ℕ → Rule → Cell → Bool
 is_live_cell level rule c = (is_coordinate level c.x && is_coordinate level c.y) && (nat_lt 0 c.state && is_state_of rule c.state)
 
--- the second cell stands in a later row, or behind the first in one row
+-- the second cell stands in a later row, or after the first in one row
 abbrev pub rises : Cell → Cell → Bool
 rises a b = int_lt a.y b.y || (int_eq a.y b.y && int_lt a.x b.x)
 

@@ -26,13 +26,13 @@ StandsAt level (phases.Items rule position) cursor lines =
     (file : Rle) × IsUnmarked level lines file × IsNear level cursor × IsAfterItems cursor file × (rule ≡ file.rule) × (position ≡ file.position)
 StandsAt level (phases.Over rule position) cursor lines = (file : Rle) × IsMarked level lines file × (rule ≡ file.rule) × (position ≡ file.position)
 
--- behind any lines at which the first phase and cursor stand, the second stand with one line more, and these are the line's runs
+-- after any lines at which the first phase and cursor stand, the second stand with one line more, and these are the line's runs
 pub record Advances (level : ℕ) (phase : Phase) (cursor : Cursor) (line : List ℕ) (next : Phase) (place : Cursor) (runs : List Run) : Type 0 where
   pub stands : (lines : List (List ℕ)) → StandsAt level phase cursor lines → StandsAt level next place (lines ++ line ∷ [])
   pub found : (lines : List (List ℕ)) (before : List Run) → StandsAt level phase cursor lines → HasRuns level lines before
       → HasRuns level (lines ++ line ∷ []) (before ++ runs)
 
--- such a line, whose runs are put behind those that were there
+-- such a line, whose runs are put after those that were there
 pub record TakesRleLine (level : ℕ) (phase : Phase) (cursor : Cursor) (line : List ℕ) (next : Phase) (place : Cursor) (before after : List Run) : Type 0 where
   pub runs : List Run
   pub advances : Advances level phase cursor line next place runs

@@ -24,11 +24,11 @@ prefixed_state prefix letter =
     && nat_le (prefixed_number prefix letter) 255
     then Some (prefixed_number prefix letter) else None
 
--- a state and the bytes behind it
+-- a state and the bytes after it
 abbrev pub with_rest : Option ℕ → List ℕ → Option (ℕ × List ℕ)
 with_rest found rest = option_map (λ state. (state, rest)) found
 
--- the state in front of the bytes, and what stands behind it
+-- the state at the beginning of the bytes, and what comes after it
 abbrev pub leading_state : List ℕ → Option (ℕ × List ℕ)
 leading_state [] = None
 leading_state (b ∷ []) = with_rest (single_state b) []

@@ -8,8 +8,8 @@ pub use Rattle.life_rle.specs.Blocks.{FewBlocks, FewBlocksInPrefixes}
 pub use Rattle.life_rle.specs.Cursor.{IsNear, item_count, cursor_after_item, row_limit, start_of}
 pub use Rattle.life_rle.specs.Decided.{IsDecided}
 pub use Rattle.life_rle.specs.File.{HasRuns, IsPrefixOfRuns, RefusesRle, Shows}
-pub use Rattle.life_rle.specs.FrontLaws.{BeginsAsRle, RlePrefixesAreFiles, PrefixesOfPrefixes, IsMarkDecided, LinesAfterMarkAreFree, LongRleLinesBreak}
-pub use Rattle.life_rle.specs.FrontLaws.{MacrocellLineBreaks}
+pub use Rattle.life_rle.specs.PrefixLaws.{BeginsAsRle, RlePrefixesAreFiles, PrefixesOfPrefixes, IsMarkDecided, LinesAfterMarkAreFree, LongRleLinesBreak}
+pub use Rattle.life_rle.specs.PrefixLaws.{MacrocellLineBreaks}
 pub use Rattle.life_rle.specs.Grammar.{BreaksRle, is_rle_kind, later_of, opening_of}
 pub use Rattle.life_rle.specs.Header.{after_number, after_word, header_form, header_of, rule_part}
 pub use Rattle.life_rle.specs.Items.{Broken, item_with_digits, item_after}

@@ -19,11 +19,11 @@ abbrev pub tag_text : Rule → Item → List ℕ
 tag_text rule (Cells count state) = state_text rule state
 tag_text rule (RowEnds count) = codes "$"
 
--- the line feed in front of a text of this length that doesn't fit on the line
+-- the line feed at the beginning of a text of this length that doesn't fit on the line
 abbrev pub feed : ℕ → ℕ → List ℕ
 feed used len = if nat_le (used + len) 70 then [] else codes "\n"
 
--- how many bytes the line has behind such a text
+-- how many bytes the line has after such a text
 abbrev pub used_after : ℕ → ℕ → ℕ
 used_after used len = if nat_le (used + len) 70 then used + len else len
 
@@ -36,7 +36,7 @@ text_from used (text ∷ texts) = feed used (length text) ++ (text ++ text_from 
 abbrev pub items_text : Rule → ℕ → List Item → List ℕ
 items_text rule used items = text_from used (map (item_text rule) items ++ codes "!" ∷ [])
 
--- the whole text of lines behind which these items and `!` follow
+-- the whole text of lines after which these items and `!` follow
 abbrev pub text_with : Rule → ItemLines → List Item → List ℕ
 text_with rule lines items = lines.text.items ++ items_text rule lines.used items
 
@@ -53,7 +53,7 @@ run_of c = record { x = c.x; y = c.y; len = 1; state = c.state }
 abbrev pub longer_run : Run → Run
 longer_run run = record { x = run.x; y = run.y; len = run.len + 1; state = run.state }
 
--- the column behind a run
+-- the column after a run
 abbrev pub column_after_run : Run → ℤ
 column_after_run run = run.x +ℤ pos run.len
 
@@ -65,7 +65,7 @@ continues_run run c = (int_eq c.y run.y && int_eq c.x (column_after_run run)) &&
 abbrev pub item_of : Run → Item
 item_of run = Cells run.len run.state
 
--- the whole text of a pen behind which these cells follow
+-- the whole text of a pen after which these cells follow
 abbrev pub pen_text : Rule → Pen → List Cell → List ℕ
 pen_text rule pen cells = text_with rule pen.lines (with_cells pen.run.len pen.run.state (items_from pen.left (column_after_run pen.run) pen.run.y cells))
 
@@ -77,7 +77,7 @@ pub record IsLiveRun (run : Run) : Type 0 where
   pub bottom : run.y <ℤ rle_plane_end MAX_LEVEL
   pub live : 0 < run.state
 
--- the pen's line has room, rows begin in the plane, and its run lies there
+-- the pen's line has space, rows begin in the plane, and its run lies there
 pub record IsPen (pen : Pen) : Type 0 where
   pub short : pen.lines.used ≤ 70
   pub left : neg_ℤ (rle_plane_end MAX_LEVEL) ≤ℤ pen.left
@@ -92,7 +92,7 @@ pub record IsGoodCell (rule : Rule) (c : Cell) : Type 0 where
   pub state : is_state_of rule c.state ≡ true
   pub live : 0 < c.state
 
--- the place is in the cell's row and not behind it, or in an earlier row
+-- the place is in the cell's row and not after it, or in an earlier row
 abbrev pub IsAhead : ℤ → ℤ → ℤ → Cell → Type 0
 IsAhead left x y c = ((c.y ≡ y) × (x ≤ℤ c.x)) ⊎ ((y <ℤ c.y) × (left ≤ℤ c.x))
 

@@ -25,18 +25,18 @@ abbrev pub box_of : Cell → List Cell → Bounds
 box_of c [] = box_of_cell c
 box_of c (d ∷ cells) = box_around (box_of_cell c) (box_of d cells)
 
--- dead cells in front of items, if any
+-- dead cells before items, if any
 abbrev pub with_gap : ℕ → List Item → List Item
 with_gap zero items = items
 with_gap (suc n) items = Cells (suc n) 0 ∷ items
 
--- cells in front of items, in one run with cells of the same state
+-- cells before items, in one run with cells of the same state
 abbrev pub with_cells : ℕ → ℕ → List Item → List Item
 with_cells count state [] = Cells count state ∷ []
 with_cells count state (Cells more other ∷ items) = if state == other then Cells (count + more) state ∷ items else Cells count state ∷ Cells more other ∷ items
 with_cells count state (RowEnds rows ∷ items) = Cells count state ∷ RowEnds rows ∷ items
 
--- the way from the place (x, y) to a cell ahead of it, in front of items; rows begin at the column `left`
+-- the way from the place (x, y) to a cell ahead of it, before items; rows begin at the column `left`
 abbrev pub way_to : ℤ → ℤ → ℤ → Cell → List Item → List Item
 way_to left x y c items =
     if int_eq c.y y then with_gap (nat_abs (c.x -ℤ x)) items
@@ -66,7 +66,7 @@ abbrev pub wrapped_lines : List ℕ → List (List ℕ) → List (List ℕ)
 wrapped_lines line [] = line ∷ []
 wrapped_lines line (text ∷ texts) = if nat_le (length line + length text) 70 then wrapped_lines (line ++ text) texts else line ∷ wrapped_lines text texts
 
--- the lines of the items, with `!` behind them
+-- the lines of the items, with `!` after them
 abbrev pub item_lines : Rule → List Item → List (List ℕ)
 item_lines rule items = wrapped_lines [] (map (item_text rule) items ++ codes "!" ∷ [])
 

@@ -72,7 +72,7 @@ fn most_runs(line: &[u8]) -> usize
 /// Reserves capacity for the runs of a line, so that it takes memory once at most. If there is capacity for a run at each byte, they aren't counted.
 fn reserve_runs(line: &[u8], runs: &mut Vec<Run>) -> Result<(), Kind>
     ensures runs { runs.new.items ≡ runs.old.items }
-    ensures room { OnOk result (vec_len runs.old
+    ensures space { OnOk result (vec_len runs.old
         + length (filter is_run_end (take_while (λ b. not (b == byte "!")) line.now))
         ≤ vec_capacity runs.new) }
     ensures memory { IfErr result IsMemory }

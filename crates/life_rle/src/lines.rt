@@ -73,7 +73,7 @@ fn behind_header(
 
 /// A line before the header or after the mark: where it brings the reader. Few lines of a large file are such, so it stays apart.
 #[inline(never)]
-fn beside_items(
+fn adjacent_items(
     alloc: Global,
     phase: Phase,
     cursor: Cursor,
@@ -151,7 +151,7 @@ fn after_line(
         }
     }
     let was = mem::replace(phase, Phase::Refused);
-    let (next, place) = beside_items(alloc, was, *cursor, line)?;
+    let (next, place) = adjacent_items(alloc, was, *cursor, line)?;
     *phase = next;
     *cursor = place;
     Ok(())
@@ -215,7 +215,7 @@ impl RleLines {
             (self.new ≡ record { lines = self.old.lines ++ line.now ∷ []; refused = false }) }
 
         // The lines so far are a prefix of a file, and the answers are its runs.
-        ensures front { OnOk result (Prefix (IsSomeRle MAX_LEVEL) self.new.lines) }
+        ensures prefix { OnOk result (Prefix (IsSomeRle MAX_LEVEL) self.new.lines) }
         ensures runs { IfOk result (λ runs. (before : List Run)
             → HasRuns MAX_LEVEL self.old.lines before
             → HasRuns MAX_LEVEL self.new.lines (before ++ runs.items)) }
@@ -249,7 +249,7 @@ impl RleLines {
             (self.new ≡ record { lines = self.old.lines ++ line.now ∷ []; refused = false }) }
 
         // The lines so far are a prefix of a file, and what is put after the runs is its runs.
-        ensures front { OnOk result (Prefix (IsSomeRle MAX_LEVEL) self.new.lines) }
+        ensures prefix { OnOk result (Prefix (IsSomeRle MAX_LEVEL) self.new.lines) }
         ensures runs { OnOk result
             (AddsRuns MAX_LEVEL self.old.lines self.new.lines runs.old.items runs.new.items) }
 

@@ -85,7 +85,7 @@ pub(crate) fn begins_short(line: &[u8]) -> bool {
 #[inline(always)]
 fn pass_dead(line: &[u8], here: ItemPlace) -> ItemPlace
     requires inside { here.at + 1 < length line.now }
-    requires room { RowHasSpace MAX_LEVEL line.now here.at here.cursor }
+    requires space { RowHasSpace MAX_LEVEL line.now here.at here.cursor }
     ensures { PassesDead MAX_LEVEL line.now here.at here.cursor result.at result.cursor }
 {
     let (count, last) = short_item(line, here.at);
@@ -103,11 +103,11 @@ fn pass_dead(line: &[u8], here: ItemPlace) -> ItemPlace
 fn pass_many_dead(line: &[u8], here: ItemPlace, limit: i64) -> ItemPlace
     requires line { length line.now ≤ LONGEST_LINE }
     requires inside { here.at + 2 < length line.now }
-    requires room { RowHasSpace MAX_LEVEL line.now here.at here.cursor }
+    requires space { RowHasSpace MAX_LEVEL line.now here.at here.cursor }
     requires limit { limit ≡ row_limit MAX_LEVEL here.cursor.y }
     ensures inside { (here.at ≤ result.at) × (result.at ≤ here.at + 3) }
     ensures row { result.cursor.y ≡ here.cursor.y }
-    ensures room { RowHasSpace MAX_LEVEL line.now result.at result.cursor }
+    ensures space { RowHasSpace MAX_LEVEL line.now result.at result.cursor }
     ensures read { (rule : Rule) (found : List Run) → ReadsOn MAX_LEVEL rule line.now here.at
         here.cursor found result.at result.cursor found }
 {
@@ -170,7 +170,7 @@ fn short_cells(line: &[u8], at: usize) -> Option<(u64, State, usize)>
 fn short_end(line: &[u8], at: usize, runs: &Vec<Run>, rest: usize) -> usize
     requires { at < length line.now }
     ensures line { result ≤ length line.now - rest }
-    ensures room { vec_len runs.now + (result - at) ≤ vec_capacity runs.now }
+    ensures space { vec_len runs.now + (result - at) ≤ vec_capacity runs.now }
 {
     let spare = runs.capacity() - runs.len();
     line.len()
@@ -185,7 +185,7 @@ fn short_end(line: &[u8], at: usize, runs: &Vec<Run>, rest: usize) -> usize
 fn take_two_states(line: &[u8], from: ItemPlace, limit: i64, runs: &mut Vec<Run>) -> ItemPlace
     requires line { length line.now ≤ LONGEST_LINE }
     requires inside { from.at < length line.now }
-    requires room { RowHasSpace MAX_LEVEL line.now from.at from.cursor }
+    requires space { RowHasSpace MAX_LEVEL line.now from.at from.cursor }
     requires limit { limit ≡ row_limit MAX_LEVEL from.cursor.y }
     ensures inside { (from.at ≤ result.at) × (result.at ≤ length line.now) }
     ensures near { IsNear MAX_LEVEL result.cursor }
@@ -227,7 +227,7 @@ fn take_two_states(line: &[u8], from: ItemPlace, limit: i64, runs: &mut Vec<Run>
 #[inline(always)]
 fn take_many_states(line: &[u8], from: ItemPlace, runs: &mut Vec<Run>) -> ItemPlace
     requires inside { from.at < length line.now }
-    requires room { RowHasSpace MAX_LEVEL line.now from.at from.cursor }
+    requires space { RowHasSpace MAX_LEVEL line.now from.at from.cursor }
     ensures inside { (from.at ≤ result.at) × (result.at ≤ length line.now) }
     ensures near { IsNear MAX_LEVEL result.cursor }
     ensures row { result.cursor.y ≡ from.cursor.y }

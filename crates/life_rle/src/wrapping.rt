@@ -11,24 +11,24 @@ use life_base::{Kind, Rule, State, append};
 const LINE_WIDTH: usize = 70;
 
 /// Space for a line feed, the 20 digits of a count, and the two bytes of a state.
-const ITEM_ROOM: usize = 23;
+const ITEM_SPACE: usize = 23;
 
 /// Writes a byte at the end of the space, and returns its place.
-fn write_byte(room: &mut [u8; ITEM_ROOM], byte: u8) -> usize
-    ensures written { drop result room.new ≡ byte ∷ [] }
+fn write_byte(space: &mut [u8; ITEM_SPACE], byte: u8) -> usize
+    ensures written { drop result space.new ≡ byte ∷ [] }
     ensures start { result ≡ 22 }
 {
-    room[22] = byte;
+    space[22] = byte;
     22
 }
 
 /// Writes two bytes at the end of the space, and returns where they start.
-fn write_pair(room: &mut [u8; ITEM_ROOM], prefix: u8, letter: u8) -> usize
-    ensures written { drop result room.new ≡ prefix ∷ letter ∷ [] }
+fn write_pair(space: &mut [u8; ITEM_SPACE], prefix: u8, letter: u8) -> usize
+    ensures written { drop result space.new ≡ prefix ∷ letter ∷ [] }
     ensures start { result ≡ 21 }
 {
-    room[21] = prefix;
-    room[22] = letter;
+    space[21] = prefix;
+    space[22] = letter;
     21
 }
 
@@ -70,24 +70,24 @@ fn dead_letter(rule: &Rule) -> u8
 }
 
 /// Writes the text of a state at the end of the space, and returns where it starts.
-fn write_state(room: &mut [u8; ITEM_ROOM], rule: &Rule, state: State) -> usize
-    ensures written { drop result room.new ≡ state_text rule.now state }
+fn write_state(space: &mut [u8; ITEM_SPACE], rule: &Rule, state: State) -> usize
+    ensures written { drop result space.new ≡ state_text rule.now state }
     ensures start { result + length (state_text rule.now state) ≡ 23 }
 {
     match single_state(rule, state) {
-        Some(letter) => write_byte(room, letter),
-        None => write_pair(room, b'o' + (state - 1) / 24, b'A' + (state - 1) % 24),
+        Some(letter) => write_byte(space, letter),
+        None => write_pair(space, b'o' + (state - 1) / 24, b'A' + (state - 1) % 24),
     }
 }
 
 /// Writes the text of an item without its count at the end of the space, and returns where it starts.
-fn write_tag(room: &mut [u8; ITEM_ROOM], rule: &Rule, item: Item) -> usize
-    ensures written { drop result room.new ≡ tag_text rule.now item }
+fn write_tag(space: &mut [u8; ITEM_SPACE], rule: &Rule, item: Item) -> usize
+    ensures written { drop result space.new ≡ tag_text rule.now item }
     ensures start { result + length (tag_text rule.now item) ≡ 23 }
 {
     match item {
-        Item::Cells { state, .. } => write_state(room, rule, state),
-        Item::RowEnds { .. } => write_byte(room, b'$'),
+        Item::Cells { state, .. } => write_state(space, rule, state),
+        Item::RowEnds { .. } => write_byte(space, b'$'),
     }
 }
 
@@ -102,17 +102,17 @@ fn item_count(item: Item) -> u64
 }
 
 /// Writes the text of an item at the end of the space, and returns where it starts; a count of 1 is not written.
-fn write_item(room: &mut [u8; ITEM_ROOM], rule: &Rule, item: Item) -> usize
-    ensures written { drop result room.new ≡ item_text rule.now item }
+fn write_item(space: &mut [u8; ITEM_SPACE], rule: &Rule, item: Item) -> usize
+    ensures written { drop result space.new ≡ item_text rule.now item }
     ensures start { result + length (item_text rule.now item) ≡ 23 }
     ensures feed { 1 ≤ result }
 {
-    let tag = write_tag(room, rule, item);
+    let tag = write_tag(space, rule, item);
     let count = item_count(item);
     if count == 1 {
         return tag;
     }
-    write_digits(count, room, tag)
+    write_digits(count, space, tag)
 }
 
 /// The letter of an item, where its text without the count is one byte.
@@ -145,7 +145,7 @@ impl ItemLines {
     #[inline(always)]
     fn put_short(&mut self, count: u64, letter: u8) -> Result<(), Kind>
         requires digit { count < 10 }
-        requires room { self.old.used + 2 ≤ 70 }
+        requires space { self.old.used + 2 ≤ 70 }
         ensures text { OnOk result
             (self.new.text.items ≡ self.old.text.items ++ (count_text count ++ letter ∷ [])) }
         ensures used { OnOk result
@@ -220,16 +220,16 @@ impl ItemLines {
         ensures item { OnOk result (PutsItems rule.now self.old (item ∷ []) self.new) }
         ensures memory { IfErr result IsMemory }
     {
-        let mut room = [0; ITEM_ROOM];
-        let start = write_item(&mut room, rule, item);
-        let len = ITEM_ROOM - start;
+        let mut space = [0; ITEM_SPACE];
+        let start = write_item(&mut space, rule, item);
+        let len = ITEM_SPACE - start;
         if self.used + len <= LINE_WIDTH {
-            append(&mut self.text, &room[start..])?;
+            append(&mut self.text, &space[start..])?;
             self.used += len;
             return Ok(());
         }
-        room[start - 1] = b'\n';
-        append(&mut self.text, &room[start - 1..])?;
+        space[start - 1] = b'\n';
+        append(&mut self.text, &space[start - 1..])?;
         self.used = len;
         Ok(())
     }
@@ -264,7 +264,7 @@ impl ItemLines {
     fn put_short_run(&mut self, rule: &Rule, count: u64, letter: u8, gap: u64) -> Result<(), Kind>
         requires digit { count < 10 }
         requires gap_digit { gap < 10 }
-        requires room { self.old.used + 4 ≤ 70 }
+        requires space { self.old.used + 4 ≤ 70 }
         ensures run { (state : ℕ) → state_text rule.now state ≡ letter ∷ [] → OnOk result
             (PutsItems rule.now self.old (Cells count state ∷ with_gap gap []) self.new) }
         ensures memory { IfErr result IsMemory }

@@ -146,28 +146,28 @@ module _ (words : List RowWord) (start end : ℕ) (are : AreRowWords words) (bef
           inr (same, ap (λ z. b.cells % 2 ^ (64 - z)) last ∙ word-left b.cells old (start % 64) (end - start) one none bits))
     ]
 
-    pub puts-last : (before-it front : List RowWord) → cells_at_place before-it b.place ≡ old
-        → ((n : ℕ) → ¬ (b.place ≡ n) → cells_at_place before-it n ≡ cells_at_place front n) → AreRowWords front → AreWestOf b.place front
-        → ((n : ℕ) → AreFrom n before-it → AreFrom n front) → PutsCells before-it (front ++ b ∷ []) start end
-    puts-last before-it front was same words-of west kept = record {
-      words = more-words front b words-of west (omega (arith, there, some, within));
-      before = All-push (IsWordBefore end) front b (λ k d lt. inl (let less = west k d lt in omega (arith, less, there, some))) last-before;
+    pub puts-last : (before-it prefix : List RowWord) → cells_at_place before-it b.place ≡ old
+        → ((n : ℕ) → ¬ (b.place ≡ n) → cells_at_place before-it n ≡ cells_at_place prefix n) → AreRowWords prefix → AreWestOf b.place prefix
+        → ((n : ℕ) → AreFrom n before-it → AreFrom n prefix) → PutsCells before-it (prefix ++ b ∷ []) start end
+    puts-last before-it prefix was same words-of west kept = record {
+      words = more-words prefix b words-of west (omega (arith, there, some, within));
+      before = All-push (IsWordBefore end) prefix b (λ k d lt. inl (let less = west k d lt in omega (arith, less, there, some))) last-before;
       inside = λ c le lt.
           (let at : b.place ≡ c / 64 = omega (arith, there, le, lt, one) in
-          ap (λ z. cell_in_word (cells_at_place (front ++ b ∷ []) z) (c % 64)) (sym at)
-          ∙ ap (λ z. cell_in_word z (c % 64)) (more-there front b west)
+          ap (λ z. cell_in_word (cells_at_place (prefix ++ b ∷ []) z) (c % 64)) (sym at)
+          ∙ ap (λ z. cell_in_word z (c % 64)) (more-there prefix b west)
           ∙ word-inside b.cells old (start % 64) (end - start) one none bits (c % 64) (omega (arith, le, lt, one)) (omega (arith, le, lt, one)));
       others = λ c out. elim (cases_place (c / 64)) [
         | inl at ↦
-            ap (λ z. cell_in_word (cells_at_place (front ++ b ∷ []) z) (c % 64)) (sym at)
-            ∙ ap (λ z. cell_in_word z (c % 64)) (more-there front b west)
+            ap (λ z. cell_in_word (cells_at_place (prefix ++ b ∷ []) z) (c % 64)) (sym at)
+            ∙ ap (λ z. cell_in_word z (c % 64)) (more-there prefix b west)
             ∙ word-outside b.cells old (start % 64) (end - start) one none bits (c % 64) (omega arith)
             (λ h. let low = h.0 in let high = h.1 in out (omega (arith, there, at, low), omega (arith, there, at, low, high, some)))
             ∙ ap (λ z. cell_in_word z (c % 64)) (sym was)
             ∙ ap (λ z. cell_in_word (cells_at_place before-it z) (c % 64)) at
-        | inr other ↦ ap (λ z. cell_in_word z (c % 64)) (more-elsewhere front b (c / 64) other ∙ sym (same (c / 64) other))
+        | inr other ↦ ap (λ z. cell_in_word z (c % 64)) (more-elsewhere prefix b (c / 64) other ∙ sym (same (c / 64) other))
       ];
-      places = λ n le from. All-push (λ z. n ≤ z.place) front b (kept n from) (omega (arith, le, there));
+      places = λ n le from. All-push (λ z. n ≤ z.place) prefix b (kept n from) (omega (arith, le, there));
     }
       where
         cases_place : (n : ℕ) → (b.place ≡ n) ⊎ ((b.place ≡ n) → ⊥)
@@ -203,16 +203,16 @@ module _ (words : List RowWord) (start end : ℕ) (are : AreRowWords words) (bef
         by (inr same) = same.1
 
     -- the others are west of it
-    front-west : AreWestOf a.place (take n words)
-    front-west k d lt =
+    prefix-west : AreWestOf a.place (take n words)
+    prefix-west k d lt =
         let short : k < n = omega (arith, length-take n words, lt) in
         let order = are.rise k n d short index in
         let first = ap (λ w. w.place) (get_or-take n words k d short) in
         let last = ap (λ w. w.place) (at ∙ get_or_default words n a d index) in
         omega (arith, order, first, last)
 
-    front-words : AreRowWords (take n words)
-    front-words = record {
+    prefix-words : AreRowWords (take n words)
+    prefix-words = record {
       within = All-take (λ w. w.place < 2 ^ (MAX_LEVEL - 6)) n words are.within;
       rise = λ i j d less lt.
           (let len-of = length-take n words in
@@ -226,14 +226,14 @@ module _ (words : List RowWord) (start end : ℕ) (are : AreRowWords words) (bef
     pub puts-more : (b : RowWord) → b.place ≡ a.place → ((i : ℕ) → bit_at b.cells i ≡ max (bit_at a.cells i) (bit_at bits_between i))
         → PutsCells words (set words n b) start end
     puts-more b same bits =
-        let front = take n words in
-        let old : words ≡ front ++ a ∷ [] = sym (take_all (n + 1) words (omega (arith, len))) ∙ take_more words n a index
-        ∙ ap (λ z. front ++ z ∷ []) (sym at) in
-        let new : set words n b ≡ front ++ b ∷ [] = set_split words n b index
-        ∙ ap (λ z. front ++ b ∷ z) (drop_all (suc n) words (omega (arith, len))) in
-        let west : AreWestOf b.place front = subst (λ z. AreWestOf z front) (sym same) front-west in
+        let prefix = take n words in
+        let old : words ≡ prefix ++ a ∷ [] = sym (take_all (n + 1) words (omega (arith, len))) ∙ take_more words n a index
+        ∙ ap (λ z. prefix ++ z ∷ []) (sym at) in
+        let new : set words n b ≡ prefix ++ b ∷ [] = set_split words n b index
+        ∙ ap (λ z. prefix ++ b ∷ z) (drop_all (suc n) words (omega (arith, len))) in
+        let west : AreWestOf b.place prefix = subst (λ z. AreWestOf z prefix) (sym same) prefix-west in
         subst (λ z. PutsCells words z start end) (sym new)
-        (puts-last b a.cells (same ∙ there) last-none bits words front
-        (ap (λ z. cells_at_place z b.place) old ∙ ap (cells_at_place (front ++ a ∷ [])) same ∙ more-there front a front-west)
-        (λ m ne. ap (λ z. cells_at_place z m) old ∙ more-elsewhere front a m (λ e. ne (same ∙ e)))
-        front-words west (λ m from. All-take (λ z. m ≤ z.place) n words from))
+        (puts-last b a.cells (same ∙ there) last-none bits words prefix
+        (ap (λ z. cells_at_place z b.place) old ∙ ap (cells_at_place (prefix ++ a ∷ [])) same ∙ more-there prefix a prefix-west)
+        (λ m ne. ap (λ z. cells_at_place z m) old ∙ more-elsewhere prefix a m (λ e. ne (same ∙ e)))
+        prefix-words west (λ m from. All-take (λ z. m ≤ z.place) n words from))

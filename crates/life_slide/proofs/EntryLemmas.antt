@@ -18,7 +18,7 @@ same_key a b h =
     let se : a.se ≡ b.se = grind arith in
     λ x. record { columns = columns x; rows = rows x; nw = nw x; ne = ne x; sw = sw x; se = se x }
 
--- an entry among those behind another one
+-- an entry among those after another one
 later : (es : List (Key × Id)) (e p : Key × Id) → Contains es p → Contains (e ∷ es) p
 later es e p (k, l, is) = (suc k, omega (arith, l), is)
 

@@ -10,7 +10,7 @@ use Rattle.life_slide.specs.Needed.{SomeOfBlock, SomeOfNineSquares}
 use Rattle.life_slide.specs.Pieces.{AreNinePieces, IsBlock, NineSquares, start, western_quarters, eastern_quarters}
 use Rattle.life_slide.proofs.SlideLemmas.{begins, block-eastern, block-western, part-moved}
 
--- a place that is so far behind another, and then so far
+-- a place that is so far after another, and then so far
 pub swapped : (x : ℤ) (a b : ℕ) → step_ahead (step_ahead x a) b ≡ step_ahead (step_ahead x b) a
 swapped x a b = omega (arith, ints)
 

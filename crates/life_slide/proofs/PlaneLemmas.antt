@@ -35,8 +35,8 @@ module _ (content : Id → Tree) (t : Tree) (id other : Id) (full : IsFull t) (h
   root = subst (IsPiece (tree_cell t) c c) (sym is) (piece-of_root t full high)
 
   -- beside the square, and above or below it
-  beside : (u v : ℤ) → (step_ahead u s ≡ c) → IsPiece (tree_cell t) u v (content other)
-  beside u v e =
+  adjacent : (u v : ℤ) → (step_ahead u s ≡ c) → IsPiece (tree_cell t) u v (content other)
+  adjacent u v e =
       subst (IsPiece (tree_cell t) u v) (sym none) (blank-of_zero (tree_cell t) (depth t) u v (record {
         zero_at = λ x y w e2 n s2. cell-outside t x y (λ i. absurd (let west = i.west in omega (arith, ints, e, e2, west)));
       }))
@@ -65,9 +65,9 @@ module _ (content : Id → Tree) (t : Tree) (id other : Id) (full : IsFull t) (h
   pub block-corner : (east south : Bool) → IsBlock content (tree_cell t) s (begin east t) (begin south t) (in_corner east south id other)
   block-corner false false = record { nw = root; ne = behind _ c refl; sw = below c _ refl; se = behind _ _ refl }
   block-corner true false = record {
-    nw = beside _ c around;
+    nw = adjacent _ c around;
     ne = IsPiece-moved (tree_cell t) c _ c c (content id) (sym around) refl root;
-    sw = beside _ _ around;
+    sw = adjacent _ _ around;
     se = below _ _ refl;
   }
   block-corner false true = record {
@@ -77,9 +77,9 @@ module _ (content : Id → Tree) (t : Tree) (id other : Id) (full : IsFull t) (h
     se = behind _ _ refl;
   }
   block-corner true true = record {
-    nw = beside _ _ around;
+    nw = adjacent _ _ around;
     ne = above _ _ around;
-    sw = beside _ _ around;
+    sw = adjacent _ _ around;
     se = IsPiece-moved (tree_cell t) c _ c _ (content id) (sym around) (sym around) root;
   }
 

@@ -10,8 +10,8 @@ use Rattle.life_slide.specs.declared.margins.Margins.{Margins}
 use Rattle.life_slide.specs.declared.margins.MarginTable.{MarginTable}
 use Rattle.life_slide.specs.Margins.{AreMargins, AreMarginsOf}
 
-pub get-front : {X : Type 0} (xs : List X) (x : X) (i : ℕ) → i < length xs → slice_get (xs ++ x ∷ []) i ≡ slice_get xs i
-get-front xs x i h =
+pub get-prefix : {X : Type 0} (xs : List X) (x : X) (i : ℕ) → i < length xs → slice_get (xs ++ x ∷ []) i ≡ slice_get xs i
+get-prefix xs x i h =
     slice_get-get_or (xs ++ x ∷ []) i x (omega (arith, length-append xs (x ∷ [])))
     ∙ ap Some (get_or_append_left xs (x ∷ []) x i h)
     ∙ sym (slice_get-get_or xs i x h)
@@ -43,7 +43,7 @@ module _ (content : Id → Tree) (old new : MarginTable) (h : AreMargins content
             let m-old : slice_get old.margins.items i ≡ Some m = sym (ap (λ ms. slice_get ms i) f) ∙ b in
             let within : i < length old.margins.items = slice_get_within _ i m m-old in
             let few = h.few in
-            h.right i q m (sym (get-front old.numbers.ids id i (omega (arith, within, few))) ∙ sym (ap (λ ids. slice_get ids i) e) ∙ a) m-old;
+            h.right i q m (sym (get-prefix old.numbers.ids id i (omega (arith, within, few))) ∙ sym (ap (λ ids. slice_get ids i) e) ∙ a) m-old;
       }
 
   -- an Id and its margins
@@ -66,7 +66,7 @@ module _ (content : Id → Tree) (old new : MarginTable) (h : AreMargins content
       each : (i : ℕ) (q : Id) (n : Margins) → slice_get (old.numbers.ids ++ id ∷ []) i ≡ Some q → slice_get (old.margins.items ++ m ∷ []) i ≡ Some n
           → (i < length old.margins.items) ⊎ (length old.margins.items ≤ i) → AreMarginsOf (content q) n
       each i q n a b (inl l) =
-          h.right i q n (sym (get-front old.numbers.ids id i (omega (arith, l, count))) ∙ a) (sym (get-front old.margins.items m i l) ∙ b)
+          h.right i q n (sym (get-prefix old.numbers.ids id i (omega (arith, l, count))) ∙ a) (sym (get-prefix old.margins.items m i l) ∙ b)
       each i q n a b (inr l) =
           let within : i < length (old.margins.items ++ m ∷ []) = slice_get_within _ i n b in
           let last : i ≡ length old.margins.items = let s = length-append old.margins.items (m ∷ []) in omega (arith, l, within, s) in

@@ -30,7 +30,7 @@ pub record AreMargins (content : Id → Tree) (table : MarginTable) : Type 0 whe
   pub few : length table.margins.items ≤ length table.numbers.ids
   pub right : (i : ℕ) (q : Id) (m : Margins) → slice_get table.numbers.ids i ≡ Some q → slice_get table.margins.items i ≡ Some m → AreMarginsOf (content q) m
 
--- The margin of four squares two by two is so wide at most: two of a side length lie along that side and have these margins, and the other two, behind
+-- The margin of four squares two by two is so wide at most: two of a side length lie along that side and have these margins, and the other two, after
 -- them, have those.
 pub record IsAlong (side near other far behind width : ℕ) : Type 0 where
   pub first : min width side ≤ near
@@ -56,7 +56,7 @@ pub record IsSeenOrOther (east south : Bool) (columns rows side : ℕ) (m : Marg
   pub is : result ≡ if keeps then id else other
   pub missed : keeps ≡ false → Misses east columns side m.west m.east ⊎ Misses south rows side m.north m.south
 
--- four squares of level k are pieces of a plane on which the square of that level that begins so many columns and rows behind the first is the same
+-- four squares of level k are pieces of a plane on which the square of that level that begins so many columns and rows after the first is the same
 pub record IsSeenAs (content : Id → Tree) (cells : ℤ → ℤ → ℕ) (columns rows k : ℕ) (x y : ℤ) (block : Quarters) : Type 0 where
   pub other : ℤ → ℤ → ℕ
   pub are : IsBlock content other (2 ^ k) x y block

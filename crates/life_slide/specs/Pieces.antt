@@ -90,7 +90,7 @@ module _ (content : Id → Tree) (cells : ℤ → ℤ → ℕ) (side : ℕ) (x :
     pub sw : IsPiece cells x (step_ahead y side) (content block.sw)
     pub se : IsPiece cells (step_ahead x side) (step_ahead y side) (content block.se)
 
--- four squares of level k are pieces of the plane, and the square of that level which begins so many columns and rows behind them, as far as their side
+-- four squares of level k are pieces of the plane, and the square of that level which begins so many columns and rows after them, as far as their side
 -- length leaves of these numbers, begins at this place
 pub record HasBlockAt (content : Id → Tree) (cells : ℤ → ℤ → ℕ) (columns rows k : ℕ) (x y : ℤ) (block : Quarters) : Type 0 where
   pub west : ℤ
@@ -111,7 +111,7 @@ pub record IsNearMiddle (k : ℕ) (place : ℤ) : Type 0 where
   pub low : neg_ℤ (pos (2 ^ (k - 1) + 2 ^ (k - 1) + 2 ^ (k - 1))) ≤ℤ place
   pub high : place <ℤ pos (2 ^ (k - 1))
 
--- the cells of a square, told from another origin
+-- the cells of a square, seen from another origin
 abbrev pub cells_from : Tree → ℤ → ℤ → ℤ → ℤ → ℕ
 cells_from t columns rows x y = tree_cell t (x +ℤ columns) (y +ℤ rows)
 

@@ -20,7 +20,7 @@ use Rattle.life_canon.specs.Universe.{Universe, least_level, whole}
 use Rattle.life_canon.specs.declared.pattern.Pattern.{Pattern}
 use Rattle.life_step.specs.Refusals.{SomeByRule, SomeByTable, of_root, of_next_root}
 
--- what follows from want of room in a call follows from it in a call that hands the fault on
+-- what follows from a full store in a call follows from it in a call that hands the fault on
 pub handed-on : {T U P : Type 0} {f : Fault} (r : Result U Fault) → IsErrAnd r (λ g. g ≡ f) → (◌≡◌ {A = Result T Fault} (Err f) (Err (fault_of Full)) → P)
     → r ≡ Err (fault_of Full) → P
 handed-on (Ok x) bad needed full = absurd bad

@@ -76,7 +76,7 @@ RuleRefusal top (Life rule) u refusal =
 abbrev pub LifeRefusal : ℕ → Universe → Option Fault → Type 0
 LifeRefusal top u refusal = RuleRefusal top u.rule u refusal
 
--- why the step of a pattern in a store is refused, in the words in which the refusal of what it says is told
+-- why the step of a pattern in a store is refused, in the words in which the refusal of what it says is reported
 abbrev pub RefusesPattern : (Universe → Option Fault → Type 0) → Pattern → (old new : Nodes) → Fault → Type 0
 RefusesPattern Refusal pattern old new fault =
     IsShortageOf new fault ⊎ ForEachFile old pattern (λ bytes. (u : Universe) × Reads MAX_LEVEL bytes u × Refusal u (Some fault))

@@ -198,7 +198,7 @@ module _ (blocks : List Block) (done : ℕ) (p : BlockPlace) (h : IsAtBlock bloc
         fewer some false e = let is = other (grind arith) in omega (arith, is, lt)
 
     module _ (end : p.end ≤ number) (small : number < NEVER) where
-      -- its block is behind, and was one of the row
+      -- its block is after, and was one of the row
       pub at-left : p.index < length blocks
       at-left = by (nat_lt p.start NEVER) refl
         where

@@ -32,14 +32,14 @@ pub block-after : (b : Block) (rest : List Block) (n : ℕ) → b.end ≤ n → 
 block-after b rest n after = grind arith
 
 -- blocks that have ended have ended later too
-ends-later : (front : List Block) (n later : ℕ) → All (λ b. b.end ≤ n) front → n ≤ later → All (λ b. b.end ≤ later) front
-ends-later front n later over order k d lt = let end = over k d lt in omega (arith, end, order)
+ends-later : (prefix : List Block) (n later : ℕ) → All (λ b. b.end ≤ n) prefix → n ≤ later → All (λ b. b.end ≤ later) prefix
+ends-later prefix n later over order k d lt = let end = over k d lt in omega (arith, end, order)
 
 -- blocks that have ended are passed
-pub blocks-passed : (front rest : List Block) (n : ℕ) → All (λ b. b.end ≤ n) front → cells_at_block (front ++ rest) n ≡ cells_at_block rest n
+pub blocks-passed : (prefix rest : List Block) (n : ℕ) → All (λ b. b.end ≤ n) prefix → cells_at_block (prefix ++ rest) n ≡ cells_at_block rest n
 blocks-passed [] rest n over = refl
-blocks-passed (b ∷ front) rest n over =
-    block-after b (front ++ rest) n (over 0 b (omega arith)) ∙ blocks-passed front rest n (All-tail (λ z. z.end ≤ n) b front over)
+blocks-passed (b ∷ prefix) rest n over =
+    block-after b (prefix ++ rest) n (over 0 b (omega arith)) ∙ blocks-passed prefix rest n (All-tail (λ z. z.end ≤ n) b prefix over)
 
 -- after the last block is no cell
 pub blocks-over : (blocks : List Block) (n : ℕ) → All (λ b. b.end ≤ n) blocks → cells_at_block blocks n ≡ 0
@@ -53,23 +53,23 @@ blocks-from blocks index n over =
     ap (λ z. cells_at_block z n) (sym (take-append-drop index blocks)) ∙ blocks-passed (take index blocks) (drop index blocks) n over
 
 -- a block that begins later changes nothing
-blocks-earlier : (front : List Block) (b : Block) (n : ℕ) → n < b.start → n < b.end → cells_at_block (front ++ b ∷ []) n ≡ cells_at_block front n
+blocks-earlier : (prefix : List Block) (b : Block) (n : ℕ) → n < b.start → n < b.end → cells_at_block (prefix ++ b ∷ []) n ≡ cells_at_block prefix n
 blocks-earlier [] b n from before = block-before b [] n from before
-blocks-earlier (a ∷ front) b n from before =
-    ap (λ z. if nat_lt n a.end then (if nat_le a.start n then a.cells else 0) else z) (blocks-earlier front b n from before)
+blocks-earlier (a ∷ prefix) b n from before =
+    ap (λ z. if nat_lt n a.end then (if nat_le a.start n then a.cells else 0) else z) (blocks-earlier prefix b n from before)
 
 -- a block east of others
-module _ (front : List Block) (b : Block) (others : All (λ a. a.end ≤ b.start) front) (some : b.start < b.end) where
-  last-in : (n : ℕ) → b.start ≤ n → n < b.end → cells_at_block (front ++ b ∷ []) n ≡ b.cells
+module _ (prefix : List Block) (b : Block) (others : All (λ a. a.end ≤ b.start) prefix) (some : b.start < b.end) where
+  last-in : (n : ℕ) → b.start ≤ n → n < b.end → cells_at_block (prefix ++ b ∷ []) n ≡ b.cells
   last-in n from before =
-      blocks-passed front (b ∷ []) n (ends-later front b.start n others from) ∙ block-in b [] n from before
+      blocks-passed prefix (b ∷ []) n (ends-later prefix b.start n others from) ∙ block-in b [] n from before
 
-  last-before : (n : ℕ) → n < b.start → cells_at_block (front ++ b ∷ []) n ≡ cells_at_block front n
-  last-before n before = blocks-earlier front b n before (omega (arith, before, some))
+  last-before : (n : ℕ) → n < b.start → cells_at_block (prefix ++ b ∷ []) n ≡ cells_at_block prefix n
+  last-before n before = blocks-earlier prefix b n before (omega (arith, before, some))
 
-  last-after : (n : ℕ) → b.end ≤ n → cells_at_block (front ++ b ∷ []) n ≡ 0
+  last-after : (n : ℕ) → b.end ≤ n → cells_at_block (prefix ++ b ∷ []) n ≡ 0
   last-after n after =
-      blocks-passed front (b ∷ []) n (ends-later front b.start n others (omega (arith, some, after))) ∙ block-after b [] n after
+      blocks-passed prefix (b ∷ []) n (ends-later prefix b.start n others (omega (arith, some, after))) ∙ block-after b [] n after
 
 -- ---- blocks by their indexes
 
@@ -293,28 +293,28 @@ adds-none blocks column are before = record {
 }
 
 -- The cells of the last block, which has the columns. All other blocks are those that were there.
-record IsLast (old front : List Block) (b : Block) (word : ℕ) : Type 0 where
-  before : (n : ℕ) → n < b.start → cells_at_block old n ≡ cells_at_block front n
+record IsLast (old prefix : List Block) (b : Block) (word : ℕ) : Type 0 where
+  before : (n : ℕ) → n < b.start → cells_at_block old n ≡ cells_at_block prefix n
   there : (n : ℕ) → b.start ≤ n → n < b.end → cells_at_block old n ≡ word
   after : (n : ℕ) → b.end ≤ n → cells_at_block old n ≡ 0
 
-module _ (old front : List Block) (b : Block) (word start end : ℕ) (last : IsLast old front b word) (block : IsRowBlock b)
-    (each : All IsRowBlock front) (rise : AllPairs (λ x y. x.end ≤ y.start) front) (others : All (λ a. a.end ≤ b.start) front)
+module _ (old prefix : List Block) (b : Block) (word start end : ℕ) (last : IsLast old prefix b word) (block : IsRowBlock b)
+    (each : All IsRowBlock prefix) (rise : AllPairs (λ x y. x.end ≤ y.start) prefix) (others : All (λ a. a.end ≤ b.start) prefix)
     (left : IsBlockBefore end b) (from : 64 * b.start ≤ start) (order : start ≤ end) (within : end ≤ 64 * b.end)
     (inside : (c : ℕ) → start ≤ c → c < end → cell_in_word b.cells (c % 64) ≡ 1)
     (same : (c : ℕ) → c / 64 < b.end → ¬ ((start ≤ c) × (c < end)) → b.start ≤ c / 64 → cell_in_word b.cells (c % 64) ≡ cell_in_word word (c % 64)) where
-  adds-last : AddsCells old (front ++ b ∷ []) start end
+  adds-last : AddsCells old (prefix ++ b ∷ []) start end
   adds-last = record {
-    blocks = record { each = All-push IsRowBlock front b each block; rise = all_pairs_push (λ x y. x.end ≤ y.start) front b rise others };
-    before = All-push (IsBlockBefore end) front b (λ k d lt. inl (let end = others k d lt in omega (arith, end, from, order))) left;
+    blocks = record { each = All-push IsRowBlock prefix b each block; rise = all_pairs_push (λ x y. x.end ≤ y.start) prefix b rise others };
+    before = All-push (IsBlockBefore end) prefix b (λ k d lt. inl (let end = others k d lt in omega (arith, end, from, order))) left;
     inside = λ c le lt.
-        ap (λ z. cell_in_word z (c % 64)) (last-in front b others block.some (c / 64) (omega (arith, from, le)) (omega (arith, within, lt))) ∙ inside c le lt;
+        ap (λ z. cell_in_word z (c % 64)) (last-in prefix b others block.some (c / 64) (omega (arith, from, le)) (omega (arith, within, lt))) ∙ inside c le lt;
     others = λ c out. elim (cases_lt (c / 64) b.start) [
-      | inl west ↦ ap (λ z. cell_in_word z (c % 64)) (last-before front b others block.some (c / 64) west ∙ sym (last.before (c / 64) west))
+      | inl west ↦ ap (λ z. cell_in_word z (c % 64)) (last-before prefix b others block.some (c / 64) west ∙ sym (last.before (c / 64) west))
       | inr le ↦ elim (cases_lt (c / 64) b.end) [
-        | inl lt ↦ ap (λ z. cell_in_word z (c % 64)) (last-in front b others block.some (c / 64) le lt) ∙ same c lt out le
+        | inl lt ↦ ap (λ z. cell_in_word z (c % 64)) (last-in prefix b others block.some (c / 64) le lt) ∙ same c lt out le
             ∙ ap (λ z. cell_in_word z (c % 64)) (sym (last.there (c / 64) le lt))
-        | inr east ↦ ap (λ z. cell_in_word z (c % 64)) (last-after front b others block.some (c / 64) east ∙ sym (last.after (c / 64) east))
+        | inr east ↦ ap (λ z. cell_in_word z (c % 64)) (last-after prefix b others block.some (c / 64) east ∙ sym (last.after (c / 64) east))
       ]
     ];
   }
@@ -358,10 +358,10 @@ module _ (blocks : List Block) (start end : ℕ) (are : AreRowBlocks blocks) (be
       | inr over ↦ inl over
     ]
 
-    one-adds : (old front : List Block) → IsLast old front b word → All IsRowBlock front → AllPairs (λ x y. x.end ≤ y.start) front
-        → All (λ a. a.end ≤ b.start) front → AddsCells old (front ++ b ∷ []) start end
-    one-adds old front last each rise others =
-        adds-last old front b word start end last
+    one-adds : (old prefix : List Block) → IsLast old prefix b word → All IsRowBlock prefix → AllPairs (λ x y. x.end ≤ y.start) prefix
+        → All (λ a. a.end ≤ b.start) prefix → AddsCells old (prefix ++ b ∷ []) start end
+    one-adds old prefix last each rise others =
+        adds-last old prefix b word start end last
         (record { some = omega (arith, from, to); within = omega (arith, some, within, to); long = λ long. absurd (omega (arith, long, from, to)) })
         each rise others one-before (omega (arith, from)) (omega (arith, some)) (omega (arith, to, one, some))
         (λ c le lt. ap (λ z. cell_in_word z (c % 64)) cells
@@ -402,18 +402,18 @@ module _ (blocks : List Block) (start end : ℕ) (are : AreRowBlocks blocks) (be
     pub adds-more : (b : Block) → b.start ≡ a.start → b.end ≡ a.end → b.cells ≡ a.cells + bits_between start end
         → AddsCells blocks (set blocks n b) start end
     adds-more b from to cells =
-        let front = take n blocks in
-        let old : blocks ≡ front ++ a ∷ [] = sym (take_all (n + 1) blocks (omega (arith, len))) ∙ take_more blocks n a index
-        ∙ ap (λ z. front ++ z ∷ []) (sym at) in
-        let new : set blocks n b ≡ front ++ b ∷ [] = set_split blocks n b index
-        ∙ ap (λ z. front ++ b ∷ z) (drop_all (suc n) blocks (omega (arith, len))) in
-        let apart : All (λ z. z.end ≤ a.start) front = subst (λ y. All (λ z. z.end ≤ y.start) front) (sym at) (blocks-apart blocks are n a index) in
-        let others = ends-later front a.start b.start apart (omega (arith, from)) in
-        subst (λ z. AddsCells blocks z start end) (sym new) (subst (λ z. AddsCells z (front ++ b ∷ []) start end) (sym old)
-        (one-adds b (from ∙ begins) (to ∙ last-one.0) a.cells last-one.1 cells (front ++ a ∷ []) front (record {
-          before = λ m lt. last-before front a apart is.some m (omega (arith, lt, from));
-          there = λ m le lt. last-in front a apart is.some m (omega (arith, le, from)) (omega (arith, lt, to));
-          after = λ m le. last-after front a apart is.some m (omega (arith, le, to));
+        let prefix = take n blocks in
+        let old : blocks ≡ prefix ++ a ∷ [] = sym (take_all (n + 1) blocks (omega (arith, len))) ∙ take_more blocks n a index
+        ∙ ap (λ z. prefix ++ z ∷ []) (sym at) in
+        let new : set blocks n b ≡ prefix ++ b ∷ [] = set_split blocks n b index
+        ∙ ap (λ z. prefix ++ b ∷ z) (drop_all (suc n) blocks (omega (arith, len))) in
+        let apart : All (λ z. z.end ≤ a.start) prefix = subst (λ y. All (λ z. z.end ≤ y.start) prefix) (sym at) (blocks-apart blocks are n a index) in
+        let others = ends-later prefix a.start b.start apart (omega (arith, from)) in
+        subst (λ z. AddsCells blocks z start end) (sym new) (subst (λ z. AddsCells z (prefix ++ b ∷ []) start end) (sym old)
+        (one-adds b (from ∙ begins) (to ∙ last-one.0) a.cells last-one.1 cells (prefix ++ a ∷ []) prefix (record {
+          before = λ m lt. last-before prefix a apart is.some m (omega (arith, lt, from));
+          there = λ m le lt. last-in prefix a apart is.some m (omega (arith, le, from)) (omega (arith, lt, to));
+          after = λ m le. last-after prefix a apart is.some m (omega (arith, le, to));
         }) (All-take IsRowBlock n blocks are.each) (pairs-take (λ x y. x.end ≤ y.start) blocks n are.rise) others))
 
     -- and the sum is a word

@@ -26,7 +26,7 @@ pub filling-push : (knows : Id → Type 0) (content : Id → Tree) (new : Plane)
     → ((x y : ℤ) → before x y ≡ state_by runs x y) → IsFilled knows content new → AddsRun before (cell_so_far content new) run
     → ((x y : ℤ) → run.y <ℤ y → IsFree new x y) → ((x : ℤ) → (run.x +ℤ pos run.len) ≤ℤ x → IsFree new x run.y)
     → IsFilling knows content (record { runs = runs ++ run ∷ []; kept = new })
-filling-push knows content new before runs run order next cells filled adds below beside =
+filling-push knows content new before runs run order next cells filled adds below adjacent =
     record {
       filled = filled;
       cells = λ x y. state_by-push runs run x y (before x y) (cell_so_far content new x y) order next (cells x y) (adds.inside x y) (adds.others x y);
@@ -36,7 +36,7 @@ filling-push knows content new before runs run order next cells filled adds belo
   where
     free : (x y : ℤ) → IsAfterRun run x y → IsFree new x y
     free x y (inl h) = below x y h
-    free x y (inr (e, h)) = subst (IsFree new x) e (beside x h)
+    free x y (inr (e, h)) = subst (IsFree new x) e (adjacent x h)
 
 -- a square of the plane is one of the runs'
 needed-runs : {P : Tree → Type 0} (content : Id → Tree) (b : Building) (rows : ℕ) → rows ≤ 2 ^ MAX_LEVEL

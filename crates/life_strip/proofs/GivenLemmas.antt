@@ -27,19 +27,19 @@ covers-run run x y e = by (int_eq y run.y) refl (int_le run.x x) refl (int_lt x 
     by true p false q c r = absurd (let f : false ≡ true = sym (λ i. p i && (q i && int_lt x (run.x +ℤ pos run.len))) ∙ e in cc)
     by false p b q c r = absurd (let f : false ≡ true = sym (λ i. p i && (int_le run.x x && int_lt x (run.x +ℤ pos run.len))) ∙ e in cc)
 
--- a run and one behind it have no pair in common
+-- a run and one after it have no pair in common
 pub behind-apart : (a b : Run) (x y : ℤ) → IsAfterRun a b.x b.y → IsInRun a.x a.y a.len x y → IsInRun b.x b.y b.len x y → ⊥
 behind-apart a b x y (inl h) p q = let e = p.same_row in let f = q.same_row in omega (arith, ints, h, e, f)
 behind-apart a b x y (inr (e, h)) p q = let f = p.to in let g = q.from in omega (arith, ints, h, f, g)
 
--- behind a run that is behind another one
+-- after a run that is after another one
 behind-later : (a b : Run) (x y : ℤ) → IsAfterRun a b.x b.y → IsAfterRun b x y → IsAfterRun a x y
 behind-later a b x y (inl h) (inl k) = inl (omega (arith, ints, h, k))
 behind-later a b x y (inl h) (inr (e, k)) = inl (omega (arith, ints, h, e))
 behind-later a b x y (inr (e, h)) (inl k) = inl (omega (arith, ints, e, k))
 behind-later a b x y (inr (e, h)) (inr (f, k)) = inr (e ∙ f, omega (arith, ints, h, k))
 
--- behind the last run is behind all
+-- after the last run is after all
 pub behind-all : (runs : List Run) (x y : ℤ) → AreInOrder runs → IsNextRunStart runs x y → (k : ℕ) (d : Run) → k < length runs
     → IsAfterRun (get_or runs k d) x y
 behind-all runs x y order next k d lt = by (nat_lt k (length runs - 1)) refl

@@ -18,21 +18,21 @@ use Rattle.life_base.proofs.Basics.{twice}
 -- strips of which the last was made one with a strip below it, of the same level
 module _ (xs first : List Strip) (last strip : Strip) (items : xs ≡ first ++ last ∷ []) (same : last.level ≡ strip.level) where
   pub not-greatest : height xs + 2 ^ strip.level ≤ 2 ^ MAX_LEVEL → last.level < MAX_LEVEL
-  not-greatest room =
+  not-greatest space =
       let h : height xs ≡ height first + 2 ^ last.level = ap height items ∙ height-push first last in
       let w : 2 ^ last.level ≡ 2 ^ strip.level = ap (λ n. 2 ^ n) same in
-      fits_below (height first) last.level (omega (arith, h, w, room))
+      fits_below (height first) last.level (omega (arith, h, w, space))
 
   -- a square that the call to make them one needs is one of theirs
   pub merged-needs : (knows : Id → Type 0) (content : Id → Tree) → ((id : Id) → knows id → IsFull (content id)) → AreStacked knows content xs
       → IsSoundStrip knows content strip → height xs + 2 ^ strip.level ≤ 2 ^ MAX_LEVEL → (P : Tree → Type 0)
       → SomeColumn P (last.level + 1) (quad_at content last.level last.spans.items strip.spans.items)
       → SomeSquare P (height xs + 2 ^ strip.level) (picture content (xs ++ strip ∷ []))
-  merged-needs knows content full stacked sound room P n =
+  merged-needs knows content full stacked sound space P n =
       let upper = all_last (IsSoundStrip knows content) first last (subst (All (IsSoundStrip knows content)) items stacked.sound) in
       let lower : IsStrip knows content last.level strip.spans.items = subst (λ n. IsStrip knows content n strip.spans.items) (sym same) sound.squares in
       subst (λ z. SomeSquare P (height z + 2 ^ strip.level) (picture content (z ++ strip ∷ []))) (sym items)
-      (SomeSquare-pair knows content last strip upper.squares (sym same) n.0 P first full lower (subst AreFalling items stacked.falling) (not-greatest room)
+      (SomeSquare-pair knows content last strip upper.squares (sym same) n.0 P first full lower (subst AreFalling items stacked.falling) (not-greatest space)
       n.1 n.2)
 
   module _ (both : Strip) (level : both.level ≡ suc last.level) where

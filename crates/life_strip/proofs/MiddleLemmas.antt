@@ -15,7 +15,7 @@ use Rattle.life_quad.proofs.LawLemmas.{blank_by_cells}
 use Rattle.life_strip.specs.declared.spans.Span.{Span}
 use Rattle.life_strip.specs.declared.spans.Strip.{Strip}
 use Rattle.life_strip.specs.Given.{half_plane}
-use Rattle.life_strip.specs.Middle.{AreBeside, IsAboutMiddle, IsBlankTo, SomeWider}
+use Rattle.life_strip.specs.Middle.{AreAdjacent, IsAboutMiddle, IsBlankTo, SomeWider}
 use Rattle.life_strip.specs.Needed.{SomeColumn}
 use Rattle.life_strip.specs.Picture.{AreFalling, height, picture, state_in_strip, IsSoundStrip}
 use Rattle.life_strip.specs.Strip.{id_at, id_or, quad_at, square_at, square_or_blank, IsPast, IsStrip, HaveColumns, Rise}
@@ -146,8 +146,8 @@ module _ (content : Id → Tree) (s : Strip) (middle : ℕ) (half : middle * 2 ^
       by false = refl
 
   -- where all other squares are blank every cell is beside the middle
-  pub beside-when : ((c : ℕ) → Outside c → square_at content s.level s.spans.items c ≡ blank s.level) → AreBeside s.level (picture content (s ∷ []))
-  beside-when out x j lx live = (west, east)
+  pub adjacent-when : ((c : ℕ) → Outside c → square_at content s.level s.spans.items c ≡ blank s.level) → AreAdjacent s.level (picture content (s ∷ []))
+  adjacent-when out x j lx live = (west, east)
     where
       c : ℕ
       c = x / side
@@ -173,9 +173,9 @@ module _ (content : Id → Tree) (s : Strip) (middle : ℕ) (half : middle * 2 ^
 
   -- and where a square elsewhere isn't blank, some cell is not
   module _ (knows : Id → Type 0) (full : (id : Id) → knows id → IsFull (content id)) (sound : IsSoundStrip knows content s) (low : s.level ≤ MAX_LEVEL) where
-    pub wider-when : (c : ℕ) (id : Id) → Outside c → id_at s.spans.items c ≡ Some id → AreBeside s.level (picture content (s ∷ []))
+    pub wider-when : (c : ℕ) (id : Id) → Outside c → id_at s.spans.items c ≡ Some id → AreAdjacent s.level (picture content (s ∷ []))
         → content id ≡ blank s.level
-    wider-when c id out at beside =
+    wider-when c id out at adjacent =
         blank_is (content id) (full id known.0) ((blank_by_cells (content id) (full id known.0)).1 cells) ∙ ap blank known.1
       where
         known : knows id × (depth (content id) ≡ s.level)
@@ -213,33 +213,34 @@ module _ (content : Id → Tree) (s : Strip) (middle : ℕ) (half : middle * 2 ^
                 let plane = in_plane s.level c low within in
                 let one = add-mul c 1 side in
                 let l = small in
-                let b = beside x j (omega (arith, plane, one, l)) (λ e. live (sym there ∙ e)) in
+                let b = adjacent x j (omega (arith, plane, one, l)) (λ e. live (sym there ∙ e)) in
                 out (inside-columns c i small b.0 b.1)
 
 -- ---- a strip that blank rows make higher
 
 -- the same of a picture with the same cells
-pub beside-same : (level : ℕ) (f g : ℕ → ℕ → ℕ) → ((i j : ℕ) → f i j ≡ g i j) → AreBeside level f → AreBeside level g
-beside-same level f g same h i j li live = h i j li (λ e. live (sym (same i j) ∙ e))
+pub adjacent-same : (level : ℕ) (f g : ℕ → ℕ → ℕ) → ((i j : ℕ) → f i j ≡ g i j) → AreAdjacent level f → AreAdjacent level g
+adjacent-same level f g same h i j li live = h i j li (λ e. live (sym (same i j) ∙ e))
 
 -- and of a higher level
-pub beside-more : (low high : ℕ) (f : ℕ → ℕ → ℕ) → low ≤ high → AreBeside low f → AreBeside high f
-beside-more low high f le h i j li live =
+pub adjacent-more : (low high : ℕ) (f : ℕ → ℕ → ℕ) → low ≤ high → AreAdjacent low f → AreAdjacent high f
+adjacent-more low high f le h i j li live =
     let b = h i j li live in
     let p = pow_mono {i = low} {j = high} le in
     (omega (arith, b.0, p), omega (arith, b.1, p))
 
 -- where one level isn't enough, no level up to it is
-pub wider-still : (f g : ℕ → ℕ → ℕ) → ((i j : ℕ) → f i j ≡ g i j) → (from level : ℕ) → ((m : ℕ) → from ≤ m → m < level → ¬ AreBeside m g) → ¬ AreBeside level f
-    → (m : ℕ) → from ≤ m → m < suc level → ¬ AreBeside m g
+pub wider-still : (f g : ℕ → ℕ → ℕ) → ((i j : ℕ) → f i j ≡ g i j) → (from level : ℕ) → ((m : ℕ) → from ≤ m → m < level → ¬ AreAdjacent m g)
+    → ¬ AreAdjacent level f
+    → (m : ℕ) → from ≤ m → m < suc level → ¬ AreAdjacent m g
 wider-still f g same from level needed wider m low lt h =
-    wider (beside-same level g f (λ i j. sym (same i j)) (beside-more m level g (omega (arith, lt)) h))
+    wider (adjacent-same level g f (λ i j. sym (same i j)) (adjacent-more m level g (omega (arith, lt)) h))
 
 -- a square that the strip and a blank one need is one of the higher strip
 pub wider-needs : (knows : Id → Type 0) (content : Id → Tree) → ((id : Id) → knows id → IsFull (content id)) → (last below : Strip)
     → below.level ≡ last.level → below.spans.items ≡ [] → IsSoundStrip knows content last → (from : ℕ) (g : ℕ → ℕ → ℕ)
     → ((i j : ℕ) → picture content (last ∷ []) i j ≡ g i j) → from ≤ last.level → last.level + 1 < MAX_LEVEL
-    → ((m : ℕ) → from ≤ m → m < suc last.level → ¬ AreBeside m g) → (P : Tree → Type 0)
+    → ((m : ℕ) → from ≤ m → m < suc last.level → ¬ AreAdjacent m g) → (P : Tree → Type 0)
     → SomeColumn P (last.level + 1) (quad_at content last.level last.spans.items below.spans.items) → SomeWider P from g
 wider-needs knows content full last below level none sound from g same low high needed P n = record {
   top = suc last.level;
@@ -368,7 +369,7 @@ no-strips (x ∷ xs) e tall = cc
 -- the first of strips with the rows of the northern half and less than the plane has its level
 pub half-first : (xs : List Strip) (x : Strip) (rest : List Strip) → xs ≡ x ∷ rest → AreFalling xs → height xs < 2 ^ MAX_LEVEL
     → 2 ^ (MAX_LEVEL - 1) ≤ height xs → x.level ≡ MAX_LEVEL - 1
-half-first xs x rest e fall room tall = by (cases_lt x.level (MAX_LEVEL - 1)) (cases_lt (MAX_LEVEL - 1) x.level)
+half-first xs x rest e fall space tall = by (cases_lt x.level (MAX_LEVEL - 1)) (cases_lt (MAX_LEVEL - 1) x.level)
   where
     falling : AreFalling (x ∷ rest)
     falling = subst AreFalling e fall
@@ -390,7 +391,7 @@ half-first xs x rest e fall room tall = by (cases_lt x.level (MAX_LEVEL - 1)) (c
     by (inr le) (inl gt) =
         let p = pow_mono {i = MAX_LEVEL} {j = x.level} (omega (arith, gt)) in
         let m = most in
-        absurd (omega (arith, p, m, room))
+        absurd (omega (arith, p, m, space))
     by (inr le) (inr ge) = omega (arith, le, ge)
 
 -- a square of a strip without cells is blank

@@ -9,12 +9,12 @@ use Rattle.life_quad.specs.declared.id.Id.{Id}
 use Rattle.life_strip.specs.declared.pile.Pile.{Pile}
 use Rattle.life_strip.specs.declared.spans.Strip.{Strip}
 use Rattle.life_strip.specs.Given.{half_plane}
-use Rattle.life_strip.specs.Middle.{AreBeside, IsAboutMiddle, IsBlankTo, IsLeastBeside, IsMiddleSquare, SomeOfMiddle, SomeWider}
+use Rattle.life_strip.specs.Middle.{AreAdjacent, IsAboutMiddle, IsBlankTo, IsLeastAdjacent, IsMiddleSquare, SomeOfMiddle, SomeWider}
 use Rattle.life_strip.specs.Needed.{SomeSquare}
 use Rattle.life_strip.specs.Picture.{height, picture, AreFalling, IsLowest, IsSoundStrip}
 use Rattle.life_strip.specs.Pile.{IsPile, pile_height, pile_state}
 use Rattle.life_strip.specs.Row.{rows_state, state_with_rows}
-use Rattle.life_strip.proofs.MiddleLemmas.{beside-same}
+use Rattle.life_strip.proofs.MiddleLemmas.{adjacent-same}
 use Rattle.life_strip.proofs.NeededLemmas.{height-divided, SomeSquare-same}
 use Rattle.life_strip.proofs.PictureLemmas.{one_strip_of}
 use Rattle.life_strip.proofs.RowLemmas.{with-none}
@@ -88,16 +88,16 @@ end-of-middle P level rows f low high least s = record {
   level = level;
   low = low;
   high = high;
-  least = λ m two lt within beside. least m two lt within;
+  least = λ m two lt within adjacent. least m two lt within;
   some = inl s;
 }
 
 -- the least level by rows, and from there on by columns
-pub least-beside : (level top rows : ℕ) (f g : ℕ → ℕ → ℕ) → ((m : ℕ) → 2 ≤ m → m < level → ¬ (rows < 2 ^ m)) → ((i j : ℕ) → f i j ≡ g i j)
-    → ((m : ℕ) → level ≤ m → m < top → ¬ AreBeside m f) → IsLeastBeside top rows g
-least-beside level top rows f g least same needed m two lt within beside = elim (cases_lt m level) [
+pub least-adjacent : (level top rows : ℕ) (f g : ℕ → ℕ → ℕ) → ((m : ℕ) → 2 ≤ m → m < level → ¬ (rows < 2 ^ m)) → ((i j : ℕ) → f i j ≡ g i j)
+    → ((m : ℕ) → level ≤ m → m < top → ¬ AreAdjacent m f) → IsLeastAdjacent top rows g
+least-adjacent level top rows f g least same needed m two lt within adjacent = elim (cases_lt m level) [
   | inl below ↦ least m two below within
-  | inr above ↦ needed m above lt (beside-same m g f (λ i j. sym (same i j)) beside)
+  | inr above ↦ needed m above lt (adjacent-same m g f (λ i j. sym (same i j)) adjacent)
 ]
 
 -- those of higher strips
@@ -107,21 +107,21 @@ wider-of-middle P level rows f g low least same s = record {
   level = s.top;
   low = let l = s.low in omega (arith, low, l);
   high = s.high;
-  least = least-beside level s.top rows f g least same s.needed;
+  least = least-adjacent level s.top rows f g least same s.needed;
   some = inl (SomeSquare-same (omega arith) same s.some);
 }
 
 -- the square about the middle
 pub middle-of : (level top rows : ℕ) (f g : ℕ → ℕ → ℕ) (t : Tree) → 2 ≤ level → level ≤ top → top < MAX_LEVEL → rows < 2 ^ level
-    → ((m : ℕ) → 2 ≤ m → m < level → ¬ (rows < 2 ^ m)) → ((i j : ℕ) → f i j ≡ g i j) → AreBeside top f
-    → ((m : ℕ) → level ≤ m → m < top → ¬ AreBeside m f) → IsAboutMiddle top g t → IsMiddleSquare rows g t
-middle-of level top rows f g t low le high within least same beside needed square = record {
+    → ((m : ℕ) → 2 ≤ m → m < level → ¬ (rows < 2 ^ m)) → ((i j : ℕ) → f i j ≡ g i j) → AreAdjacent top f
+    → ((m : ℕ) → level ≤ m → m < top → ¬ AreAdjacent m f) → IsAboutMiddle top g t → IsMiddleSquare rows g t
+middle-of level top rows f g t low le high within least same adjacent needed square = record {
   level = top;
   low = omega (arith, low, le);
   high = high;
   enough = let p = pow_mono {i = level} {j = top} le in omega (arith, p, within);
-  beside = beside-same top f g same beside;
-  least = least-beside level top rows f g least same needed;
+  adjacent = adjacent-same top f g same adjacent;
+  least = least-adjacent level top rows f g least same needed;
   square = square;
 }
 

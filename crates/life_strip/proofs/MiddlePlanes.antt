@@ -8,7 +8,7 @@ use Rattle.life_base.specs.Tree.{Tree, depth, half_side, state_at, tree_cell}
 use Rattle.life_base.proofs.Basics.{true_false, zero_unless}
 use Rattle.life_base.proofs.Squares.{cell_inside, cell_outside, inside_facts, inside_offset, inside_test, is_inside}
 use Rattle.life_strip.specs.Given.{by_columns, half_plane}
-use Rattle.life_strip.specs.Middle.{AreBeside, AreSouth, IsAboutMiddle, IsBlankTo, IsLeastBeside, IsLeastSouth, IsMiddleSquare, IsSouthLevel, SomeAboutMiddle, SomeOfMiddle}
+use Rattle.life_strip.specs.Middle.{AreAdjacent, AreSouth, IsAboutMiddle, IsBlankTo, IsLeastAdjacent, IsLeastSouth, IsMiddleSquare, IsSouthLevel, SomeAboutMiddle, SomeOfMiddle}
 use Rattle.life_strip.specs.Needed.{SomeSquare}
 use Rattle.life_strip.specs.Plane.{on_plane}
 use Rattle.life_strip.proofs.MiddleLemmas.{middle-half}
@@ -140,10 +140,10 @@ module _ (f : ℕ → ℕ → ℕ) where
         let row : pos (half_plane + j) -ℤ pos half_plane ≡ pos j = omega (arith, ints) in
         pair-of i (half_plane + j) li (omega (arith, lj)) (λ e. live (sym (south i j) ∙ e)) (ap (on_plane f (pos i -ℤ pos half_plane)) row ∙ z)
 
-    are-south : (level : ℕ) → rows < 2 ^ level → AreBeside level g → AreSouth (suc level) (on_plane f)
-    are-south level enough beside x y live =
+    are-south : (level : ℕ) → rows < 2 ^ level → AreAdjacent level g → AreSouth (suc level) (on_plane f)
+    are-south level enough adjacent x y live =
         let c = south-at x y live in
-        let b = beside c.column c.row c.east c.live in
+        let b = adjacent c.column c.row c.east c.live in
         let p = c.is_column in
         let q = c.is_row in
         let m = c.most in
@@ -157,14 +157,14 @@ module _ (f : ℕ → ℕ → ℕ) where
           south = omega (arith, ints, q, m, enough, o);
         }
 
-    least-south : (level : ℕ) → IsLeastBeside level rows g → IsLeastSouth (suc level) (on_plane f)
+    least-south : (level : ℕ) → IsLeastAdjacent level rows g → IsLeastSouth (suc level) (on_plane f)
     least-south level least lower three lt are =
         let l = last in
         let corner = (are (pos l.0 -ℤ pos half_plane) (pos rows) (plane-at l.0 rows l.1 few l.2)).south in
-        absurd (least (lower - 1) (omega (arith, three)) (omega (arith, three, lt)) (omega (arith, ints, corner)) beside)
+        absurd (least (lower - 1) (omega (arith, three)) (omega (arith, three, lt)) (omega (arith, ints, corner)) adjacent)
       where
-        beside : AreBeside (lower - 1) g
-        beside i j li live =
+        adjacent : AreAdjacent (lower - 1) g
+        adjacent i j li live =
             let within : j ≤ rows = elim (cases_lt rows j) [ inl lt ↦ absurd (live (beyond i j lt)) | inr le ↦ le ] in
             let k = few in
             let s = are (pos i -ℤ pos half_plane) (pos j) (plane-at i j li (omega (arith, within, k)) live) in
@@ -173,7 +173,8 @@ module _ (f : ℕ → ℕ → ℕ) where
             (omega (arith, ints, w), omega (arith, ints, e))
 
     -- the square about the middle has every cell
-    module _ (level : ℕ) (high : level < MAX_LEVEL) (enough : rows < 2 ^ level) (beside : AreBeside level g) (t : Tree) (square : IsAboutMiddle level g t) where
+    module _ (level : ℕ) (high : level < MAX_LEVEL) (enough : rows < 2 ^ level) (adjacent : AreAdjacent level g) (t : Tree)
+        (square : IsAboutMiddle level g t) where
       half : half_side t ≡ 2 ^ level
       half = ap (λ n. 2 ^ (n - 1)) square.deep ∙ side-of level
 
@@ -184,7 +185,7 @@ module _ (f : ℕ → ℕ → ℕ) where
       outside-none : (x y : ℤ) → is_inside (half_side t) x y ≡ false → on_plane f x y ≡ 0
       outside-none x y e =
           zero_unless (on_plane f x y) (λ live.
-          let s = are-south level enough beside x y live in
+          let s = are-south level enough adjacent x y live in
           let h = half in
           let w = s.west in
           let a = s.east in
@@ -209,7 +210,7 @@ module _ (f : ℕ → ℕ → ℕ) where
             let l = low in
             cell_inside t x y n m e p q ∙ square.northern n m ln lt
             ∙ sym (zero_unless (on_plane f x y) (λ live.
-            let s = (are-south level enough beside x y live).north in
+            let s = (are-south level enough adjacent x y live).north in
             omega (arith, ints, q, h, lt, s))))
         | inr le ↦
             (let h = half in
@@ -244,13 +245,13 @@ module _ (f : ℕ → ℕ → ℕ) where
               inside-same x y a.0 b.0 e a.1 b.1 (omega (arith, h, c)) (omega (arith, h, d))
 
     pub cells-of-middle : (t : Tree) → IsMiddleSquare rows g t → (x y : ℤ) → tree_cell t x y ≡ on_plane f x y
-    cells-of-middle t is = middle-cells is.level is.high is.enough is.beside t is.square
+    cells-of-middle t is = middle-cells is.level is.high is.enough is.adjacent t is.square
 
     pub level-of-middle : (t : Tree) → IsMiddleSquare rows g t → IsSouthLevel (depth t) (on_plane f)
     level-of-middle t is = subst (λ (n : ℕ). IsSouthLevel n (on_plane f)) (sym is.square.deep) (record {
       low = let l = is.low in omega (arith, l);
       high = let h = is.high in omega (arith, h);
-      south = λ lt. are-south is.level is.enough is.beside;
+      south = λ lt. are-south is.level is.enough is.adjacent;
       least = least-south is.level is.least;
     })
 
@@ -275,7 +276,7 @@ module _ (f : ℕ → ℕ → ℕ) where
               full = whole.1.square.full;
               deep = whole.1.square.deep;
               cells = cells-of-middle whole.0 whole.1;
-              south = are-south whole.1.level whole.1.enough whole.1.beside;
+              south = are-south whole.1.level whole.1.enough whole.1.adjacent;
               property = whole.2;
             });
           }

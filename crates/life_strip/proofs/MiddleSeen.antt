@@ -12,7 +12,7 @@ use Rattle.life_strip.specs.Given.{half_plane, state_by, IsAfterRun, IsNextRunSt
 use Rattle.life_strip.specs.Middle.{EndsInCell, EndsWithCell}
 use Rattle.life_strip.specs.Plane.{cell_so_far, state_so_far}
 use Rattle.life_strip.proofs.MiddlePlanes.{cell-at}
-use Rattle.life_strip.proofs.MiddleTaken.{with-beyond}
+use Rattle.life_strip.proofs.MiddleConsumed.{with-beyond}
 
 pub ends-in-cell : (knows : Id → Type 0) (content : Id → Tree) (b : Building) → IsFilling knows content b → EndsWithCell b.runs → EndsInCell content b.kept
 ends-in-cell knows content b filling ends some = by b.runs refl

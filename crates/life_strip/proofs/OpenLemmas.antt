@@ -6,29 +6,29 @@ use Rattle.life_strip.specs.declared.blocks.Block.{Block}
 use Rattle.life_strip.specs.Blocks.{AddsCells, AreRowBlocks, AreBlocksBefore, IsRowBlock, IsBlockBefore}
 use Rattle.life_strip.proofs.BlockLemmas.{adds-fits, adds-more, adds-new}
 
-module _ (front : List Block) (a : Block) where
+module _ (prefix : List Block) (a : Block) where
   abbrev all : List Block
-  all = front ++ a ∷ []
+  all = prefix ++ a ∷ []
 
-  last_at : length all - 1 ≡ length front
-  last_at = let n = length-append front (a ∷ []) in omega (arith, n)
+  last_at : length all - 1 ≡ length prefix
+  last_at = let n = length-append prefix (a ∷ []) in omega (arith, n)
 
-  counted : length front + 1 ≡ length all
-  counted = let n = length-append front (a ∷ []) in omega (arith, n)
+  counted : length prefix + 1 ≡ length all
+  counted = let n = length-append prefix (a ∷ []) in omega (arith, n)
 
-  here : a ≡ get_or all (length front) a
-  here = sym (get_or-append_seam front a [] a)
+  here : a ≡ get_or all (length prefix) a
+  here = sym (get_or-append_seam prefix a [] a)
 
-  index : length front < length all
+  index : length prefix < length all
   index = let n = counted in omega (arith, n)
 
   -- the last block is one of a row
   pub last-is : AreRowBlocks all → IsRowBlock a
-  last-is are = subst IsRowBlock (sym here) (are.each (length front) a index)
+  last-is are = subst IsRowBlock (sym here) (are.each (length prefix) a index)
 
-  -- and begins before a column behind which none has a cell
+  -- and begins before a column after which none has a cell
   pub last-begins : (start : ℕ) → AreRowBlocks all → AreBlocksBefore start all → 64 * a.start ≤ start
-  last-begins start are before = by (subst (IsBlockBefore start) (sym here) (before (length front) a index))
+  last-begins start are before = by (subst (IsBlockBefore start) (sym here) (before (length prefix) a index))
     where
       by : IsBlockBefore start a → 64 * a.start ≤ start
       by (inl over) = let some = (last-is are).some in omega (arith, some, over)
@@ -38,7 +38,7 @@ module _ (front : List Block) (a : Block) where
     span : start + len - start ≡ len
     span = omega arith
 
-    -- a block behind the last one
+    -- a block after the last one
     pub adds-behind : start % 64 + len ≤ 64 → (a.start ≡ start / 64 → 64 < start % 64 + len) → (b : Block) → b.start ≡ start / 64 → b.end ≡ start / 64 + 1
         → b.cells ≡ 2 ^ (64 - start % 64) - 2 ^ (64 - (start % 64 + len)) → AddsCells all (all ++ b ∷ []) start (start + len)
     adds-behind one other b from to cells =
@@ -47,7 +47,7 @@ module _ (front : List Block) (a : Block) where
         (λ d there same. let late = other (ap (λ z. z.start) (here ∙ ap (λ k. get_or all k a) (sym last_at) ∙ alike d) ∙ same) in omega (arith, one, late))
       where
         alike : (d : Block) → get_or all (length all - 1) a ≡ get_or all (length all - 1) d
-        alike d = ap (λ k. get_or all k a) last_at ∙ get_or-append_seam front a [] a ∙ sym (get_or-append_seam front a [] d)
+        alike d = ap (λ k. get_or all k a) last_at ∙ get_or-append_seam prefix a [] a ∙ sym (get_or-append_seam prefix a [] d)
             ∙ ap (λ k. get_or all k d) (sym last_at)
 
     -- columns of the last one
@@ -63,13 +63,13 @@ module _ (front : List Block) (a : Block) where
           ∙ ap (λ z. 2 ^ (64 - start % 64) - 2 ^ (64 - (start % 64 + z))) (sym span)
 
       pub adds-within : (b : Block) → b.start ≡ a.start → b.end ≡ a.end → b.cells ≡ a.cells + (2 ^ (64 - from) - 2 ^ (64 - (from + len)))
-          → AddsCells all (front ++ b ∷ []) start (start + len)
+          → AddsCells all (prefix ++ b ∷ []) start (start + len)
       adds-within b first last cells =
-          subst (λ z. AddsCells all z start (start + len)) (set-append_seam front a [] b)
-          (adds-more all start (start + len) are before (omega (arith, some)) (omega (arith, one, rest, span)) within (length front) a counted here begins
+          subst (λ z. AddsCells all z start (start + len)) (set-append_seam prefix a [] b)
+          (adds-more all start (start + len) are before (omega (arith, some)) (omega (arith, one, rest, span)) within (length prefix) a counted here begins
           b first last (cells ∙ ap (λ z. a.cells + z) bits))
 
       pub fits-within : a.cells < 2 ^ 64 → a.cells + (2 ^ (64 - from) - 2 ^ (64 - (from + len))) < 2 ^ 64
       fits-within small = subst (λ z. a.cells + z < 2 ^ 64) (sym bits)
-          (adds-fits all start (start + len) are before (omega (arith, some)) (omega (arith, one, rest, span)) within (length front) a counted here begins
+          (adds-fits all start (start + len) are before (omega (arith, some)) (omega (arith, one, rest, span)) within (length prefix) a counted here begins
           small)

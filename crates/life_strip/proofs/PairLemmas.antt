@@ -147,7 +147,7 @@ abbrev others : List Tree → List Tree
 others [] = []
 others (t ∷ rest) = rest
 
--- the squares are joined and put behind the others
+-- the squares are joined and put after the others
 module _ (knows : Id → Type 0) (now : Id → Tree) (Can : Quarters → Type 0) (square : Quarters → Tree) (level : ℕ) (want : ℕ → Tree) (side : ℕ)
     (deep : (c : ℕ) → depth (want c) ≡ level) where
   pub filled-pieces : (pieces : List Span) (quarters : List Quarters) (ids : List Id) (column next : ℕ) (spans : List Span)

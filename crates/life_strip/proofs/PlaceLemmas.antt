@@ -100,7 +100,7 @@ quad-goes content level upper lower column x n s hn hs lt north south =
     (at (below (2 * x) (2 * column) a b (omega arith) c i)) (at (below (2 * x + 1) (2 * column + 1) c (omega arith) d e i))
 
 -- the first column where one of two strips has a span
-pub record IsFront (n s : StripPlace) (column first side : ℕ) : Type 0 where
+pub record IsFilePrefix (n s : StripPlace) (column first side : ℕ) : Type 0 where
   pub from : 2 * column ≤ first
   pub begin : column ≤ first / 2
   pub within : first / 2 < side
@@ -112,9 +112,9 @@ pub record IsFront (n s : StripPlace) (column first side : ℕ) : Type 0 where
 
 module _ (level : ℕ) (upper lower : List Span) (low : level < MAX_LEVEL) (u : AreWithin level upper) (l : AreWithin level lower) (column : ℕ) (n s : StripPlace)
     (hn : IsAt upper (2 * column) n) (hs : IsAt lower (2 * column) s) where
-  pub front : (first : ℕ) → first ≤ n.start → first ≤ s.start → (n.start ≤ s.start → first ≡ n.start) → (s.start < n.start → first ≡ s.start)
-      → first < NEVER → IsFront n s column first (2 ^ (MAX_LEVEL - suc level))
-  front first north south one other small = record {
+  pub prefix : (first : ℕ) → first ≤ n.start → first ≤ s.start → (n.start ≤ s.start → first ≡ n.start) → (s.start < n.start → first ≡ s.start)
+      → first < NEVER → IsFilePrefix n s column first (2 ^ (MAX_LEVEL - suc level))
+  prefix first north south one other small = record {
     from = from;
     begin = omega (arith, from);
     within = (cases (nat_le n.start s.start) refl).0;

@@ -39,11 +39,11 @@ below_run b y i j row f same below =
     record { row = omega (arith, ints, f, same, below); column = λ h n p. absurd (omega (arith, ints, f, same, below, h)) }
 
 -- and so may one east of it
-pub beside_run : (b : Plane) (x y i : ℤ) (column row len : ℕ) → pos column ≡ x +ℤ pos half_plane → pos row ≡ y +ℤ pos half_plane → b.rows ≡ row
+pub adjacent_run : (b : Plane) (x y i : ℤ) (column row len : ℕ) → pos column ≡ x +ℤ pos half_plane → pos row ≡ y +ℤ pos half_plane → b.rows ≡ row
     → IsRowBefore (column + len) b.row → (x +ℤ pos len) ≤ℤ i → IsFree b i y
-beside_run b x y i column row len e f same before beside = record {
+adjacent_run b x y i column row len e f same before adjacent = record {
   row = omega (arith, ints, f, same);
-  column = λ h n p. row-later b.row (column + len) n (omega (arith, ints, e, p, beside)) before;
+  column = λ h n p. row-later b.row (column + len) n (omega (arith, ints, e, p, adjacent)) before;
 }
 
 -- the state of a pair on the plane

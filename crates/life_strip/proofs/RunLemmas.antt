@@ -19,7 +19,7 @@ use Rattle.life_strip.specs.Plane.{cell_so_far, state_so_far}
 use Rattle.life_strip.specs.Row.{IsRow, IsRowBefore, row_state}
 use Rattle.life_strip.specs.Strip.{AreBefore, AreWithin, IsStrip, Rise, square_at}
 use Rattle.life_strip.proofs.FillingLemmas.{filling-push}
-use Rattle.life_strip.proofs.PlaneLemmas.{AddsRun-span, below_run, beside_run}
+use Rattle.life_strip.proofs.PlaneLemmas.{AddsRun-span, below_run, adjacent_run}
 use Rattle.life_strip.proofs.RowLemmas.{fills-blocks, with-filled}
 
 -- ---- a row with the same blocks and spans in the place of the plane's
@@ -66,7 +66,7 @@ module _ (knows : Id → Type 0) (content : Id → Tree) (p : Plane) (row : Row)
 module _ (knows : Id → Type 0) (content : Id → Tree) (p : Plane) (old new : Row) (runs : List Run) (run : Run)
     (filling : IsFilling knows content (record { runs = runs; kept = record p { row = old } })) (inside : IsRunOnPlane run.x run.y run.len)
     (some : 1 ≤ run.len) (next : IsNextRunStart runs run.x run.y) (here : run.y +ℤ pos half_plane ≡ pos p.rows) where
-  -- no cell of the row is in its first column or behind it
+  -- no cell of the row is in its first column or after it
   pub free-blocks : (column : ℕ) → pos column ≡ run.x +ℤ pos half_plane → AreBlocksBefore column old.blocks.items
   free-blocks column e = ((filling.next run.x run.y inside.north next).column here column e).blocks
 
@@ -88,7 +88,7 @@ module _ (knows : Id → Type 0) (content : Id → Tree) (p : Plane) (old new : 
         (λ i j. with-filled content p.pile.strips.items p.pile.band.items old new a.0 run.len run.state fills.states i j
         ∙ ap (λ tall. if is_in_span a.0 tall run.len i j then run.state else state_so_far content was i j) filling.filled.rows))
         (λ i j below. below_run is run.y i j p.rows ey refl below)
-        (λ i beside. beside_run is run.x run.y i a.0 p.rows run.len ex ey refl fills.before beside)
+        (λ i adjacent. adjacent_run is run.x run.y i a.0 p.rows run.len ex ey refl fills.before adjacent)
 
 -- ---- lists of runs
 
@@ -100,7 +100,7 @@ left-more all so_far next runs i d within e f =
     (λ k. f k ++ drop (same k) runs) ∙ append_assoc so_far (get_or runs i d ∷ []) (drop (suc i) runs)
     ∙ ap (λ z. so_far ++ z) (sym (drop-cons runs i d within)) ∙ e
 
--- the first of further runs, and those behind it
+-- the first of further runs, and those after it
 pub next-first : (so_far runs : List Run) (i : ℕ) (d : Run) → i < length runs → AreNext so_far (drop i runs)
     → AreNext so_far (get_or runs i d ∷ drop (suc i) runs)
 next-first so_far runs i d within a = subst (AreNext so_far) (drop-cons runs i d within) a
@@ -123,6 +123,6 @@ shut r is row = record row {
   blocks = record r.blocks {
     len = r.blocks.len + 1;
     items = blocks_of r;
-    ok = (let n = length-append r.blocks.items (r.last ∷ []) in let ok = r.blocks.ok.0 in omega (arith, n, ok), let room = is.room in omega (arith, room));
+    ok = (let n = length-append r.blocks.items (r.last ∷ []) in let ok = r.blocks.ok.0 in omega (arith, n, ok), let space = is.space in omega (arith, space));
   };
 }

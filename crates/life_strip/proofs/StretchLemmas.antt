@@ -1,4 +1,4 @@
--- Facts about the squares of level 2 before the first cell of four words, and behind the last.
+-- Facts about the squares of level 2 before the first cell of four words, and after the last.
 use Rattle.std.proofs.Common.{◌≡◌, ℕ, zero, suc, ◌+◌, ◌-◌, ◌*◌, ◌/◌, ◌%◌, ◌^◌, ◌≤◌, ◌<◌, refl, sym, ◌∙◌, ap, subst, arith, bit_or}
 use Rattle.std.specs.Int.{bit_at}
 use Rattle.std.specs.Int.Count.{count_leading_zeros, count_trailing_zeros, under}

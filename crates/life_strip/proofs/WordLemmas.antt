@@ -29,14 +29,14 @@ module _ (row : List Span) (index column : ℕ) (d : Span) (past : IsPast row in
   gap-at c le before lt =
       past c le ∙ ap (λ z. id_at z c) (drop-cons row index d within) ∙ id_at-none (get_or row index d) (drop (suc index) row) c before lt
 
-  -- the columns behind a span
+  -- the columns after a span
   pub past-next : (later : ℕ) → column ≤ later → (get_or row index d).end ≤ later → IsPast row (index + 1) later
   past-next later from end c le =
       let next : suc index ≡ index + 1 = omega arith in
       past c (omega (arith, from, le)) ∙ ap (λ z. id_at z c) (drop-cons row index d within)
       ∙ id_at-after (get_or row index d) (drop (suc index) row) c (omega (arith, end, le)) ∙ ap (λ k. id_at (drop k row) c) next
 
--- behind the last span stands nothing
+-- after the last span stands nothing
 pub past-none : (row : List Span) (index column : ℕ) → IsPast row index column → length row ≤ index → (c : ℕ) → column ≤ c → id_at row c ≡ None
 past-none row index column past over c le = past c le ∙ ap (λ z. id_at z c) (drop_of_length-le row over)
 

@@ -18,11 +18,11 @@ state_by (run ∷ runs) x y = if run_covers run x y then run.state else state_by
 abbrev pub IsAfterRun : Run → ℤ → ℤ → Type 0
 IsAfterRun run x y = (run.y <ℤ y) ⊎ ((run.y ≡ y) × ((run.x +ℤ pos run.len) ≤ℤ x))
 
--- The next run may begin at (x, y): behind the last one given, and anywhere if none was. This is the project's own rule.
+-- The next run may begin at (x, y): after the last one given, and anywhere if none was. This is the project's own rule.
 abbrev pub IsNextRunStart : List Run → ℤ → ℤ → Type 0
 IsNextRunStart runs x y = (last : Run) → slice_get runs (length runs - 1) ≡ Some last → IsAfterRun last x y
 
--- each run begins behind all before it
+-- each run begins after all before it
 abbrev pub AreInOrder : List Run → Type 0
 AreInOrder runs = AllPairs (λ a b. IsAfterRun a b.x b.y) runs
 
@@ -37,7 +37,7 @@ pub record IsRunOnPlane (left top : ℤ) (len : ℕ) : Type 0 where
   pub north : neg_ℤ (pos half_plane) ≤ℤ top
   pub south : top <ℤ pos half_plane
 
--- further runs that may be given behind these: of at least one cell each, in the plane, each behind the one before
+-- further runs that may be given after these: of at least one cell each, in the plane, each after the one before
 abbrev pub AreNext : List Run → List Run → Type 0
 AreNext before [] = Unit {0}
 AreNext before (run ∷ runs) = (1 ≤ run.len) × IsRunOnPlane run.x run.y run.len × IsNextRunStart before run.x run.y × AreNext (before ++ run ∷ []) runs

@@ -62,8 +62,8 @@ EndsWithCell runs = (last : Run) → slice_get runs (length runs - 1) ≡ Some l
 -- ---- by the columns of the plane and the rows from its middle on
 
 -- every cell is in one of so many columns west of the middle, or east of it
-abbrev pub AreBeside : ℕ → (ℕ → ℕ → ℕ) → Type 0
-AreBeside level state = (column row : ℕ) → column < 2 ^ MAX_LEVEL → ¬ (state column row ≡ 0)
+abbrev pub AreAdjacent : ℕ → (ℕ → ℕ → ℕ) → Type 0
+AreAdjacent level state = (column row : ℕ) → column < 2 ^ MAX_LEVEL → ¬ (state column row ≡ 0)
     → (half_plane ≤ column + 2 ^ level) × (column < half_plane + 2 ^ level)
 
 -- a square of strips that blank rows make higher has a property: no lower strip's two squares beside the middle have every cell
@@ -71,7 +71,7 @@ pub record SomeWider (P : Tree → Type 0) (level : ℕ) (state : ℕ → ℕ �
   pub top : ℕ
   pub low : level ≤ top
   pub high : top < MAX_LEVEL
-  pub needed : (m : ℕ) → level ≤ m → m < top → ¬ AreBeside m state
+  pub needed : (m : ℕ) → level ≤ m → m < top → ¬ AreAdjacent m state
   pub some : SomeSquare P (2 ^ top) state
 
 -- the square of the next level about the middle of the plane: its northern half is blank, and its southern half has the rows from the middle on
@@ -82,8 +82,8 @@ pub record IsAboutMiddle (level : ℕ) (state : ℕ → ℕ → ℕ) (t : Tree) 
   pub southern : (i j : ℕ) → i < 2 * 2 ^ level → j < 2 ^ level → state_at t i (2 ^ level + j) ≡ state (half_plane - 2 ^ level + i) j
 
 -- no lower level, from 2 on, has the row `rows` and every cell beside the middle
-abbrev pub IsLeastBeside : ℕ → ℕ → (ℕ → ℕ → ℕ) → Type 0
-IsLeastBeside level rows state = (m : ℕ) → 2 ≤ m → m < level → rows < 2 ^ m → ¬ AreBeside m state
+abbrev pub IsLeastAdjacent : ℕ → ℕ → (ℕ → ℕ → ℕ) → Type 0
+IsLeastAdjacent level rows state = (m : ℕ) → 2 ≤ m → m < level → rows < 2 ^ m → ¬ AreAdjacent m state
 
 -- the square about the middle with all cells, where `rows` is the last row with one
 pub record IsMiddleSquare (rows : ℕ) (state : ℕ → ℕ → ℕ) (t : Tree) : Type 0 where
@@ -91,8 +91,8 @@ pub record IsMiddleSquare (rows : ℕ) (state : ℕ → ℕ → ℕ) (t : Tree) 
   pub low : 2 ≤ level
   pub high : level < MAX_LEVEL
   pub enough : rows < 2 ^ level
-  pub beside : AreBeside level state
-  pub least : IsLeastBeside level rows state
+  pub adjacent : AreAdjacent level state
+  pub least : IsLeastAdjacent level rows state
   pub square : IsAboutMiddle level state t
 
 -- it has a property, or one of the squares of the rows from the middle on of which it is made
@@ -100,7 +100,7 @@ pub record SomeOfMiddle (P : Tree → Type 0) (rows : ℕ) (state : ℕ → ℕ 
   pub level : ℕ
   pub low : 2 ≤ level
   pub high : level < MAX_LEVEL
-  pub least : IsLeastBeside level rows state
+  pub least : IsLeastAdjacent level rows state
   pub some : SomeSquare P (2 ^ level) state ⊎ ((t : Tree) × IsMiddleSquare rows state t × P t)
 
 -- no cell is in so many rows
@@ -119,7 +119,7 @@ abbrev pub EndsInCell : (Id → Tree) → Plane → Type 0
 EndsInCell content p = 0 < p.rows → (column : ℕ) × (column < 2 ^ MAX_LEVEL) × ¬ (state_so_far content p column p.rows ≡ 0)
 
 -- the strip of the northern half was taken away, which has no cell
-pub record HasTakenNorth (content : Id → Tree) (old new : Pile) : Type 0 where
+pub record HasConsumedNorth (content : Id → Tree) (old new : Pile) : Type 0 where
   pub north : Strip
   pub strips : old.strips.items ≡ north ∷ new.strips.items
   pub band : new.band.items ≡ old.band.items

@@ -1,4 +1,4 @@
--- Which squares a call needs: all that it stores are such, and where it is refused for want of room the store lacks one.
+-- Which squares a call needs: all that it stores are such, and where it is refused because the store was full the store lacks one.
 use Rattle.life_base.specs.declared.cell.TheConstants.{MAX_LEVEL}
 use Rattle.std.specs.Prelude.{◌≡◌, ℕ, ◌+◌, ◌-◌, ◌*◌, ◌^◌, ◌<◌, ◌≤◌, List, ◌∷◌, ◌++◌, nat_abs, ◌+ℤ◌, pos}
 use Rattle.life_base.specs.Tree.{Tree, depth, state_at, IsFull}

@@ -14,4 +14,4 @@ blocks_of row = row.blocks.items ++ row.last ∷ []
 pub record AreOpen (row : OpenBlocks) : Type 0 where
   pub blocks : AreRowBlocks (blocks_of row)
   pub west : row.west +ℤ pos half_plane ≡ pos (64 * row.last.start)
-  pub room : vec_len row.blocks < vec_capacity row.blocks
+  pub space : vec_len row.blocks < vec_capacity row.blocks

@@ -12,7 +12,7 @@ pub use Rattle.life_strip.specs.Band.{block_goes_to, cells_among_four, IsAtBlock
 pub use Rattle.life_strip.specs.Blocks.{AddsCells, AreRowBlocks, AreBlocksBefore, IsRowBlock, IsBlockBefore, cell_in_blocks, cell_in_word, four_in, two_in}
 pub use Rattle.life_strip.specs.Filling.{EmptyFills, FillingStays, IsEmpty, IsFilling}
 pub use Rattle.life_strip.specs.Given.{AreInOrder, AreNext, by_columns, half_plane, IsAfterRun, IsNextRunStart, IsRunOnPlane, RunsAreApart, RunsGrow, state_by}
-pub use Rattle.life_strip.specs.Middle.{AreBeside, AreSouth, EndsInCell, EndsWithCell, HasTakenNorth, IsAboutMiddle, IsBlankNorth, IsBlankTo, IsMiddleSquare}
+pub use Rattle.life_strip.specs.Middle.{AreAdjacent, AreSouth, EndsInCell, EndsWithCell, HasConsumedNorth, IsAboutMiddle, IsBlankNorth, IsBlankTo, IsMiddleSquare}
 pub use Rattle.life_strip.specs.Middle.{IsSouthLevel, SomeAboutMiddle, SomeOfMiddle, SomeWider}
 pub use Rattle.life_strip.specs.Needed.{SomeColumn, SomeOfRuns, SomeSquare}
 pub use Rattle.life_strip.specs.Open.{AreOpen, blocks_of}

@@ -129,7 +129,7 @@ fn rows_end(a: BlockPlace, b: BlockPlace, c: BlockPlace, d: BlockPlace, block: u
 }
 
 // For how many spans four short rows get capacity at most.
-const SHORT_ROOM: usize = 256;
+const SHORT_SPACE: usize = 256;
 
 // For how many spans four rows get capacity. For rows of one block the least will do, and a block has 16 squares at most. Long rows whose blocks have
 // several squares each make their spans grow, because most rows of single cells far apart need one span for each block.
@@ -137,7 +137,7 @@ fn most_spans(first: &[Block], second: &[Block], third: &[Block], fourth: &[Bloc
     let north = first.len().max(second.len());
     let most = north.max(third.len()).max(fourth.len());
     if most > 1 {
-        most.saturating_mul(16).min(SHORT_ROOM).max(most)
+        most.saturating_mul(16).min(SHORT_SPACE).max(most)
     } else {
         0
     }

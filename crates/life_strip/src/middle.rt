@@ -1,6 +1,6 @@
 //! The rows from the middle of the plane on as one strip, and the square about the middle with all their cells.
 ghost use Rattle.std.specs.Prelude.{◌≡◌, ℕ, suc, ◌+◌, ◌-◌, ◌^◌, ◌<◌, ◌≤◌, ◌⊎◌, ◌∷◌, [], false, IsTrue, Some, IfOk};
-ghost use Rattle.life_strip.specs.Words.{AreBeside, AreStacked, Grows, HaveColumns, id_at, id_or, IdValue, IsAboutMiddle, IsBlankNorth, IsBlankTo, IsSoundStrip, Rise, SomeWider, Tree, height, picture};
+ghost use Rattle.life_strip.specs.Words.{AreAdjacent, AreStacked, Grows, HaveColumns, id_at, id_or, IdValue, IsAboutMiddle, IsBlankNorth, IsBlankTo, IsSoundStrip, Rise, SomeWider, Tree, height, picture};
 
 use crate::rows::merge;
 use crate::spans::{Span, Strip, square_in_column};
@@ -55,9 +55,9 @@ fn is_wider<S: Squares>(squares: &S, strip: &Strip) -> bool
     requires high { strip.now.level < MAX_LEVEL }
     ensures low { IsTrue result → strip.now.level + 1 < MAX_LEVEL }
     ensures wider { IsTrue result
-        → ¬ AreBeside strip.now.level (picture (S.content squares.now) (strip.now ∷ [])) }
-    ensures beside { result ≡ false
-        → AreBeside strip.now.level (picture (S.content squares.now) (strip.now ∷ [])) }
+        → ¬ AreAdjacent strip.now.level (picture (S.content squares.now) (strip.now ∷ [])) }
+    ensures adjacent { result ≡ false
+        → AreAdjacent strip.now.level (picture (S.content squares.now) (strip.now ∷ [])) }
 {
     if strip.level >= HALF_LEVEL {
         return false;
@@ -70,7 +70,7 @@ fn is_wider<S: Squares>(squares: &S, strip: &Strip) -> bool
 // Whether the first of strips is that of the northern half of the plane, without cells.
 pub(crate) fn is_blank_north<S: Squares>(squares: &S, strips: &[Strip]) -> bool
     requires strips { AreStacked (S.knows squares.now) (S.content squares.now) strips.now }
-    requires room { height strips.now < 2 ^ MAX_LEVEL }
+    requires space { height strips.now < 2 ^ MAX_LEVEL }
     ensures blank { IsTrue result → IsBlankNorth (S.content squares.now) strips.now }
     ensures cell { result ≡ false → 2 ^ (MAX_LEVEL - 1) ≤ height strips.now
         → ¬ IsBlankTo (2 ^ (MAX_LEVEL - 1)) (picture (S.content squares.now) strips.now) }
@@ -104,10 +104,10 @@ pub(crate) fn widen<S: Squares>(
     ensures picture { IfOk result (λ r. (column row : ℕ)
         → picture (S.content squares.new) (r ∷ []) column row
         ≡ picture (S.content squares.old) (strip ∷ []) column row) }
-    ensures beside { IfOk result
-        (λ r. AreBeside r.level (picture (S.content squares.old) (strip ∷ []))) }
+    ensures adjacent { IfOk result
+        (λ r. AreAdjacent r.level (picture (S.content squares.old) (strip ∷ []))) }
     ensures needed { IfOk result (λ r. (m : ℕ) → strip.level ≤ m → m < r.level
-        → ¬ AreBeside m (picture (S.content squares.old) (strip ∷ []))) }
+        → ¬ AreAdjacent m (picture (S.content squares.old) (strip ∷ []))) }
     ensures grows { Grows S.Squares squares.old squares.new result
         (λ P. SomeWider P strip.level (picture (S.content squares.old) (strip ∷ []))) }
 {

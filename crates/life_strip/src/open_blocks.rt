@@ -21,7 +21,7 @@ impl OpenBlocks {
     #[inline(always)]
     pub(crate) fn new(blocks: Vec<Block>, last: Block) -> OpenBlocks
         requires blocks { AreRowBlocks (blocks.items ++ last ∷ []) }
-        requires room { vec_len blocks < vec_capacity blocks }
+        requires space { vec_len blocks < vec_capacity blocks }
         ensures sound { AreOpen result }
         ensures blocks { blocks_of result ≡ blocks.items ++ last ∷ [] }
     {

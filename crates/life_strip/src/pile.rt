@@ -1,6 +1,6 @@
 //! The rows of the plane that are over.
 ghost use Rattle.std.specs.Prelude.{◌≡◌, ℕ, ◌+◌, ◌-◌, ◌^◌, ◌<◌, ◌≤◌, ◌∷◌, [], All, length, false, IsTrue, IfOk, OnOk};
-ghost use Rattle.life_strip.specs.Words.{depth, state_at, Grows, AreStacked, IsLowest, IsRow, SomeSquare, IsBlankTo, IsPile, HasClosedRows, HasTakenNorth, IsMiddleSquare, SomeOfMiddle, StripValue, SomeOfPile, pile_height, pile_state, pile_state_with};
+ghost use Rattle.life_strip.specs.Words.{depth, state_at, Grows, AreStacked, IsLowest, IsRow, SomeSquare, IsBlankTo, IsPile, HasClosedRows, HasConsumedNorth, IsMiddleSquare, SomeOfMiddle, StripValue, SomeOfPile, pile_height, pile_state, pile_state_with};
 
 use crate::middle::{is_blank_north, join_middle, widen};
 use crate::row::Row;
@@ -73,7 +73,7 @@ impl Pile {
             self.old.strips.items }
         requires rows { All (IsRow (S.knows squares.old) (S.content squares.old))
             self.old.band.items }
-        requires room { pile_height self.old ≤ 2 ^ MAX_LEVEL }
+        requires space { pile_height self.old ≤ 2 ^ MAX_LEVEL }
         ensures closed { OnOk result (HasClosedRows (S.knows squares.new) (S.content squares.old)
             (S.content squares.new) self.old self.new) }
         ensures grows { Grows S.Squares squares.old squares.new result
@@ -96,7 +96,7 @@ impl Pile {
         requires rows { All (IsRow (S.knows squares.old) (S.content squares.old))
             self.old.band.items }
         requires whole { length self.old.band.items ≡ 4 }
-        requires room { pile_height self.old ≤ 2 ^ MAX_LEVEL }
+        requires space { pile_height self.old ≤ 2 ^ MAX_LEVEL }
         ensures closed { OnOk result (HasClosedRows (S.knows squares.new) (S.content squares.old)
             (S.content squares.new) self.old self.new) }
         ensures grows { Grows S.Squares squares.old squares.new result
@@ -114,7 +114,7 @@ impl Pile {
     fn push_row<S: Squares>(&mut self, squares: &mut S, row: Row) -> Result<(), Kind>
         requires pile { IsPile (S.knows squares.old) (S.content squares.old) self.old }
         requires row { IsRow (S.knows squares.old) (S.content squares.old) row }
-        requires room { pile_height self.old + 1 ≤ 2 ^ MAX_LEVEL }
+        requires space { pile_height self.old + 1 ≤ 2 ^ MAX_LEVEL }
         ensures pile { OnOk result (IsPile (S.knows squares.new) (S.content squares.new) self.new) }
         ensures height { OnOk result
             (pile_height self.new ≡ pile_height self.old + 1) }
@@ -136,7 +136,7 @@ impl Pile {
     #[inline(always)]
     fn skip_rows<S: Squares>(&mut self, squares: &mut S, count: u64) -> Result<(), Kind>
         requires pile { IsPile (S.knows squares.old) (S.content squares.old) self.old }
-        requires room { pile_height self.old + count ≤ 2 ^ MAX_LEVEL }
+        requires space { pile_height self.old + count ≤ 2 ^ MAX_LEVEL }
         ensures pile { OnOk result (IsPile (S.knows squares.new) (S.content squares.new) self.new) }
         ensures height { OnOk result
             (pile_height self.new ≡ pile_height self.old + count) }
@@ -181,7 +181,7 @@ impl Pile {
     ) -> Result<(), Kind>
         requires pile { IsPile (S.knows squares.old) (S.content squares.old) self.old }
         requires row { IsRow (S.knows squares.old) (S.content squares.old) row }
-        requires room { pile_height self.old + 1 + blank_rows ≤ 2 ^ MAX_LEVEL }
+        requires space { pile_height self.old + 1 + blank_rows ≤ 2 ^ MAX_LEVEL }
         ensures pile { OnOk result (IsPile (S.knows squares.new) (S.content squares.new) self.new) }
         ensures height { OnOk result
             (pile_height self.new ≡ pile_height self.old + 1 + blank_rows) }
@@ -227,8 +227,9 @@ impl Pile {
     // Takes the strip of the northern half of the plane away, if it has no cell. Returns whether it did.
     pub(crate) fn take_northern_half<S: Squares>(&mut self, squares: &S) -> bool
         requires pile { IsPile (S.knows squares.now) (S.content squares.now) self.old }
-        requires room { pile_height self.old < 2 ^ MAX_LEVEL }
-        ensures taken { IsTrue result → HasTakenNorth (S.content squares.now) self.old self.new }
+        requires space { pile_height self.old < 2 ^ MAX_LEVEL }
+        ensures consumed { IsTrue result
+            → HasConsumedNorth (S.content squares.now) self.old self.new }
         ensures left { result ≡ false → self.new ≡ self.old }
         ensures cell { result ≡ false → 2 ^ (MAX_LEVEL - 1) ≤ pile_height self.old
             → ¬ IsBlankTo (2 ^ (MAX_LEVEL - 1)) (pile_state (S.content squares.now) self.old) }
@@ -250,7 +251,7 @@ impl Pile {
         requires pile { IsPile (S.knows squares.old) (S.content squares.old) self }
         requires row { IsRow (S.knows squares.old) (S.content squares.old) row }
         requires height { pile_height self ≡ rows }
-        requires room { rows < 2 ^ (MAX_LEVEL - 1) }
+        requires space { rows < 2 ^ (MAX_LEVEL - 1) }
         ensures known { IfOk result (S.knows squares.new) }
         ensures square { IfOk result (λ r. IsMiddleSquare rows
             (pile_state_with (S.content squares.old) self row) (S.content squares.new r)) }

@@ -110,7 +110,7 @@ impl Plane {
         ensures cells { OnOk result (AddsRun (cell_so_far (S.content squares.old) self.old)
             (cell_so_far (S.content squares.new) self.new) run) }
         ensures below { OnOk result ((column row : ℤ) → run.y <ℤ row → IsFree self.new column row) }
-        ensures beside { OnOk result
+        ensures adjacent { OnOk result
             ((column : ℤ) → (run.x +ℤ pos run.len) ≤ℤ column → IsFree self.new column run.y) }
         ensures grows { Grows S.Squares squares.old squares.new result
             (λ P. SomeSquare P (nat_abs (run.y +ℤ pos half_plane))

@@ -102,7 +102,7 @@ pub(crate) fn push_strip<S: Squares>(
 ) -> Result<(), Kind>
     requires strips { AreStacked (S.knows squares.old) (S.content squares.old) strips.old.items }
     requires strip { IsSoundStrip (S.knows squares.old) (S.content squares.old) strip }
-    requires room { height strips.old.items + 2 ^ strip.level ≤ 2 ^ MAX_LEVEL }
+    requires space { height strips.old.items + 2 ^ strip.level ≤ 2 ^ MAX_LEVEL }
     requires lowest { IsLowest strip.level strips.old.items }
     ensures strips { OnOk result
         (AreStacked (S.knows squares.new) (S.content squares.new) strips.new.items) }
@@ -168,7 +168,7 @@ pub(crate) fn push_and_raise<S: Squares>(
     requires lowest { IsLowest (suc strip.level) strips.old.items }
     requires high { strip.level ≤ MAX_LEVEL }
     requires fits { 2 ^ strip.level ≤ rows }
-    requires room { height strips.old.items + 2 ^ strip.level + rows ≤ 2 ^ MAX_LEVEL }
+    requires space { height strips.old.items + 2 ^ strip.level + rows ≤ 2 ^ MAX_LEVEL }
     ensures strips { OnOk result
         (AreStacked (S.knows squares.new) (S.content squares.new) strips.new.items) }
     ensures count { IfOk result (λ r. (top : ℕ) × (strip.level < top)

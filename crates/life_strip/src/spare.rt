@@ -9,10 +9,10 @@ use life_base::Kind;
 use std::alloc::Global;
 
 // For how many items a vector that waits has capacity at most, so that no more memory than that waits with it.
-const MOST_ROOM: usize = 256;
+const MOST_SPACE: usize = 256;
 
 // For how many items a new vector has capacity at least.
-const LEAST_ROOM: usize = 8;
+const LEAST_SPACE: usize = 8;
 
 // Of so many squares that were joined one by one, the processor's cache holds those that are stored.
 const FEW_SQUARES: usize = 0x1_0000;
@@ -29,20 +29,24 @@ pub(crate) struct Spare {
 
 // A vector without items, with capacity for so many: one that waits, if it has it.
 #[inline(always)]
-fn take_from<T: Drop>(alloc: Global, waiting: &mut Vec<Vec<T>>, room: usize) -> Result<Vec<T>, Kind>
+fn take_from<T: Drop>(
+    alloc: Global,
+    waiting: &mut Vec<Vec<T>>,
+    space: usize,
+) -> Result<Vec<T>, Kind>
     ensures empty { IfOk result (λ items. items.items ≡ []) }
     ensures refusals { IfErr result IsMemory }
 {
-    if room <= MOST_ROOM {
+    if space <= MOST_SPACE {
         if let Some(vector) = waiting.pop() {
-            if room <= vector.capacity() {
+            if space <= vector.capacity() {
                 let mut items = vector;
                 items.clear();
                 return Ok(items);
             }
         }
     }
-    let items = Vec::with_capacity(alloc, room.max(LEAST_ROOM))?;
+    let items = Vec::with_capacity(alloc, space.max(LEAST_SPACE))?;
     Ok(items)
 }
 
@@ -50,8 +54,8 @@ fn take_from<T: Drop>(alloc: Global, waiting: &mut Vec<Vec<T>>, room: usize) -> 
 // one for which there is no place here.
 #[inline(always)]
 fn give_to<T: Drop>(waiting: &mut Vec<Vec<T>>, items: Vec<T>) {
-    let room = items.capacity();
-    if LEAST_ROOM <= room && room <= MOST_ROOM {
+    let space = items.capacity();
+    if LEAST_SPACE <= space && space <= MOST_SPACE {
         let _refused = waiting.push(items).is_err();
     }
 }
@@ -78,11 +82,11 @@ impl Spare {
     }
 
     // A vector without spans, with capacity for so many.
-    pub(crate) fn take(&mut self, room: usize) -> Result<Vec<Span>, Kind>
+    pub(crate) fn take(&mut self, space: usize) -> Result<Vec<Span>, Kind>
         ensures empty { IfOk result (λ spans. spans.items ≡ []) }
         ensures refusals { IfErr result IsMemory }
     {
-        take_from(self.alloc, &mut self.spans, room)
+        take_from(self.alloc, &mut self.spans, space)
     }
 
     // Keeps a vector whose spans are of no more use.
@@ -92,11 +96,11 @@ impl Spare {
     }
 
     // A vector without blocks, with capacity for so many.
-    pub(crate) fn take_blocks(&mut self, room: usize) -> Result<Vec<Block>, Kind>
+    pub(crate) fn take_blocks(&mut self, space: usize) -> Result<Vec<Block>, Kind>
         ensures empty { IfOk result (λ blocks. blocks.items ≡ []) }
         ensures refusals { IfErr result IsMemory }
     {
-        take_from(self.alloc, &mut self.blocks, room)
+        take_from(self.alloc, &mut self.blocks, space)
     }
 
     // Keeps a vector whose blocks are of no more use.

@@ -73,7 +73,7 @@ far-row : (cells : ℤ → ℤ → ℕ) (r : ℤ) → ((s c : ℤ) → one_befor
 far-row cells r h x = column-is _ _ _ 0 0 0 (h (one_before r) x (omega (arith, ints)) (omega (arith, ints))) (h r x (omega (arith, ints)) (omega (arith, ints)))
     (h (one_after r) x (omega (arith, ints)) (omega (arith, ints)))
 
--- from the middle row on there is no cell before a row behind which the others are blank
+-- from the middle row on there is no cell before a row after which the others are blank
 blank-rows : (cells : ℤ → ℤ → ℕ) (b : Band) → IsBlankBefore cells → IsBandOfRows cells b → length b.rows.here.now ≡ 0 → length b.rows.south.now ≡ 0
     → (m : ℤ) → ((c r : ℤ) → first_coordinate ≤ℤ c → (b.y +ℤ pos 2) ≤ℤ r → r <ℤ m → cells c r ≡ 0) → (r c : ℤ) → b.y ≤ℤ r → r <ℤ m → cells c r ≡ 0
 blank-rows cells b blank h here south m beyond r c l u = elim (less-or-not r (one_after b.y)) [
@@ -86,19 +86,19 @@ blank-rows cells b blank h here south m beyond r c l u = elim (less-or-not r (on
   ]
 ]
 
--- a list divided at a row: the cells in the row, and those behind them
-pub record IsSplitAtRow (y : ℤ) (cells front back : List Cell) : Type 0 where
-  pub both : cells ≡ front ++ back
-  pub row : All (λ cell. cell.y ≡ y) front
+-- a list divided at a row: the cells in the row, and those after them
+pub record IsSplitAtRow (y : ℤ) (cells prefix back : List Cell) : Type 0 where
+  pub both : cells ≡ prefix ++ back
+  pub row : All (λ cell. cell.y ≡ y) prefix
   pub rest : ¬ BeginsAt y back
 
-pub lengths : (y : ℤ) (cells front back : List Cell) → IsSplitAtRow y cells front back → length cells ≡ length front + length back
-lengths y cells front back s = ap length s.both ∙ length-append front back
+pub lengths : (y : ℤ) (cells prefix back : List Cell) → IsSplitAtRow y cells prefix back → length cells ≡ length prefix + length back
+lengths y cells prefix back s = ap length s.both ∙ length-append prefix back
 
 -- where the first cell is in the row, some are
-some-taken : (y : ℤ) (cells front back : List Cell) → IsSplitAtRow y cells front back → BeginsAt y cells → 0 < length front
-some-taken y cells [] back s b = absurd (s.rest (subst (BeginsAt y) s.both b))
-some-taken y cells (cell ∷ front) back s b = omega arith
+some-consumed : (y : ℤ) (cells prefix back : List Cell) → IsSplitAtRow y cells prefix back → BeginsAt y cells → 0 < length prefix
+some-consumed y cells [] back s b = absurd (s.rest (subst (BeginsAt y) s.both b))
+some-consumed y cells (cell ∷ prefix) back s b = omega arith
 
 -- the next row's three rows: the two that were there, and the new southern one
 next-rows : (cells : ℤ → ℤ → ℕ) (y : ℤ) (b : Band) (rows : Rows) → rows.north.now ≡ b.rows.here.now → rows.here.now ≡ b.rows.south.now
@@ -198,7 +198,7 @@ fewer-rows b new p eh s =
   where
     goes : IsNextRow b new.y → (0 < length new.rows.south.now) ⊎ ((0 < length b.rows.here.now) ⊎ (0 < length b.rows.south.now))
     goes (inl q) = inr q.1
-    goes (inr q) = inl (some-taken (one_after new.y) b.rest.now new.rows.south.now new.rest.now s q.2)
+    goes (inr q) = inl (some-consumed (one_after new.y) b.rest.now new.rows.south.now new.rest.now s q.2)
 
 pub here-end : (y : ℤ) (b : Band) → IsNextRow b y → (length b.rows.south.now ≡ 0) ⊎ (one_after b.y <ℤ far) → (length b.rows.south.now ≡ 0) ⊎ (y <ℤ far)
 here-end y b p (inl e) = inl e
@@ -218,7 +218,7 @@ pub begins : (y : ℤ) (cells : List Cell) (cell : Cell) → Some cell ≡ slice
 begins y [] cell e at = absurd cc
 begins y (d ∷ rest) cell e at = let same : d ≡ cell = cc in ap (λ (c : Cell). c.y) same ∙ at
 
--- where a cell stands in the middle row or the southern one, the next row is one of the plane, or the first behind it
+-- where a cell stands in the middle row or the southern one, the next row is one of the plane, or the first after it
 pub next-within : (here south : ℕ) (y : ℤ) → (here ≡ 0) ⊎ (y <ℤ far) → (south ≡ 0) ⊎ (one_after y <ℤ far) → (0 < here) ⊎ (0 < south) → one_after y ≤ℤ far
 next-within here south y (inr h) s some = omega (arith, ints, h)
 next-within here south y (inl h) (inr s) some = omega (arith, ints, s)

@@ -108,7 +108,7 @@ all-needs P A cells runs leaves stay done (inl s) = drawn-needs P A cells runs l
 all-needs P A cells runs leaves stay done (inr s) =
     of_plane (state_by runs) (λ x y. let d = done x y in subst (λ n. A (states_at cells x y) (Becomes n)) (sym (d.kept (inl stay))) d.answer) s.outside s.square
 
--- want of room is that whatever else is answered
+-- a full store is that whatever else is answered
 err-is : {T : Type 0} (a b : Fault) → ◌≡◌ {A = Result T Fault} (Err a) (Err b) → a ≡ b
 err-is a b e = cc
 
@@ -127,7 +127,7 @@ not-full f kind e = absurd (other (sym kind ∙ ap (λ (d : Fault). d.kind) (err
 
 -- ---- what calls add
 
--- a call behind others
+-- a call after others
 pub adds-more : {S : Type 0} {stored : S → List Tree} {M N : (Tree → Type 0) → Type 0} {old mid new : S} → AddsOnly stored M old mid
     → AddsOnly stored N mid new → ((P : Tree → Type 0) → N P → M P) → AddsOnly stored M old new
 adds-more {M = M} first second more = adds-then M first second (λ P m. m) more

@@ -7,7 +7,7 @@ use Rattle.life_base.specs.declared.cell.Cell.{Cell}
 use Rattle.life_sweep.specs.Rows.{Rows, IsRest, StartsFrom, StartsAt, SomeStartsAt, InRows, AreRows, IsInside, far, column_at, no_column, is_blank_column}
 use Rattle.life_sweep.specs.declared.column.Column.{Column}
 
--- what is left from a column on is what is left from a later one that isn't behind the first cell
+-- what is left from a column on is what is left from a later one that isn't after the first cell
 pub IsRest-later : (states : ℤ → ℕ) (x m : ℤ) (row : List Cell) → x ≤ℤ m → StartsFrom m row → IsRest states x row → IsRest states m row
 IsRest-later states x m [] le s h = λ c l. h c (omega (arith, ints, le, l))
 IsRest-later states x m (cell ∷ rest) le s h = (s, (λ c l u. h.1 c (omega (arith, ints, le, l)) u), h.2, h.3)

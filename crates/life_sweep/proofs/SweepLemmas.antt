@@ -110,7 +110,7 @@ module _ (A : List ℕ → Answer → Type 0) (cells : ℤ → ℤ → ℕ) wher
       | inr m ↦ subst (λ k. IsDrawnAt A cells new all k r) (sym m.0) (subst (λ k. IsDrawnAt A cells new all x k) (sym m.1) here)
     ];
     clear = λ c r p. others c r (λ ex ey. behind c r p ex ey) ∙ s.clear c r (elim p [ inl m ↦ inl m | inr m ↦ inr (m.0, omega (arith, ints, m.1)) ]);
-    left = λ e. elim (put.told e) [
+    left = λ e. elim (put.reported e) [
       | inl l ↦ s.left l
       | inr l ↦ record { x = x; y = y; next = put.next; answer = put.answer; outside = l.0; nonzero = l.1 }
     ];
@@ -202,7 +202,7 @@ start-rows A cells drawn y quiet blank l none = record {
     north r l x = column-is _ _ _ 0 0 0 (blank.north x (one_before r) (omega (arith, ints, l))) (blank.north x r (omega (arith, ints, l)))
         (blank.north x (one_after r) l)
 
--- behind the last row all is drawn
+-- after the last row all is drawn
 pub all-rows : (A : List ℕ → Answer → Type 0) (cells drawn : ℤ → ℤ → ℕ) (leaves : Bool) (y : ℤ) → A zeros (Becomes 0) → ((r : ℤ) → y <ℤ r → IsFarRow cells r)
     → IsSweptRows A cells drawn leaves (one_after y) → (c r : ℤ) → IsDrawnAt A cells drawn leaves c r
 all-rows A cells drawn leaves y quiet far s c r = elim (less-or-not r (one_after y)) [

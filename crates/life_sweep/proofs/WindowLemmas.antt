@@ -27,7 +27,7 @@ blank-between cells y m w h bm be s c l u = by split
 abbrev pub at : ℤ → Column ℕ → Rows → Window → Window
 at x east rows w = record { x = x; west = w.middle; middle = w.east; east = east; rows = rows }
 
--- the rows from the column behind the next place on
+-- the rows from the column after the next place on
 pub ready-rows : (cells : ℤ → ℤ → ℕ) (y x : ℤ) (w : Window) → AreRows cells y (w.x +ℤ pos 2) w.rows → IsNextPlace w x → AreRows cells y (one_after x) w.rows
 ready-rows cells y x w h (inl p) = subst (λ z. AreRows cells y z w.rows) (omega (arith, ints, p.0)) h
 ready-rows cells y x w h (inr p) = AreRows-later cells y (w.x +ℤ pos 2) (one_after x) w.rows (AreRows-first cells y (w.x +ℤ pos 2) (one_after x) w.rows p.3 h)
@@ -74,16 +74,16 @@ goes-on cells y x w east rows h (inr p) e r = record {
     blank : (c : ℤ) → w.x ≤ℤ c → c <ℤ one_after x → column_at cells y c ≡ no_column
     blank = blank-between cells y (one_after x) w h p.0 p.1 p.2
 
-count-taken : (middle east next : Bool) (old new : ℕ) → new < old
+count-consumed : (middle east next : Bool) (old new : ℕ) → new < old
     → 3 * new + (if next then 0 else 2) + (if east then 0 else 1) < 3 * old + (if east then 0 else 2) + (if middle then 0 else 1)
-count-taken middle true true old new l = omega (arith, l)
-count-taken middle true false old new l = omega (arith, l)
-count-taken middle false true old new l = omega (arith, l)
-count-taken middle false false old new l = omega (arith, l)
+count-consumed middle true true old new l = omega (arith, l)
+count-consumed middle true false old new l = omega (arith, l)
+count-consumed middle false true old new l = omega (arith, l)
+count-consumed middle false false old new l = omega (arith, l)
 
 count : (middle east next : Bool) (old new : ℕ) → (middle ≡ false) ⊎ (east ≡ false) → ((new ≡ old) × (next ≡ true)) ⊎ (new < old)
     → 3 * new + (if next then 0 else 2) + (if east then 0 else 1) < 3 * old + (if east then 0 else 2) + (if middle then 0 else 1)
-count middle east next old new b (inr l) = count-taken middle east next old new l
+count middle east next old new b (inr l) = count-consumed middle east next old new l
 count true true next old new (inl b) (inl e) = absurd (true≢false b)
 count true true next old new (inr b) (inl e) = absurd (true≢false b)
 count false true true old new b (inl e) = omega (arith, e.0)
@@ -97,10 +97,11 @@ count false false false old new b (inl e) = absurd (true≢false (sym e.1))
 pub fewer-steps : (x : ℤ) (w : Window) (east : Column ℕ) (rows : Rows) → IsNextPlace w x
     → ((left_in rows ≡ left_in w.rows) × (is_blank_column east ≡ true)) ⊎ (left_in rows < left_in w.rows)
     → (SomeStartsAt (one_after x) w.rows → left_in rows < left_in w.rows) → steps_left (at x east rows w) < steps_left w
-fewer-steps x w east rows (inl p) f taken = count (is_blank_column w.middle) (is_blank_column w.east) (is_blank_column east) (left_in w.rows) (left_in rows) p.1
+fewer-steps x w east rows (inl p) f consumed =
+    count (is_blank_column w.middle) (is_blank_column w.east) (is_blank_column east) (left_in w.rows) (left_in rows) p.1
     f
-fewer-steps x w east rows (inr p) f taken = count-taken (is_blank_column w.middle) (is_blank_column w.east) (is_blank_column east) (left_in w.rows)
-    (left_in rows) (taken p.3)
+fewer-steps x w east rows (inr p) f consumed = count-consumed (is_blank_column w.middle) (is_blank_column w.east) (is_blank_column east) (left_in w.rows)
+    (left_in rows) (consumed p.3)
 
 pub middle-end : (x : ℤ) (w : Window) → IsNextPlace w x → (is_blank_column w.east ≡ true) ⊎ (one_after w.x <ℤ far) → (is_blank_column w.east ≡ true)
     ⊎ (x <ℤ far)

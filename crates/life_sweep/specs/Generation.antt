@@ -64,7 +64,7 @@ states_at cells x y = cells x y ∷ eight_around cells x y
 abbrev pub zeros : List ℕ
 zeros = 0 ∷ 0 ∷ 0 ∷ 0 ∷ 0 ∷ 0 ∷ 0 ∷ 0 ∷ 0 ∷ []
 
--- those of eight neighbours, behind the centre, that a neighbourhood names
+-- those of eight neighbours, after the centre, that a neighbourhood names
 abbrev pub neighbours_among : Neighborhood → List ℕ → List ℕ
 neighbours_among VonNeumann v = slice_index v 1 ∷ slice_index v 3 ∷ slice_index v 5 ∷ slice_index v 7 ∷ []
 neighbours_among Moore v = drop 1 v

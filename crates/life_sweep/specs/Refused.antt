@@ -1,5 +1,5 @@
 -- When a generation is refused: by the first condition, in this order, that holds. The order is this project's own. And which square a step
--- that was refused for want of room had to store.
+-- that was refused because the store was full had to store.
 use Rattle.std.specs.Prelude.{◌≡◌, ◌≢◌, ◌⊎◌, ℕ, ◌^◌, ◌<◌, ◌≤◌, List, ℤ, pos, nat_abs, ◌+ℤ◌, ◌<ℤ◌, Option, Some, None}
 use Rattle.life_base.specs.Refusal.{fault_of}
 use Rattle.life_base.specs.Tree.{Tree, tree_cell}

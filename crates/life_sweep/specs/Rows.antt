@@ -7,7 +7,7 @@ use Rattle.life_sweep.specs.declared.column.Column.{Column}
 use Rattle.life_sweep.specs.declared.window.Window.{Window}
 use Rattle.life_sweep.specs.declared.band.Band.{Band}
 
--- the first coordinate of a plane of level 62, and the first behind its last one
+-- the first coordinate of a plane of level 62, and the first after its last one
 abbrev pub first_coordinate : ℤ
 first_coordinate = neg_ℤ (pos (2 ^ 61))
 

@@ -19,7 +19,7 @@ drawn_runs builder = builder.builder.runs ++ open_runs builder.unclosed
 abbrev pub one_cell : ℤ → ℤ → ℕ → Run
 one_cell x y state = record { x = x; y = y; len = 1; state = state }
 
--- the run may be given behind these, and isn't blank
+-- the run may be given after these, and isn't blank
 pub record IsOpenRun (runs : List Run) (run : Run) : Type 0 where
   pub some_cell : 1 ≤ run.len
   pub inside : IsRunOnPlane run.x run.y run.len

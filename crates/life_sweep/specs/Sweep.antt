@@ -62,16 +62,16 @@ RefusesStep answers plane fault =
     ((fault.kind ≡ kinds.Ambiguous) × IsFirstAmbiguous answers plane fault.place.line)
     ⊎ ((fault ≡ fault_of kinds.OutOfPlane) × IsLeft answers plane × ((x y : ℤ) → (s : ℕ) × answers (states_at plane x y) (Becomes s)))
 
--- a place was drawn: with the state that the law answers, unless it is outside the plane; then that a cell leaves the plane is told
--- behind the place, as it may be known before it
+-- a place was drawn: with the state that the law answers, unless it is outside the plane; then that a cell leaves the plane is reported
+-- after the place, as it may be known before it
 pub record IsPut (answers : List ℕ → Answer → Type 0) (states : List ℕ) (drawn : ℤ → ℤ → ℕ) (old new : Bool) (x y : ℤ) : Type 0 where
   pub next : ℕ
   pub answer : answers states (Becomes next)
   pub kept : (new ≡ false) ⊎ IsRunOnPlane x y 1 → drawn x y ≡ next
   pub stays : new ≡ false → old ≡ false
-  pub told : new ≡ true → (old ≡ true) ⊎ ((¬ (IsRunOnPlane x y 1)) × (next ≢ 0))
+  pub reported : new ≡ true → (old ≡ true) ⊎ ((¬ (IsRunOnPlane x y 1)) × (next ≢ 0))
 
--- behind these runs others may be given from the place (x, y) on
+-- after these runs others may be given from the place (x, y) on
 abbrev pub IsReadyFrom : List Run → ℤ → ℤ → Type 0
 IsReadyFrom runs x y = (c r : ℤ) → IsFrom x y c r → IsNextRunStart runs c r
 

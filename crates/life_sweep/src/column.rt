@@ -46,7 +46,7 @@ fn take(row: &[Cell], x: i64) -> (State, &[Cell])
     ensures column { All IsInside row.now → (result.0 ≡ 0) ⊎ (x <ℤ far) }
     ensures fewer { (length result.1.now ≡ length row.now × (result.0 ≡ 0))
         ⊎ (length result.1.now + 1 ≡ length row.now) }
-    ensures taken { StartsAt x row.now → length result.1.now + 1 ≡ length row.now }
+    ensures consumed { StartsAt x row.now → length result.1.now + 1 ≡ length row.now }
 {
     match row.split_first() {
         Some((cell, rest)) if cell.x == x => (cell.state, rest),
@@ -104,7 +104,7 @@ impl<'a> Rows<'a> {
         ensures end { AreInside self.old → (is_blank_column result ≡ true) ⊎ (x <ℤ far) }
         ensures fewer { ((left_in self.new ≡ left_in self.old) × (is_blank_column result ≡ true))
             ⊎ (left_in self.new < left_in self.old) }
-        ensures taken { SomeStartsAt x self.old → left_in self.new < left_in self.old }
+        ensures consumed { SomeStartsAt x self.old → left_in self.new < left_in self.old }
     {
         let (north, north_rest) = take(self.north, x);
         let (here, here_rest) = take(self.here, x);

@@ -78,26 +78,26 @@ numbers_of lines = map (λ (line : Transition). line.line) lines
 abbrev transition_lines : List NumberedLine → List NumberedLine
 transition_lines ts = filter (λ (text : NumberedLine). is_transition_line text.1) ts
 
--- what is told of each transition that is read, told of their lines one by one
+-- what is reported of each transition that is read, reported of their lines one by one
 module _ {X : Type 0} (n k : ℕ) (vars : List Var) (f : Transition → X) (g : NumberedLine → X)
     (same : (x : NumberedLine) (t : Transition) → transition_of n k vars x.0 x.1 ≡ Some t → f t ≡ g x) where
-  told_step : (b : Bool) (x : NumberedLine) (ts : List NumberedLine) → is_transition_line x.1 ≡ b → IsRead n k vars x
+  reported_step : (b : Bool) (x : NumberedLine) (ts : List NumberedLine) → is_transition_line x.1 ≡ b → IsRead n k vars x
       → map f (transitions_written n k vars ts) ≡ map g (transition_lines ts)
       → map f (transitions_written n k vars (x ∷ ts)) ≡ map g (transition_lines (x ∷ ts))
-  told_step false x ts e r ih =
+  reported_step false x ts e r ih =
       ap (λ (b : Bool). map f (cons_option (if b then transition_of n k vars x.0 x.1 else None) (transitions_written n k vars ts))) e ∙ ih
       ∙ sym (ap (λ (b : Bool). map g (if b then x ∷ transition_lines ts else transition_lines ts)) e)
-  told_step true x ts e r ih =
+  reported_step true x ts e r ih =
       let t = r e in
       ap (λ (b : Bool). map f (cons_option (if b then transition_of n k vars x.0 x.1 else None) (transitions_written n k vars ts))) e
       ∙ ap (λ (o : Option Transition). map f (cons_option o (transitions_written n k vars ts))) t.1
       ∙ ap (λ (y : X). y ∷ map f (transitions_written n k vars ts)) (same x t.0 t.1) ∙ ap (λ (ys : List X). g x ∷ ys) ih
       ∙ sym (ap (λ (b : Bool). map g (if b then x ∷ transition_lines ts else transition_lines ts)) e)
 
-  told : (ts : List NumberedLine) → All (IsRead n k vars) ts → map f (transitions_written n k vars ts) ≡ map g (transition_lines ts)
-  told [] h = refl
-  told (x ∷ ts) h =
-      told_step (is_transition_line x.1) x ts refl (All-head (IsRead n k vars) x ts h) (told ts (All-tail (IsRead n k vars) x ts h))
+  reported : (ts : List NumberedLine) → All (IsRead n k vars) ts → map f (transitions_written n k vars ts) ≡ map g (transition_lines ts)
+  reported [] h = refl
+  reported (x ∷ ts) h =
+      reported_step (is_transition_line x.1) x ts refl (All-head (IsRead n k vars) x ts h) (reported ts (All-tail (IsRead n k vars) x ts h))
 
 -- where all three settings are known, each descriptor gives one of them
 has_setting : (table : Table) (on : Option ℕ) (oh : Option Neighborhood) (oy : Option Symmetry) (text : List ℕ)
@@ -142,11 +142,11 @@ module _ (table : Table) (ts : List NumberedLine) (en : states_of (texts_of_line
         settings = have_settings table (states_of (texts_of_lines ts)) (neighborhood_of (texts_of_lines ts)) (symmetry_of (texts_of_lines ts)) en eh ey ts
             stand.settled;
         variables = subst (λ (vars : List Var). AreVariables table.n_states vars ts) same (stand.variables table.n_states en);
-        transitions = ap (map Some) (sym written) ∙ told table.n_states (neighbour_count table.neighborhood) V Some
+        transitions = ap (map Some) (sym written) ∙ reported table.n_states (neighbour_count table.neighborhood) V Some
             (λ text. transition_of table.n_states (neighbour_count table.neighborhood) V text.0 text.1) (λ x t e. sym e) ts read
             ∙ ap (λ (vars : List Var). map (λ (text : NumberedLine). transition_of table.n_states (neighbour_count table.neighborhood) vars text.0 text.1)
             (transition_lines ts)) same;
-        numbers = ap numbers_of (sym written) ∙ told table.n_states (neighbour_count table.neighborhood) V (λ line. line.line) (λ text. text.0)
+        numbers = ap numbers_of (sym written) ∙ reported table.n_states (neighbour_count table.neighborhood) V (λ line. line.line) (λ text. text.0)
             (λ x t e. line_number table.n_states (neighbour_count table.neighborhood) V x.0 x.1 t e) ts read;
       }
 

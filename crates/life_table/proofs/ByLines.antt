@@ -181,17 +181,17 @@ reach_more lines line directive r h =
     )
 
 -- lines of which none breaks a rule are reached one by one
-reach_front : (lines : List (List ℕ)) → UnbrokenBelow IsTableFile broken_table_rule missing_table_part lines (length lines) → (k : ℕ) → k ≤ length lines
+reach_prefix : (lines : List (List ℕ)) → UnbrokenBelow IsTableFile broken_table_rule missing_table_part lines (length lines) → (k : ℕ) → k ≤ length lines
     → Reach (take k lines)
-reach_front lines u zero h = reach_none
-reach_front lines u (suc k) h =
-    let r = reach_front lines u k (omega arith) in
+reach_prefix lines u zero h = reach_none
+reach_prefix lines u (suc k) h =
+    let r = reach_prefix lines u k (omega arith) in
     let t = unbroken_directive (take k lines) (get_or lines k []) (u k (omega arith)) in
     let m = reach_more (take k lines) (get_or lines k []) t.0 r t.1 in
     subst Reach (sym (ap (λ (j : ℕ). take j lines) (sym (add-one k)) ∙ take_more lines k [] (omega arith))) m.1
 
 pub reach : (lines : List (List ℕ)) → UnbrokenBelow IsTableFile broken_table_rule missing_table_part lines (length lines) → Reach lines
-reach lines u = subst Reach (take_all (length lines) lines (omega arith)) (reach_front lines u (length lines) (omega arith))
+reach lines u = subst Reach (take_all (length lines) lines (omega arith)) (reach_prefix lines u (length lines) (omega arith))
 
 -- 3. Lines that make a whole file
 
@@ -199,7 +199,7 @@ pub missing_is : (lines : List (List ℕ)) → missing_table_part lines ≡ miss
 unfolding missing_table_part
 missing_is lines = refl
 
--- each line breaks no rule behind those before it, and at the end nothing is lacking
+-- each line breaks no rule after those before it, and at the end nothing is lacking
 abbrev Runs : Parsed → List (List ℕ) → Type 0
 Runs parsed [] = missing_part_of parsed ≡ None
 Runs parsed (line ∷ lines) = (directive : Directive) × ((number : ℕ) → parse_line parsed number line ≡ Ok directive)
@@ -281,12 +281,12 @@ module _ (vars : List Var) (lines : List Transition) where
   ends_at (Some name) Behind (Some n) (Some h) None g = absurd (let z : false ≡ true = g.described refl in let w : ⊥ = cc in w)
   ends_at (Some name) Behind (Some n) (Some h) (Some y) g = ([], refl)
 
-front : (lines : List (List ℕ)) → UnbrokenBelow IsTableFile broken_table_rule missing_table_part lines (length lines) → Prefix IsTableFile lines
-front lines u =
+prefix : (lines : List (List ℕ)) → UnbrokenBelow IsTableFile broken_table_rule missing_table_part lines (length lines) → Prefix IsTableFile lines
+prefix lines u =
     let r = reach lines u in
     let parsed : Parsed = parsed_by (numbered_from 1 lines) in
     let e = ends_at parsed.vars parsed.lines parsed.name parsed.section parsed.n_states parsed.neighborhood parsed.symmetry r.staged in
     (e.0, run (kept_lines e.0 continuations) lines r e.1)
 
 pub by_lines : IsByLines IsTableFile broken_table_rule missing_table_part
-by_lines = record { sound = λ lines g. g.unbroken; complete = front }
+by_lines = record { sound = λ lines g. g.unbroken; complete = prefix }

@@ -1,4 +1,4 @@
--- What a line gives by counts at a site, over the slices that are read there: the inputs, and what stands behind the first of them and of the cells.
+-- What a line gives by counts at a site, over the slices that are read there: the inputs, and what comes after the first of them and of the cells.
 use Rattle.std.proofs.Common.{◌≡◌, ◌≢◌, ℕ, ◌+◌, ◌-◌, ◌<◌, ◌≤◌, ◌∷◌, List, true, map, take, drop, length, get_or, ap, sym, ◌∙◌, subst, arith, length-drop, Some, None, All, IsTrue}
 use Rattle.std.specs.Int.{bit_at}
 use Rattle.std.specs.List.{list_any}
@@ -19,7 +19,7 @@ use Rattle.life_table.specs.declared.table.Entry.{Entry}
 use Rattle.life_table.specs.declared.table.Entry.TheVariants as entries
 use Rattle.life_table.specs.declared.table.Transition.{Transition}
 
--- the slice behind the first
+-- the slice after the first
 abbrev behind : {X : Type 0} → List X → List X
 behind xs = take (length xs - 1) (drop 1 xs)
 
@@ -42,7 +42,7 @@ module _ (site : Site) (line : Transition) (is_site : IsSite site) (is_line : Is
       × ((k : ℕ) → k < 16 → (i : ℕ) × (i < length (behind inputs)) × (bit_at (places site.seen.now (get_or (behind inputs) i (entries.Fixed 0))) k ≡ 1))
   takes_all s g =
       let size : length (others_of site) ≡ length site.cells.now - 1 = length-drop 1 site.cells.now in
-      let few : length (others_of site) ≤ 8 = omega (arith, size, is_site.room) in
+      let few : length (others_of site) ≤ 8 = omega (arith, size, is_site.space) in
       let counts : (t : ℕ) → count_of t (map (state_of g.choice) (behind inputs)) ≡ count_of t (others_of site) =
       λ t. ap (λ es. count_of t (map (state_of g.choice) (drop 1 es))) (sym shape) ∙ g.counts t in (
         some_place site.vars.now g.choice g.is_choice (behind inputs) (others_of site) site.seen.now rest_are few is_site.seen counts,
@@ -61,7 +61,7 @@ module _ (site : Site) (line : Transition) (is_site : IsSite site) (is_line : Is
     -- they can be searched
     pub search_at : length groups ≤ 9 → IsSearch site.vars.now groups (behind site.cells.now)
     search_at few = record {
-      size = omega (arith, ap length (rest_of site.cells.now), length-drop 1 site.cells.now, is_site.room);
+      size = omega (arith, ap length (rest_of site.cells.now), length-drop 1 site.cells.now, is_site.space);
       are_groups = are_groups site.vars.now (first_of inputs) line.output (behind inputs) groups rest_are
           (λ i is. subst (λ es. IsTrue (list_any (is_variable i) es)) shape (is_line.bound i is)) grouped;
       few = few;

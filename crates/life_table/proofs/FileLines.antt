@@ -10,7 +10,7 @@ use Rattle.life_table.specs.declared.directive.Section.TheVariants.{Ahead, Open,
 use Rattle.life_table.specs.declared.directive.Directive.{Directive}
 use Rattle.life_table.specs.declared.directive.Directive.TheVariants.{Nothing, RuleName, TableOpens, TableEnds}
 use Rattle.life_table.proofs.Cases.{Says, Case, passed, named, ahead, opens, ends, silent, says, behind}
-use Rattle.life_table.proofs.Fronts.{Grown, Stage, start, ruled, tabled, stage, is_table, is_section, rule_passed, grown_passed, grown_named, grown_ahead, grown_opens, grown_behind, grown_ends, grown_text, name_at_start, section_at_start, section_ahead, section_within}
+use Rattle.life_table.proofs.Prefixes.{Grown, Stage, start, ruled, tabled, stage, is_table, is_section, rule_passed, grown_passed, grown_named, grown_ahead, grown_opens, grown_behind, grown_ends, grown_text, name_at_start, section_at_start, section_ahead, section_within}
 use Rattle.life_table.proofs.Saying.{TextsStand, says_more}
 
 -- the rule line has a name, and the texts stand

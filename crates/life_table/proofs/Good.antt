@@ -24,7 +24,7 @@ use Rattle.life_table.specs.declared.table.Var.{Var}
 use Rattle.life_table.specs.declared.table.Entry.{Entry}
 use Rattle.life_table.specs.declared.table.Entry.TheVariants as entries
 use Rattle.life_table.specs.declared.table.Transition.{Transition}
-use Rattle.life_table.proofs.Fronts.{any_more}
+use Rattle.life_table.proofs.Prefixes.{any_more}
 use Rattle.life_table.proofs.Cases.{Says, states, neighbors, orders, variable, transition, Case, passed, named, ahead, opens, ends, silent, says, behind}
 use Rattle.life_table.proofs.Values.{tested, below_limit, is_variable_written, is_transition}
 use Rattle.life_base.proofs.Basics.{false_from_none}
@@ -271,7 +271,7 @@ kept_most : (o : Option ℕ) → ((n : ℕ) → o ≡ Some n → (2 ≤ n) × (n
 kept_most None f = tt
 kept_most (Some n) f = (f n refl).1
 
--- a line fits zeros behind a directive where the reader says so
+-- a line fits zeros after a directive where the reader says so
 abbrev StaysFit : Parsed → Bool → Directive → Type 0
 StaysFit parsed fit directive = fits_after fit parsed.vars directive
     ≡ list_any (fits_zero (parsed_after parsed directive).vars) (parsed_after parsed directive).lines

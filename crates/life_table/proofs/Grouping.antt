@@ -261,9 +261,9 @@ module _ (number : ℕ) (array : List Group) (count : ℕ) where
       → (get_or array k no_group).variable ≡ number →
       take count (set array k (record { variable = (get_or array k no_group).variable; times = (get_or array k no_group).times + 1 }))
       ≡ add_to number (take count array)
-  added_at k below room others here =
+  added_at k below space others here =
       let at : (j : ℕ) → j < count → get_or (take count array) j no_group ≡ get_or array j no_group = λ j small. get_or-take count array j no_group small in
-      let size : length (take count array) ≡ count = length-take-le count array room in
+      let size : length (take count array) ≡ count = length-take-le count array space in
       take-set-lt count array k (record { variable = (get_or array k no_group).variable; times = (get_or array k no_group).times + 1 }) below
       ∙ ap (λ (g : Group). set (take count array) k (record { variable = g.variable; times = g.times + 1 })) (sym (at k below))
       ∙ add_set number (take count array) k (omega (arith, size, below))
@@ -272,9 +272,9 @@ module _ (number : ℕ) (array : List Group) (count : ℕ) where
 
   pub added_end : count < length array → ((j : ℕ) → j < count → (get_or array j no_group).variable ≢ number) →
       take (count + 1) (set array count (record { variable = number; times = 1 })) ≡ add_to number (take count array)
-  added_end room others =
-      let size : length (take count array) ≡ count = length-take-le count array (omega (arith, room)) in
-      take_more_set array count (record { variable = number; times = 1 }) room
+  added_end space others =
+      let size : length (take count array) ≡ count = length-take-le count array (omega (arith, space)) in
+      take_more_set array count (record { variable = number; times = 1 }) space
       ∙ add_push number (take count array)
       (λ j small e. others j (omega (arith, small, size))
       (ap (λ (g : Group). g.variable) (sym (get_or-take count array j no_group (omega (arith, small, size)))) ∙ e))

@@ -58,10 +58,10 @@ one_more_passed words base i k P none before t below p = elim (eqb_tells t i) [
 
 -- the one bit of a word
 pub one_bit : (k : ℕ) → k < 64 → bit_at (1 * 2 ^ k % 2 ^ 64) k ≡ 1
-one_bit k room =
+one_bit k space =
     let e = bit_at_or 0 (1 * 2 ^ k % 2 ^ 64) k in
     let z = bit_at-zero k in
-    let s = bit_at_set_same w64 0 k room in
+    let s = bit_at_set_same w64 0 k space in
     omega (arith, e, z, s)
 
 -- a bit of either
@@ -87,16 +87,16 @@ none_above n k j none above h =
 -- one more line is found, or need not be
 pub one_more_found : (found i : ℕ) (P : ℕ → Type 0) → i < 64 → P i → ((k : ℕ) → bit_at found k ≡ 1 → P k) → (k : ℕ)
     → bit_at (bit_or found (1 * 2 ^ i % 2 ^ 64)) k ≡ 1 → P k
-one_more_found found i P room here before k h = elim (eqb_tells k i) [
+one_more_found found i P space here before k h = elim (eqb_tells k i) [
   | inl same ↦ subst P (sym same.1) here
-  | inr other ↦ before k (sym (bit_at_set_other w64 found i room k other.1) ∙ h)
+  | inr other ↦ before k (sym (bit_at_set_other w64 found i space k other.1) ∙ h)
 ]
 
 pub one_more_kept : (found i : ℕ) (P : ℕ → Type 0) → i < 64 → ((k : ℕ) → k < i → P k → bit_at found k ≡ 1) → (k : ℕ) → k < i + 1 → P k
     → bit_at (bit_or found (1 * 2 ^ i % 2 ^ 64)) k ≡ 1
-one_more_kept found i P room before k below p = elim (eqb_tells k i) [
-  | inl same ↦ ap (bit_at (bit_or found (1 * 2 ^ i % 2 ^ 64))) same.1 ∙ bit_at_set_same w64 found i room
-  | inr other ↦ bit_at_set_other w64 found i room k other.1 ∙ before k (omega (arith, below, other.1)) p
+one_more_kept found i P space before k below p = elim (eqb_tells k i) [
+  | inl same ↦ ap (bit_at (bit_or found (1 * 2 ^ i % 2 ^ 64))) same.1 ∙ bit_at_set_same w64 found i space
+  | inr other ↦ bit_at_set_other w64 found i space k other.1 ∙ before k (omega (arith, below, other.1)) p
 ]
 
 -- a bit that is not 0
@@ -167,17 +167,17 @@ module _ (ways : Turns) (cells : List ℕ) (stored : List (List ℕ)) (count : �
   number_is = turns_are ∙ ap (λ n. n / ways.step) (sym (length-drop 1 cells))
 
   turn_stored : ways.count ≤ count → (v : List ℕ) → Contains (turns (drop 1 cells) ways.step) v → Stored v
-  turn_stored room v h =
+  turn_stored space v h =
       let t = of_turns (λ k. turn (drop 1 cells) (k * ways.step)) (length (drop 1 cells) / ways.step) v h in
       let below : t.0 < ways.count = omega (arith, t.1, number_is) in
-      let inside : t.0 < count = omega (arith, below, room) in
+      let inside : t.0 < count = omega (arith, below, space) in
       (t.0, inside, (are t.0 inside).turned below ∙ ap (λ w. slice_index cells 0 ∷ w) t.2)
 
   reflected_stored : 2 * ways.count ≤ count → (v : List ℕ) → Contains (reflected_turns (drop 1 cells) ways.step) v → Stored v
-  reflected_stored room v h =
+  reflected_stored space v h =
       let t = of_turns (λ k. reflected_turn (drop 1 cells) (k * ways.step)) (length (drop 1 cells) / ways.step) v h in
       let below : t.0 < ways.count = omega (arith, t.1, number_is) in
-      let inside : t.0 + ways.count < count = omega (arith, below, room) in
+      let inside : t.0 + ways.count < count = omega (arith, below, space) in
       let back : t.0 + ways.count - ways.count ≡ t.0 = omega arith in (
         t.0 + ways.count,
         inside,
@@ -200,7 +200,7 @@ module _ (symmetry : Symmetry) (vars : List Var) (centre : ℕ) (others : List �
   -- where no line is left in the set, the others of the 64 give nothing
   pub silent_rest : (k end : ℕ) → k ≤ 64 → may / 2 ^ k ≡ 0 → end ≤ from + 64 → All (GivesNothing symmetry vars centre others) (take (from + k) lines)
       → All (GivesNothing symmetry vars centre others) (take end lines)
-  silent_rest k end room none near silent i d below =
+  silent_rest k end space none near silent i d below =
       let size = length-take end lines in
       let before : i < end = omega (arith, below, size) in
       let inside : i < length lines = omega (arith, below, size) in

@@ -66,17 +66,17 @@ module _ (symmetry : Symmetry) (vars : List Var) (centre : ℕ) (others : List �
   one_line line (Ambiguous n) (Ambiguous m) h k = ap Ambiguous (h.0 ∙ sym k.0)
 
   -- the first line that speaks is one
-  same_first : (before : List Transition) (line : Transition) (after : List Transition) (front : List Transition) (other : Transition) (back : List Transition)
+  same_first : (before : List Transition) (line : Transition) (after : List Transition) (prefix : List Transition) (other : Transition) (back : List Transition)
       →
-      before ++ line ∷ after ≡ front ++ other ∷ back → All Silent before → All Silent front → Speaks line → Speaks other → line ≡ other
+      before ++ line ∷ after ≡ prefix ++ other ∷ back → All Silent before → All Silent prefix → Speaks line → Speaks other → line ≡ other
   same_first [] line after [] other back e p q h k = cc
-  same_first [] line after (x ∷ front) other back e p q h k =
-      let same : line ≡ x = cc in absurd (not_both x (subst Speaks same h) (All-head Silent x front q))
+  same_first [] line after (x ∷ prefix) other back e p q h k =
+      let same : line ≡ x = cc in absurd (not_both x (subst Speaks same h) (All-head Silent x prefix q))
   same_first (x ∷ before) line after [] other back e p q h k =
       let same : other ≡ x = cc in absurd (not_both x (subst Speaks same k) (All-head Silent x before p))
-  same_first (x ∷ before) line after (y ∷ front) other back e p q h k =
-      let rest : before ++ line ∷ after ≡ front ++ other ∷ back = cc in
-      same_first before line after front other back rest (All-tail Silent x before p) (All-tail Silent y front q) h k
+  same_first (x ∷ before) line after (y ∷ prefix) other back e p q h k =
+      let rest : before ++ line ∷ after ≡ prefix ++ other ∷ back = cc in
+      same_first before line after prefix other back rest (All-tail Silent x before p) (All-tail Silent y prefix q) h k
 
   silent_all : (before : List Transition) (line : Transition) (after : List Transition) → All Silent (before ++ line ∷ after) → Speaks line → ⊥
   silent_all [] line after p h = not_both line h (All-head Silent line after p)

@@ -178,12 +178,12 @@ module _ (n k : ℕ) (vars : List Var) (number : ℕ) (text : List ℕ) (line : 
   unfolding transition_of entries_of
   transition_is t =
       let long : length whole ≡ k + 2 = omega (arith, length-append line.inputs (line.output ∷ []), t.count) in
-      let front : take (k + 1) whole ≡ line.inputs = ap (λ (m : ℕ). take m whole) (sym t.count) ∙ take-append_seam line.inputs (line.output ∷ []) in
+      let prefix : take (k + 1) whole ≡ line.inputs = ap (λ (m : ℕ). take m whole) (sym t.count) ∙ take-append_seam line.inputs (line.output ∷ []) in
       let last : slice_get whole (k + 1) ≡ Some line.output = ap (slice_get whole) (sym t.count) ∙ slice_get-last line.inputs line.output in
       let made : Entry → Transition = new_line number (take (k + 1) whole) in
       ap (option_and_then (transition_from k number)) (words_are n vars (transition_words text) whole t.words)
       ∙ take_then (length whole == k + 2) (option_map made (slice_get whole (k + 1))) None (eq-eqb (length whole) (k + 2) long)
-      ∙ ap (option_map made) last ∙ ap (λ (inputs : List Entry). Some (new_line number inputs line.output)) front
+      ∙ ap (option_map made) last ∙ ap (λ (inputs : List Entry). Some (new_line number inputs line.output)) prefix
       ∙ ap (λ (m : ℕ). Some (new_line m line.inputs line.output)) (sym t.number_is)
 
   pub transition_parsed : is_descriptor text ≡ false → is_variable_line text ≡ false → transition_of n k vars number text ≡ Some line

@@ -34,9 +34,9 @@ in_name : (o : Option (List ℕ)) → InKinds (if_named o)
 in_name None = refl
 in_name (Some name) = refl
 
-in_front : (o : Option (List ℕ)) (line : List ℕ) → InKinds (parse_ahead o line)
-in_front None line = either (is_passed_over line) (Ok Nothing) (if_named (name_on line)) refl (in_name (name_on line))
-in_front (Some name) line = either (is_table_line line) (Ok TableOpens) (Ok Nothing) refl refl
+in_prefix : (o : Option (List ℕ)) (line : List ℕ) → InKinds (parse_ahead o line)
+in_prefix None line = either (is_passed_over line) (Ok Nothing) (if_named (name_on line)) refl (in_name (name_on line))
+in_prefix (Some name) line = either (is_table_line line) (Ok TableOpens) (Ok Nothing) refl refl
 
 -- ---- descriptors
 
@@ -108,7 +108,7 @@ in_table parsed number line =
     (in_rest parsed.n_states parsed.neighborhood parsed.symmetry parsed.vars parsed.lines number (line_content line))))
 
 in_section : (section : Section) (parsed : Parsed) (number : ℕ) (line : List ℕ) → InKinds (parse_in_section section parsed number line)
-in_section Ahead parsed number line = in_front parsed.name line
+in_section Ahead parsed number line = in_prefix parsed.name line
 in_section Open parsed number line = in_table parsed number line
 in_section Behind parsed number line = refl
 
@@ -126,9 +126,9 @@ kind_of (Err other) kind h e = let same : other ≡ kind = cc in ap is_table_kin
 
 pub lines_break_by_kinds : TableLinesBreakByKinds
 unfolding broken_table_rule
-lines_break_by_kinds front line kind e =
-    let parsed : Parsed = parsed_by (numbered_from 1 front) in
-    kind_of (parse_line parsed (number_after front) line) kind (directive_kinds parsed (number_after front) line) e
+lines_break_by_kinds prefix line kind e =
+    let parsed : Parsed = parsed_by (numbered_from 1 prefix) in
+    kind_of (parse_line parsed (number_after prefix) line) kind (directive_kinds parsed (number_after prefix) line) e
 
 -- ---- the end of a file
 

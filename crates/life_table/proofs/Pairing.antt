@@ -57,12 +57,12 @@ module _ (vars : List Var) (choice : ℕ → ℕ) (is_choice : IsChoice vars cho
     state_there : (i : ℕ) → i < length rest → slice_index (map (state_of choice) rest) i ≡ state_of choice (get_or rest i (entries.Fixed 0))
     state_there i below = get_or-map (state_of choice) rest i (entries.Fixed 0) 0 below
 
-    -- the place is told of an entry with its state
+    -- the place is reported of an entry with its state
     directive : (i k : ℕ) → i < length rest → k < 16 → state_of choice (get_or rest i (entries.Fixed 0)) ≡ slice_index others (k % length others)
         → bit_at (places seen (get_or rest i (entries.Fixed 0))) k ≡ 1
-    directive i k below room is =
+    directive i k below space is =
         let e = get_or rest i (entries.Fixed 0) in
-        is_seen e k room (subst (λ s. can_be_state vars e s ≡ true) is (may_be e (are i (entries.Fixed 0) below)))
+        is_seen e k space (subst (λ s. can_be_state vars e s ≡ true) is (may_be e (are i (entries.Fixed 0) below)))
 
     pub some_place : (i : ℕ) → i < length rest → places seen (get_or rest i (entries.Fixed 0)) ≢ 0
     some_place i below =
@@ -73,13 +73,13 @@ module _ (vars : List Var) (choice : ℕ → ℕ) (is_choice : IsChoice vars cho
         (directive i r.0 below (omega (arith, r.1, few)) (sym r.2 ∙ ap (slice_index others) (sym (mod-eq_of_lt r.1))))
 
     pub some_entry : 0 < length others → (k : ℕ) → k < 16 → (i : ℕ) × (i < length rest) × (bit_at (places seen (get_or rest i (entries.Fixed 0))) k ≡ 1)
-    some_entry some k room =
+    some_entry some k space =
         let at = k % length others in
         let t = slice_index others at in
         let counted = is_counted t others at (mod-lt k some) refl in
         let r = stands_at t (map (state_of choice) rest) (subst (λ n. 0 < n) (sym (counts t)) counted) in
         let below : r.0 < length rest = subst (λ n. r.0 < n) (length-map rest (state_of choice)) r.1 in
-        (r.0, below, directive r.0 k below room (sym (state_there r.0 below) ∙ r.2))
+        (r.0, below, directive r.0 k below space (sym (state_there r.0 below) ∙ r.2))
 
 place_below : (reflect : Bool) (n i r : ℕ) → n ≤ 8 → i < n → r < n → cond reflect (n - i) i + r < 16
 place_below true n i r few below inside = omega (arith, few, below, inside)

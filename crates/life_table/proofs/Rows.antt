@@ -18,7 +18,7 @@ use Rattle.life_table.specs.declared.table.Transition.{Transition}
 abbrev faults : List (List ℕ) → List (Option Kind)
 faults lines = map (λ k. broken_table_rule (take k lines) (slice_index_or lines k [])) (range_with_len 0 (length lines))
 
--- a fault of the line behind this many lines
+-- a fault of the line after this many lines
 abbrev after : ℕ → Kind → List (Option Kind)
 after n kind = replicate n None ++ Some kind ∷ []
 
@@ -35,7 +35,7 @@ spread = head ++ codes "var a={1,2}" ∷ codes "0,a,0,0,0,a" ∷ []
 abbrev a_line : Transition
 a_line = record { line = 7; inputs = Fixed 0 ∷ entries.Var 0 ∷ Fixed 0 ∷ Fixed 0 ∷ Fixed 0 ∷ []; output = entries.Var 0 }
 
--- what a text says, and what whitespace, comments and sections behind the table change in it
+-- what a text says, and what whitespace, comments and sections after the table change in it
 abbrev spread_table : Parsed
 spread_table = record {
   name = Some (codes "Spread");
@@ -79,7 +79,7 @@ fault_rows =
     (head ++ codes "0,0,0,0,0,0" ∷ codes "0,0,0,0,0,1" ∷ [], replicate 7 None) ∷
     (head ++ codes "var a={1,2}" ∷ codes "var b={a}" ∷ codes "0,a,0,0,0,b" ∷ [], after 7 UnboundOutput) ∷
     (head ++ codes "var a={1,2}" ∷ codes "0,a,0,0,a" ∷ [], after 6 BadTransition) ∷
-    -- a variable is used behind its own line alone
+    -- a variable is used after its own line alone
     (head ++ codes "0,a,0,0,0,a" ∷ codes "var a={1,2}" ∷ [], after 5 BadTransition ++ None ∷ []) ∷
     -- a carriage return is whitespace, around an entry and not in it
     (head ++ (codes "0,0,0" ++ 13 ∷ codes ",0,0,0") ∷ (codes "0,0 0" ++ 13 ∷ codes "0,0,0,0") ∷ [], after 6 BadTransition) ∷

@@ -109,11 +109,11 @@ module _ (vars : List Var) (g : Group) (groups : List Group) (states : List ℕ)
   can_be c there = c.is_choice g.variable there
 
   -- a place that the group can't take has not its variable's state
-  pub not_taken : (place : ℕ) → g.variable < length vars
+  pub not_consumed : (place : ℕ) → g.variable < length vars
       → (bit_at free place ≡ 1 → IfSome (slice_get vars g.variable) (λ var. HasState var (slice_index states place))
       → free_count (slice_index states place) free states < g.times) →
       bit_at free place ≡ 1 → (c : Completes vars (g ∷ groups) states free) → slice_index states place ≡ c.choice g.variable → ⊥
-  not_taken place there none set c is = enough c
+  not_consumed place there none set c is = enough c
       (subst (λ s. free_count s free states < g.times) is
       (none set (subst (λ s. IfSome (slice_get vars g.variable) (λ var. HasState var s)) (sym is) (can_be c there))))
 
@@ -163,15 +163,15 @@ none_more vars groups states free n h here c p below set is = elim (eqb_tells p 
 
 -- the groups from one of them on
 module _ (vars : List Var) (groups : List Group) (states : List ℕ) (free k : ℕ) (d : Group) (below : k < length groups) (are : AreGroups vars groups) where
-  pub taken_completes : (place rest : ℕ) → GroupTakes vars (get_or groups k d) states place free rest → Completes vars (drop (k + 1) groups) states rest
+  pub consumed_completes : (place rest : ℕ) → GroupTakes vars (get_or groups k d) states place free rest → Completes vars (drop (k + 1) groups) states rest
       → Completes vars (drop k groups) states free
-  taken_completes place rest takes c =
+  consumed_completes place rest takes c =
       subst (λ gs. Completes vars gs states free) (sym (drop_at groups k d below))
       (completes_more vars (get_or groups k d) (drop (k + 1) groups) states free place rest (distinct_at groups k d below are.distinct) takes c)
 
-  pub taken_fails : (place rest : ℕ) → GroupTakes vars (get_or groups k d) states place free rest → (Completes vars (drop (k + 1) groups) states rest → ⊥) →
+  pub consumed_fails : (place rest : ℕ) → GroupTakes vars (get_or groups k d) states place free rest → (Completes vars (drop (k + 1) groups) states rest → ⊥) →
       (c : Completes vars (drop k groups) states free) → slice_index states place ≡ c.choice (first_variable (drop k groups)) → ⊥
-  taken_fails place rest takes none =
+  consumed_fails place rest takes none =
       subst (λ gs. (c : Completes vars gs states free) → slice_index states place ≡ c.choice (first_variable gs) → ⊥) (sym (drop_at groups k d below))
       (λ c is. none (others_complete vars (get_or groups k d) (drop (k + 1) groups) states free place rest takes c is))
 
@@ -181,16 +181,16 @@ module _ (vars : List Var) (groups : List Group) (states : List ℕ) (free k : �
       bit_at free place ≡ 1 → (c : Completes vars (drop k groups) states free) → slice_index states place ≡ c.choice (first_variable (drop k groups)) → ⊥
   untaken_fails place none set =
       subst (λ gs. (c : Completes vars gs states free) → slice_index states place ≡ c.choice (first_variable gs) → ⊥) (sym (drop_at groups k d below))
-      (not_taken vars (get_or groups k d) (drop (k + 1) groups) states free place (are.there k d below) none set)
+      (not_consumed vars (get_or groups k d) (drop (k + 1) groups) states free place (are.there k d below) none set)
 
   pub no_place : IsNone vars (drop k groups) states free (length states) → Completes vars (drop k groups) states free → ⊥
   no_place =
       subst (λ gs. IsNone vars gs states free (length states) → Completes vars gs states free → ⊥) (sym (drop_at groups k d below))
       (λ none c. let p = first_place vars (get_or groups k d) (drop (k + 1) groups) states free (are.some k d below) c in none c p.0 p.1 p.2 p.3)
 
-  pub taken_with : (place rest : ℕ) → GroupTakes vars (get_or groups k d) states place free rest → Completes vars (drop (k + 1) groups) states rest
+  pub consumed_with : (place rest : ℕ) → GroupTakes vars (get_or groups k d) states place free rest → Completes vars (drop (k + 1) groups) states rest
       → CompletesWith vars (drop k groups) states free (slice_index states place)
-  taken_with place rest takes c =
+  consumed_with place rest takes c =
       subst (λ gs. CompletesWith vars gs states free (slice_index states place)) (sym (drop_at groups k d below))
       (record {
         completes = completes_more vars (get_or groups k d) (drop (k + 1) groups) states free place rest (distinct_at groups k d below are.distinct) takes c;

@@ -24,12 +24,12 @@ put_more f xs i y inside is before j below = elim (eqb_tells j i) [
   | inr other ↦ get_or-set_other xs i j y 0 other.1 ∙ before j (omega (arith, below, other.1))
 ]
 
--- one more place is told of its state
+-- one more place is reported of its state
 pub tell_state : (around places : List ℕ) (k : ℕ) → k < 16 → slice_index around k < length places
     → ((j : ℕ) → j < k → bit_at (slice_index places (slice_index around j)) j ≡ 1) →
     (j : ℕ) → j < k + 1 → bit_at (slice_index (set places (slice_index around k) (bit_or (slice_index places (slice_index around k)) (1 * 2 ^ k % 2 ^ 16)))
     (slice_index around j)) j ≡ 1
-tell_state around places k room inside before j below =
+tell_state around places k space inside before j below =
     let s = slice_index around k in
     let t = slice_index around j in
     let y = bit_or (slice_index places s) (1 * 2 ^ k % 2 ^ 16) in
@@ -37,26 +37,26 @@ tell_state around places k room inside before j below =
       | inl here ↦
           ap (λ i. bit_at (slice_index (set places s y) (slice_index around i)) i) here.1
           ∙ ap (λ n. bit_at n k) (get_or-set_same places s y 0 inside)
-          ∙ bit_at_set_same w16 (slice_index places s) k room
+          ∙ bit_at_set_same w16 (slice_index places s) k space
       | inr other ↦
           let old = before j (omega (arith, below, other.1)) in
           elim (eqb_tells t s) [
             | inl same ↦
                 ap (λ n. bit_at (slice_index (set places s y) n) j) same.1
                 ∙ ap (λ n. bit_at n j) (get_or-set_same places s y 0 inside)
-                ∙ bit_at_set_other w16 (slice_index places s) k room j other.1
+                ∙ bit_at_set_other w16 (slice_index places s) k space j other.1
                 ∙ ap (λ n. bit_at (slice_index places n) j) (sym same.1)
                 ∙ old
             | inr apart ↦ ap (λ n. bit_at n j) (get_or-set_other places s t y 0 apart.1) ∙ old
           ]
     ]
 
--- one more place is told, or is none to be told
+-- one more place is reported, or is none to be reported
 pub tell_place : (places k : ℕ) → k < 16 → (P : ℕ → Type 0) → ((j : ℕ) → j < k → P j → bit_at places j ≡ 1) →
     (j : ℕ) → j < k + 1 → P j → bit_at (bit_or places (1 * 2 ^ k % 2 ^ 16)) j ≡ 1
-tell_place places k room P before j below p = elim (eqb_tells j k) [
-  | inl here ↦ ap (bit_at (bit_or places (1 * 2 ^ k % 2 ^ 16))) here.1 ∙ bit_at_set_same w16 places k room
-  | inr other ↦ bit_at_set_other w16 places k room j other.1 ∙ before j (omega (arith, below, other.1)) p
+tell_place places k space P before j below p = elim (eqb_tells j k) [
+  | inl here ↦ ap (bit_at (bit_or places (1 * 2 ^ k % 2 ^ 16))) here.1 ∙ bit_at_set_same w16 places k space
+  | inr other ↦ bit_at_set_other w16 places k space j other.1 ∙ before j (omega (arith, below, other.1)) p
 ]
 
 pub pass_place : (places k : ℕ) (P : ℕ → Type 0) → ¬ (P k) → ((j : ℕ) → j < k → P j → bit_at places j ≡ 1) → (j : ℕ) → j < k + 1 → P j → bit_at places j ≡ 1
@@ -84,10 +84,10 @@ and_shifted fits p first r one other =
     omega (arith, e, moved, one, other)
 
 -- a turn stays where an entry may be the neighbour that comes to it
-pub turn_stays : (seen : Seen) (entry : Entry) (fits told first from r : ℕ) → told ≡ places seen entry → first ≡ from → bit_at fits r ≡ 1 →
-    bit_at (places seen entry) (from + r) ≡ 1 → bit_at (bit_and fits (told / 2 ^ first)) r ≡ 1
-turn_stays seen entry fits told first from r is same one other =
-    and_shifted fits told first r one (ap (λ p. bit_at p (first + r)) is ∙ ap (λ f. bit_at (places seen entry) (f + r)) same ∙ other)
+pub turn_stays : (seen : Seen) (entry : Entry) (fits reported first from r : ℕ) → reported ≡ places seen entry → first ≡ from → bit_at fits r ≡ 1 →
+    bit_at (places seen entry) (from + r) ≡ 1 → bit_at (bit_and fits (reported / 2 ^ first)) r ≡ 1
+turn_stays seen entry fits reported first from r is same one other =
+    and_shifted fits reported first r one (ap (λ p. bit_at p (first + r)) is ∙ ap (λ f. bit_at (places seen entry) (f + r)) same ∙ other)
 
 -- sixteen bits are all that there are
 pub all_sixteen : (n : ℕ) → n < 2 ^ 16 → ((k : ℕ) → k < 16 → bit_at n k ≡ 1) → n ≡ 2 ^ 16 - 1
@@ -108,36 +108,36 @@ some_there vars i s h =
     let r = some_holds (λ (var : Var). has_state var s) (slice_get vars i) h in
     (r.0, slice_get_within vars i r.0 r.1, sym (get_or_from_slice_get vars i r.0 r.0 r.1), r.2)
 
--- what is told of the states and of the variables is told of the entries
+-- what is reported of the states and of the variables is reported of the entries
 pub seen_is : (vars : List Var) (others around fixed listed : List ℕ) → ((k : ℕ) → k < 16 → slice_index around k ≡ slice_index others (k % length others)) →
     ((k : ℕ) → k < 16 → bit_at (slice_index fixed (slice_index around k)) k ≡ 1) →
     ((i k : ℕ) → i < length vars → i < 64 → k < 16 → (var : Var) → var ≡ get_or vars i var → IsTrue (has_state var (slice_index around k))
     → bit_at (slice_index listed i) k ≡ 1) →
     IsSeen vars others (record { fixed = fixed; listed = listed })
-seen_is vars others around fixed listed same states variables (entries.Fixed s) k room h =
-    ap (λ n. bit_at (slice_index fixed n) k) (eqb-true s (slice_index others (k % length others)) h ∙ sym (same k room)) ∙ states k room
-seen_is vars others around fixed listed same states variables (entries.Var i) k room h = elim (cases_Bool (nat_lt i 64)) [
+seen_is vars others around fixed listed same states variables (entries.Fixed s) k space h =
+    ap (λ n. bit_at (slice_index fixed n) k) (eqb-true s (slice_index others (k % length others)) h ∙ sym (same k space)) ∙ states k space
+seen_is vars others around fixed listed same states variables (entries.Var i) k space h = elim (cases_Bool (nat_lt i 64)) [
   | inl is_listed ↦
       let below : i < 64 = grind (arith, nat_tests, is_listed) in
       let r = some_there vars i (slice_index others (k % length others)) h in
       ap (λ b. bit_at (cond b (slice_index listed i) (2 ^ 16 - 1)) k) is_listed
-      ∙ variables i k r.1 below room r.0 r.2 (subst (λ s. IsTrue (has_state r.0 s)) (sym (same k room)) r.3)
-  | inr unlisted ↦ ap (λ b. bit_at (cond b (slice_index listed i) (2 ^ 16 - 1)) k) unlisted ∙ bit_at_ones 16 k room
+      ∙ variables i k r.1 below space r.0 r.2 (subst (λ s. IsTrue (has_state r.0 s)) (sym (same k space)) r.3)
+  | inr unlisted ↦ ap (λ b. bit_at (cond b (slice_index listed i) (2 ^ 16 - 1)) k) unlisted ∙ bit_at_ones 16 k space
 ]
 
--- where nothing is told, each entry may be each neighbour
+-- where nothing is reported, each entry may be each neighbour
 pub untold_is : (vars : List Var) (others : List ℕ) → ((i : ℕ) → slice_index others i < 256)
     → IsSeen vars others (record { fixed = replicate 256 (2 ^ 16 - 1); listed = replicate 64 (2 ^ 16 - 1) })
-untold_is vars others small (entries.Fixed s) k room h = elim (eqb_tells s (slice_index others (k % length others))) [
+untold_is vars others small (entries.Fixed s) k space h = elim (eqb_tells s (slice_index others (k % length others))) [
   | inl is ↦
       let below = small (k % length others) in
-      ap (λ n. bit_at n k) (get_or-replicate 256 s (2 ^ 16 - 1) 0 (omega (arith, is.1, below))) ∙ bit_at_ones 16 k room
+      ap (λ n. bit_at n k) (get_or-replicate 256 s (2 ^ 16 - 1) 0 (omega (arith, is.1, below))) ∙ bit_at_ones 16 k space
   | inr other ↦ absurd (let e : true ≡ false = sym h ∙ other.0 in let z : ⊥ = cc in z)
 ]
-untold_is vars others small (entries.Var i) k room h = elim (cases_Bool (nat_lt i 64)) [
+untold_is vars others small (entries.Var i) k space h = elim (cases_Bool (nat_lt i 64)) [
   | inl is_listed ↦
       let below : i < 64 = grind (arith, nat_tests, is_listed) in
       ap (λ b. bit_at (cond b (slice_index (replicate 64 (2 ^ 16 - 1)) i) (2 ^ 16 - 1)) k) is_listed
-      ∙ ap (λ n. bit_at n k) (get_or-replicate 64 i (2 ^ 16 - 1) 0 below) ∙ bit_at_ones 16 k room
-  | inr unlisted ↦ ap (λ b. bit_at (cond b (slice_index (replicate 64 (2 ^ 16 - 1)) i) (2 ^ 16 - 1)) k) unlisted ∙ bit_at_ones 16 k room
+      ∙ ap (λ n. bit_at n k) (get_or-replicate 64 i (2 ^ 16 - 1) 0 below) ∙ bit_at_ones 16 k space
+  | inr unlisted ↦ ap (λ b. bit_at (cond b (slice_index (replicate 64 (2 ^ 16 - 1)) i) (2 ^ 16 - 1)) k) unlisted ∙ bit_at_ones 16 k space
 ]

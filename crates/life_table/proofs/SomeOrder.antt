@@ -69,7 +69,7 @@ among_order v w p order inside =
     let same = count-order t v w order in
     among_counted t v (omega (arith, one, split, same))
 
--- one more number: its state is among those that there were, or is put behind them
+-- one more number: its state is among those that there were, or is put after them
 module _ (others states : List ℕ) (i count : ℕ) (inside : i < length others)
     (each : (s : ℕ) → is_among (take i others) s ≡ true → is_among (take count states) s ≡ true) where
   one_of : (s : ℕ) → is_among (take (i + 1) others) s ≡ true → (is_among (take i others) s ≡ true) ⊎ (nat_eq (slice_index others i) s ≡ true)
@@ -84,9 +84,9 @@ module _ (others states : List ℕ) (i count : ℕ) (inside : i < length others)
 
   pub among_pushed : count < length states → (s : ℕ) → is_among (take (i + 1) others) s ≡ true
       → is_among (take (count + 1) (set states count (slice_index others i))) s ≡ true
-  among_pushed room s h =
+  among_pushed place_fits s h =
       let y = slice_index others i in
-      ap (λ xs. is_among xs s) (take_more_set states count y room) ∙ list_any-append (λ t. nat_eq t s) (take count states) (y ∷ [])
+      ap (λ xs. is_among xs s) (take_more_set states count y place_fits) ∙ list_any-append (λ t. nat_eq t s) (take count states) (y ∷ [])
       ∙ elim (one_of s h) [
         | inl before ↦ or_left (is_among (take count states) s) (nat_eq y s || false) (each s before)
         | inr here ↦ or_right (is_among (take count states) s) (nat_eq y s || false) (or_left (nat_eq y s) false here)
@@ -96,9 +96,9 @@ module _ (others states : List ℕ) (i count : ℕ) (inside : i < length others)
 pub counted_more : (others states times : List ℕ) (count y n : ℕ) → count < length states → count < length times → n ≡ count_by (is_among (y ∷ [])) others
     → ((j : ℕ) → j < count → slice_index times j ≡ count_by (is_among (slice_index states j ∷ [])) others) → (j : ℕ) → j < count + 1
     → slice_index (set times count n) j ≡ count_by (is_among (slice_index (set states count y) j ∷ [])) others
-counted_more others states times count y n room space is before j below = elim (eqb_tells j count) [
+counted_more others states times count y n place_fits space is before j below = elim (eqb_tells j count) [
   | inl same ↦
-      let there : slice_index (set states count y) j ≡ y = ap (slice_index (set states count y)) same.1 ∙ get_or-set_same states count y 0 room in
+      let there : slice_index (set states count y) j ≡ y = ap (slice_index (set states count y)) same.1 ∙ get_or-set_same states count y 0 place_fits in
       ap (slice_index (set times count n)) same.1 ∙ get_or-set_same times count n 0 space ∙ is
       ∙ ap (λ s. count_by (is_among (s ∷ [])) others) (sym there)
   | inr other ↦
@@ -107,7 +107,7 @@ counted_more others states times count y n room space is before j below = elim (
       ∙ ap (λ s. count_by (is_among (s ∷ [])) others) (sym there)
 ]
 
--- behind the centre
+-- after the centre
 behind : (block : Block) (centre : ℕ) (v : List ℕ) (k : ℕ) → MayFit block (centre ∷ v) k → MayComeAfter block v k
 behind block centre v k fit = λ p below small.
     let next : p + 1 ≡ suc p = omega arith in
@@ -121,7 +121,7 @@ centre_may block centre v k fit small =
     let first : 0 + centre ≡ centre = omega arith in
     subst (λ n. bit_at (slice_index block.sets n) k ≡ 1) first (fit.states 0 (omega arith) small)
 
--- what is told by an order of the neighbours in which a line may fit
+-- what is reported by an order of the neighbours in which a line may fit
 pub order_tells : (block : Block) (cells : List ℕ) (k : ℕ) (fit : MayFitInSomeOrder block cells k) → slice_index cells 0 < 256
     → Contains (orders (take (length cells - 1) (drop 1 cells))) fit.order × MayComeAfter block fit.order k
     × (bit_at (slice_index block.sets (slice_index cells 0)) k ≡ 1)

@@ -1,4 +1,4 @@
--- The file of a rule table a second time: what each line is behind the lines before it, without any word of how a fault is named.
+-- The file of a rule table a second time: what each line is after the lines before it, without any word of how a fault is named.
 -- Golly Help, File Formats, "@RULE" and "@TABLE", states the rule line, the table line, descriptors, variables and transitions. This project's own are limits,
 -- lines before the rule line, a table after a tree, `neighbourhood`, most symmetries, entries without commas anywhere, new names, and that 0 stays 0.
 use Rattle.std.specs.Prelude.{◌≡◌, ◌↔◌, ◌⊎◌, ◌≢◌, ℕ, ◌+◌, ◌-◌, ◌^◌, ◌≤◌, min, true, false, List, [], ◌∷◌, ◌++◌, length, codes, Some, None}
@@ -82,7 +82,7 @@ pub record AreGiven (parsed : Parsed) (n_states : ℕ) (neighborhood : Neighborh
   pub neighbours : parsed.neighborhood ≡ Some neighborhood
   pub orders : parsed.symmetry ≡ Some symmetry
 
--- What a line of the table says behind lines that said this. The settings come once each, in any order, before all else; a
+-- What a line of the table says after lines that said this. The settings come once each, in any order, before all else; a
 -- symmetry is listed for the neighbourhood; and no transition lets a cell of state 0 leave it among cells of state 0.
 pub data TextSays (parsed : Parsed) (number : ℕ) (text : List ℕ) (directive : Directive) : Type 0 where
   states : (n : ℕ) → IsStates text n → parsed.n_states ≡ None → directive ≡ States n → TextSays parsed number text directive
@@ -97,7 +97,7 @@ pub data TextSays (parsed : Parsed) (number : ℕ) (text : List ℕ) (directive 
       → IsTransitionLine n (neighbour_count h) parsed.vars number text line
       → is_quiet parsed.vars (parsed.lines ++ line ∷ []) ≡ true → directive ≡ Line line → TextSays parsed number text directive
 
--- ---- what a line of the file says behind lines that said this
+-- ---- what a line of the file says after lines that said this
 
 pub data LineSays (parsed : Parsed) (number : ℕ) (line : List ℕ) (directive : Directive) : Type 0 where
   -- before the rule line: a blank line or a comment
@@ -113,14 +113,14 @@ pub data LineSays (parsed : Parsed) (number : ℕ) (line : List ℕ) (directive 
   blank : parsed.section ≡ Open → is_section_line line ≡ false → line_content line ≡ [] → directive ≡ Nothing → LineSays parsed number line directive
   says : parsed.section ≡ Open → is_section_line line ≡ false → line_content line ≢ [] → TextSays parsed number (line_content line) directive
       → LineSays parsed number line directive
-  -- the next section, and whatever comes behind its first line
+  -- the next section, and whatever comes after its first line
   section_line : (n : ℕ) (h : Neighborhood) (y : Symmetry) → parsed.section ≡ Open → is_section_line line ≡ true → AreGiven parsed n h y → directive ≡ TableEnds
       → LineSays parsed number line directive
   behind : parsed.section ≡ Behind → directive ≡ Nothing → LineSays parsed number line directive
 
 -- ---- a file
 
--- Further lines, the first of which has this number, lead from what was said to this. A number above 2 ^ 64 - 1 is told as that.
+-- Further lines, the first of which has this number, lead from what was said to this. A number above 2 ^ 64 - 1 is reported as that.
 abbrev pub Lead : Parsed → ℕ → List (List ℕ) → Parsed → Type 0
 Lead parsed number [] end = parsed ≡ end
 Lead parsed number (line ∷ lines) end =

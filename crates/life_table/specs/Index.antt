@@ -58,11 +58,11 @@ pub record MayFit (block : Block) (image : List ℕ) (k : ℕ) : Type 0 where
 abbrev pub is_among : List ℕ → ℕ → Bool
 is_among states s = list_any (λ t. nat_eq t s) states
 
--- a line is in the sets of these states, one for each input behind the centre's
+-- a line is in the sets of these states, one for each input after the centre's
 abbrev pub MayComeAfter : Block → List ℕ → ℕ → Type 0
 MayComeAfter block v k = (p : ℕ) → p < length v → slice_index v p < 256 → bit_at (slice_index block.sets (256 * (p + 1) + slice_index v p)) k ≡ 1
 
--- the lines that may be behind the centre's input in some order of the neighbours stay
+-- the lines that may be after the centre's input in some order of the neighbours stay
 abbrev pub KeepsOrders : Block → List ℕ → ℕ → ℕ → Type 0
 KeepsOrders block others lines rest = (k : ℕ) (v : List ℕ) → k < 64 → Contains (orders others) v → MayComeAfter block v k → bit_at lines k ≡ 1
     → bit_at rest k ≡ 1
@@ -89,7 +89,7 @@ abbrev pub IsQuery : Site → Query → Type 0
 IsQuery site (queries.Images turned) = turned.count ≤ 16
 IsQuery site (queries.Counts counts) = AreCounts (others_of site) counts
 
--- it is asked of these neighbours: they are one of the images, behind the centre, or it is asked of every order
+-- it is asked of these neighbours: they are one of the images, after the centre, or it is asked of every order
 abbrev pub Asks : Site → Query → List ℕ → Type 0
 Asks site (queries.Images turned) v = (j : ℕ) × (j < turned.count) × (take (length site.cells.now) (slice_index_or turned.cells j []) ≡ centre_of site ∷ v)
 Asks site (queries.Counts counts) v = Contains (orders (others_of site)) v

@@ -33,7 +33,7 @@ pub record GivesAs (vars : List Var) (line : Transition) (states : List ℕ) (s 
   pub inputs : map (state_of choice) line.inputs ≡ states
   pub output : state_of choice line.output ≡ s
 
--- the line gives the state s: of some image of the neighbours, behind the centre
+-- the line gives the state s: of some image of the neighbours, after the centre
 pub record Gives (symmetry : Symmetry) (vars : List Var) (line : Transition) (centre : ℕ) (others : List ℕ) (s : ℕ) : Type 0 where
   pub image : List ℕ
   pub is_image : Contains (images symmetry others) image

@@ -15,7 +15,7 @@ use Rattle.life_table.specs.declared.table.Neighborhood.{Neighborhood}
 use Rattle.life_table.specs.declared.table.Symmetry.{Symmetry}
 use Rattle.life_table.specs.declared.table.Var.{Var}
 
--- the texts between commas that are left, none behind the last
+-- the texts between commas that are left, none after the last
 abbrev pub parts_left : Option (Bor (List ℕ)) → List (List ℕ)
 parts_left None = []
 parts_left (Some text) = slice_split (λ b. b == byte ",") text.now

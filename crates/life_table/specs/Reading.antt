@@ -41,7 +41,7 @@ name_in _ = None
 abbrev pub begins_rule_line : List ℕ → Bool
 begins_rule_line line = begins_with line (codes "@RULE") && list_any is_whitespace (take 1 (drop 5 line))
 
--- the rule line has a rule text behind these that is a name
+-- the rule line has a rule text after these that is a name
 abbrev pub name_on : List ℕ → Option (List ℕ)
 name_on line = if begins_rule_line line then name_in (rule_of (drop 5 line)) else None
 
@@ -76,15 +76,15 @@ first_some [] = None
 first_some (None ∷ options) = first_some options
 first_some (Some x ∷ options) = Some x
 
--- the first line that isn't passed over, and all behind it
+-- the first line that isn't passed over, and all after it
 abbrev pub from_rule : List NumberedLine → List NumberedLine
 from_rule lines = from_first (λ line. not (is_passed_over line.1)) lines
 
--- the first table line behind the rule line, and all behind it
+-- the first table line after the rule line, and all after it
 abbrev pub from_table : List NumberedLine → List NumberedLine
 from_table lines = from_first (λ line. is_table_line line.1) (drop 1 (from_rule lines))
 
--- the lines of the table: behind the table line, up to the next section
+-- the lines of the table: after the table line, up to the next section
 abbrev pub table_lines : List NumberedLine → List NumberedLine
 table_lines lines = up_to (λ line. is_section_line line.1) (drop 1 (from_table lines))
 
@@ -104,7 +104,7 @@ table_texts lines = contents (table_lines lines)
 unfoldable pub name_of : List NumberedLine → Option (List ℕ)
 name_of lines = option_and_then (λ line. name_on line.1) (slice_get (from_rule lines) 0)
 
--- no table line came, or one, or one and a further section behind it
+-- no table line came, or one, or one and a further section after it
 unfoldable pub section_of : List NumberedLine → Section
 section_of lines =
     if is_empty (from_table lines) then Ahead
@@ -116,7 +116,7 @@ section_of lines =
 abbrev pub is_descriptor : List ℕ → Bool
 is_descriptor text = list_any (λ b. b == byte ":") text
 
--- what stands before the first colon, and behind it
+-- what stands before the first colon, and after it
 abbrev pub key_of : List ℕ → List ℕ
 key_of text = trim (before_first (λ b. b == byte ":") text)
 
@@ -215,7 +215,7 @@ is_name_byte b = is_ascii_graphic b && not (list_any (λ c. b == c) (codes ",={}
 abbrev pub is_variable_name : List ℕ → Bool
 is_variable_name word = not (is_empty word) && list_all is_name_byte word && not (list_any is_ascii_digit (take 1 word))
 
--- the name before the equals sign, and what stands behind it
+-- the name before the equals sign, and what comes after it
 abbrev pub variable_name : List ℕ → List ℕ
 variable_name text = trim (before_first (λ b. b == byte "=") (drop 3 text))
 
@@ -257,7 +257,7 @@ variable_states n_states vars name list =
     else (if is_list list then states_listed n_states vars (within_braces list) else None))
     else None
 
--- the variable that a line writes behind these variables, if it writes one
+-- the variable that a line writes after these variables, if it writes one
 unfoldable pub variable_of : ℕ → List Var → List ℕ → Option Var
 variable_of n_states vars text =
     option_map (λ states. record { name = variable_name text; states = states }) (variable_states n_states vars (variable_name text) (list_text text))
@@ -320,7 +320,7 @@ is_bound inputs (entries.Var i) = list_any (is_variable i) inputs
 
 -- 6. What lines say
 
--- what the table's texts say, behind this name and in this section
+-- what the table's texts say, after this name and in this section
 abbrev pub parsed_in : Option (List ℕ) → Section → List NumberedLine → Parsed
 parsed_in name section texts =
     let n_states = states_of (texts_of_lines texts) in
@@ -363,7 +363,7 @@ abbrev pub if_symmetry : Option Neighborhood → Option Symmetry → Result Dire
 if_symmetry neighborhood None = Err UnsupportedSymmetry
 if_symmetry neighborhood (Some symmetry) = if agree neighborhood (Some symmetry) then Ok (Orders symmetry) else Err UnsupportedSymmetry
 
--- A descriptor: one of three, given for the first time, with one of its values. (Behind the first variable or transition all three
+-- A descriptor: one of three, given for the first time, with one of its values. (After the first variable or transition all three
 -- were given.)
 unfoldable pub parse_descriptor : Option ℕ → Option Neighborhood → Option Symmetry → List ℕ → Result Directive Kind
 parse_descriptor n_states neighborhood symmetry text =
@@ -389,7 +389,7 @@ parse_settled n_states neighborhood vars lines number text =
     if is_variable_line text then if_variable (variable_of n_states vars text)
     else if_transition vars lines (transition_of n_states (neighbour_count neighborhood) vars number text)
 
--- they stand behind all three descriptors
+-- they comes after all three descriptors
 abbrev pub parse_rest : Option ℕ → Option Neighborhood → Option Symmetry → List Var → List Transition → ℕ → List ℕ → Result Directive Kind
 parse_rest (Some n_states) (Some neighborhood) (Some symmetry) vars lines number text = parse_settled n_states neighborhood vars lines number text
 parse_rest _ _ _ vars lines number text = Err BadDescriptor
@@ -410,7 +410,7 @@ parse_in_section Ahead parsed number line = parse_ahead parsed.name line
 parse_in_section Open parsed number line = parse_in_table parsed number line
 parse_in_section Behind parsed number line = Ok Nothing
 
--- what a line says behind lines that say this, or the first rule of the format that it breaks
+-- what a line says after lines that say this, or the first rule of the format that it breaks
 unfoldable pub parse_line : Parsed → ℕ → List ℕ → Result Directive Kind
 parse_line parsed number line = if is_too_long line then Err LineTooLong else parse_in_section parsed.section parsed number line
 
@@ -420,11 +420,11 @@ fault_in (Err kind) = Some kind
 
 -- 8. The whole file
 
--- the number of the line behind these, as far as numbers go
+-- the number of the line after these, as far as numbers go
 abbrev pub number_after : List (List ℕ) → ℕ
 number_after before = min (length before + 1) (2 ^ 64 - 1)
 
--- the first rule of the format that a line breaks behind these lines, if it breaks one
+-- the first rule of the format that a line breaks after these lines, if it breaks one
 unfoldable pub broken_table_rule : List (List ℕ) → List ℕ → Option Kind
 broken_table_rule before line = fault_in (parse_line (parsed_by (numbered_from 1 before)) (number_after before) line)
 

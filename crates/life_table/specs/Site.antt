@@ -18,10 +18,10 @@ centre_of site = slice_index site.cells.now 0
 abbrev pub others_of : Site → List ℕ
 others_of site = drop 1 site.cells.now
 
--- a cell with one to eight neighbours, of which is told what they may be, where each variable has a state
+-- a cell with one to eight neighbours, of which it is known what they may be, where each variable has a state
 pub record IsSite (site : Site) : Type 0 where
   pub some : 1 < length site.cells.now
-  pub room : length site.cells.now ≤ 9
+  pub space : length site.cells.now ≤ 9
   pub choosable : Consistent site.vars.now [] []
   pub seen : IsSeen site.vars.now (others_of site) site.seen.now
 

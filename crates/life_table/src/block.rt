@@ -32,7 +32,7 @@ fn put(sets: &mut [u64], i: usize, lines: u64)
 
 /// Puts lines into the sets of a variable's states at place `p`.
 fn put_variable(sets: &mut [u64], var: &Var, p: usize, lines: u64)
-    requires room { length sets.old ≡ 2304 }
+    requires space { length sets.old ≡ 2304 }
     requires place { p < 9 }
     ensures put { (k s : ℕ) → bit_at lines k ≡ 1 → s < 256 → IsTrue (has_state var.now s)
         → bit_at (slice_index sets.new (256 * p + s)) k ≡ 1 }
@@ -47,7 +47,7 @@ fn put_variable(sets: &mut [u64], var: &Var, p: usize, lines: u64)
 
 /// Puts lines into the sets of the states that their entry at place `p` may be.
 fn put_entry(sets: &mut [u64], vars: &[Var], entry: Entry, p: usize, lines: u64)
-    requires room { length sets.old ≡ 2304 }
+    requires space { length sets.old ≡ 2304 }
     requires place { p < 9 }
     requires entry { IsEntry 256 vars.now entry }
     ensures put { (k : ℕ) → bit_at lines k ≡ 1 → InSets vars.now entry p k sets.new }
@@ -68,7 +68,7 @@ fn is_same(entry: Entry, other: Entry) -> bool
 
 /// Those of at most 64 lines that have this entry at place `p`.
 fn lines_with(lines: &[Transition], p: usize, entry: Entry) -> u64
-    requires room { length lines.now ≤ 64 }
+    requires space { length lines.now ≤ 64 }
     requires place { All (λ (line : Transition). p < length line.inputs) lines.now }
     ensures only { (k : ℕ) (d : Transition) → bit_at result k ≡ 1 → k < length lines.now
         → entry_at (slice_index_or lines.now k d).inputs p ≡ entry }
@@ -87,7 +87,7 @@ fn lines_with(lines: &[Transition], p: usize, entry: Entry) -> u64
 /// Puts each of at most 64 lines into the sets of what its input at place `p` may be, the lines with one entry at once.
 fn put_place(sets: &mut [u64], vars: &[Var], lines: &[Transition], p: usize)
     requires sets { length sets.old ≡ 2304 }
-    requires room { length lines.now ≤ 64 }
+    requires space { length lines.now ≤ 64 }
     requires place { p < 9 }
     requires inputs { All (λ (line : Transition). p < length line.inputs) lines.now }
     requires entries { All (λ (line : Transition). All (IsEntry 256 vars.now) line.inputs)
@@ -128,7 +128,7 @@ impl Block {
 
     /// Puts each of at most 64 lines into the sets of the places before `p` where it has another entry than there.
     fn put_pairs(&mut self, lines: &[Transition], p: usize)
-        requires room { length lines.now ≤ 64 }
+        requires space { length lines.now ≤ 64 }
         requires place { p < 9 }
         requires inputs { All
             (λ (line : Transition). (p < length line.inputs) × (length line.inputs ≤ 9)) lines.now }
@@ -144,7 +144,7 @@ impl Block {
 
     /// At most 64 lines of `n` inputs.
     fn of(vars: &[Var], lines: &[Transition], n: usize) -> Block
-        requires room { length lines.now ≤ 64 }
+        requires space { length lines.now ≤ 64 }
         requires few { n ≤ 9 }
         requires inputs { All (λ (line : Transition). length line.inputs ≡ n) lines.now }
         requires entries { All (λ (line : Transition). All (IsEntry 256 vars.now) line.inputs)
@@ -226,7 +226,7 @@ impl Block {
 
     /// The lines that may give something at one of the images of `n` cells.
     pub(crate) fn that_may_give(&self, images: &Images, n: usize) -> u64
-        requires room { n ≤ 9 }
+        requires space { n ≤ 9 }
         requires few { images.now.count ≤ 16 }
         ensures { (k j : ℕ) → k < 64 → j < images.now.count
             → MayFit self.now (take n (slice_index_or images.now.cells j [])) k

@@ -56,7 +56,7 @@ pub(crate) fn free_after(
 
 /// Counts one more input that is this variable, and says how many variables there are then.
 fn add_variable(groups: &mut [Group; 9], count: usize, number: u64) -> usize
-    requires room { count < 9 }
+    requires space { count < 9 }
     requires few { All (λ g. g.times < 9) (take count groups.old) }
     ensures added { take result groups.new ≡ add_to number (take count groups.old) }
     ensures count { result ≤ count + 1 }

@@ -15,7 +15,7 @@ pub(crate) struct Images {
 /// Image number `j`: the turns come first, and then the reflected ones.
 fn image_number(cells: &[State], ways: Turns, j: usize) -> [State; 9]
     requires some { 1 < length cells.now }
-    requires room { length cells.now ≤ 9 }
+    requires space { length cells.now ≤ 9 }
     requires positive { 0 < ways.step }
     requires turns { ways.count ≡ (length cells.now - 1) / ways.step }
     requires number { j < 2 * ways.count }
@@ -32,7 +32,7 @@ impl Images {
     /// The images in the turns that are given.
     pub(crate) fn new(cells: &[State], ways: Turns) -> Images
         requires some { 1 < length cells.now }
-        requires room { length cells.now ≤ 9 }
+        requires space { length cells.now ≤ 9 }
         requires positive { 0 < ways.step }
         requires turns { ways.count ≡ (length cells.now - 1) / ways.step }
         ensures few { result.count ≤ 16 }

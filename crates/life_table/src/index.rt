@@ -105,7 +105,7 @@ fn query_of(symmetry: Symmetry, site: &Site) -> Query
 /// The lines of a block that may give something: all of them that do are there.
 fn of_block(site: &Site, block: &Block, query: &Query) -> u64
     requires some { 0 < length site.now.cells.now }
-    requires room { length site.now.cells.now ≤ 9 }
+    requires space { length site.now.cells.now ≤ 9 }
     requires query { IsQuery site.now query.now }
     ensures { (k : ℕ) (v : List ℕ) → k < 64 → Asks site.now query.now v
         → MayFit block.now (centre_of site.now ∷ v) k → bit_at result k ≡ 1 }

@@ -127,14 +127,14 @@ impl Seen {
             × (bit_at (places self.now (slice_index_or inputs.now i (Entry.Fixed 0))) k ≡ 1))
             → IsTrue result }
     {
-        let mut taken = 0;
+        let mut consumed = 0;
         for entry in inputs {
             let places = self.places(*entry);
             if places == 0 {
                 return false;
             }
-            taken |= places;
+            consumed |= places;
         }
-        taken == u16::MAX
+        consumed == u16::MAX
     }
 }

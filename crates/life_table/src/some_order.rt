@@ -100,7 +100,7 @@ impl Block {
 
     /// The lines of which so many inputs of the first `n` after the centre's may be one of these states.
     fn with_inputs_among(&self, n: usize, states: &[State], times: usize) -> u64
-        requires room { n ≤ 8 }
+        requires space { n ≤ 8 }
         requires few { times ≤ n }
         ensures { (k : ℕ) (v : List ℕ) → k < 64 → length v ≡ n → MayComeAfter self.now v k
             → times ≤ count_by (is_among states.now) v → bit_at result k ≡ 1 }
@@ -126,7 +126,7 @@ impl Block {
 
     /// Of these lines those of which each input after the centre's may be some neighbour.
     fn with_each_input(&self, others: &[State], counts: &Counts, lines: u64) -> u64
-        requires room { length others.now ≤ 8 }
+        requires space { length others.now ≤ 8 }
         requires counts { AreCounts others.now counts.now }
         ensures { KeepsOrders self.now others.now lines result }
     {
@@ -142,7 +142,7 @@ impl Block {
 
     /// Of these lines those that have inputs enough for the neighbours of each state.
     fn with_each_state(&self, others: &[State], counts: &Counts, lines: u64) -> u64
-        requires room { length others.now ≤ 8 }
+        requires space { length others.now ≤ 8 }
         requires counts { AreCounts others.now counts.now }
         ensures { KeepsOrders self.now others.now lines result }
     {
@@ -178,7 +178,7 @@ impl Block {
     /// neighbour has.
     fn with_pair_at(&self, others: &[State], counts: &Counts, p: usize, lines: u64) -> u64
         requires place { p < length others.now }
-        requires room { length others.now ≤ 8 }
+        requires space { length others.now ≤ 8 }
         requires counts { AreCounts others.now counts.now }
         ensures { (k centre : ℕ) (v : List ℕ) → k < 64 → Contains (orders others.now) v
             → MayFit self.now (centre ∷ v) k → bit_at lines k ≡ 1 → bit_at result k ≡ 1 }
@@ -193,7 +193,7 @@ impl Block {
 
     /// Of these lines those that have two neighbours of one state for each two inputs that are one entry.
     fn with_pairs(&self, others: &[State], counts: &Counts, lines: u64) -> u64
-        requires room { length others.now ≤ 8 }
+        requires space { length others.now ≤ 8 }
         requires counts { AreCounts others.now counts.now }
         ensures { (k centre : ℕ) (v : List ℕ) → k < 64 → Contains (orders others.now) v
             → MayFit self.now (centre ∷ v) k → bit_at lines k ≡ 1 → bit_at result k ≡ 1 }
@@ -210,7 +210,7 @@ impl Block {
     /// Of these lines those that have, for each set of the states, as many inputs that may be one of the set as there are neighbours that are one.
     /// The sets of all states but one leave the fewest lines, so they come first.
     fn with_every_subset(&self, others: &[State], states: &[State], lines: u64) -> u64
-        requires room { length others.now ≤ 8 }
+        requires space { length others.now ≤ 8 }
         requires few { length states.now ≤ 8 }
         ensures { KeepsOrders self.now others.now lines result }
     {
@@ -230,7 +230,7 @@ impl Block {
     /// The lines that may give something at a cell in some order of its neighbours, of which these are the counts.
     pub(crate) fn that_may_give_in_some_order(&self, cells: &[State], counts: &Counts) -> u64
         requires some { 0 < length cells.now }
-        requires room { length cells.now ≤ 9 }
+        requires space { length cells.now ≤ 9 }
         requires counts { AreCounts (drop 1 cells.now) counts.now }
         ensures { (k : ℕ) → k < 64 → MayFitInSomeOrder self.now cells.now k → bit_at result k ≡ 1 }
     {

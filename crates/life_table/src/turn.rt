@@ -24,7 +24,7 @@ pub(crate) fn place_before(i: usize, n: usize, reflect: bool) -> usize
 /// A cell with its neighbours turned by r, or reflected and then turned.
 pub(crate) fn image_of(cells: &[State], reflect: bool, r: usize) -> [State; 9]
     requires some { 1 < length cells.now }
-    requires room { length cells.now ≤ 9 }
+    requires space { length cells.now ≤ 9 }
     requires step { r ≤ 8 }
     ensures { take (length cells.now) result
         ≡ slice_index cells.now 0

@@ -12,7 +12,7 @@ use Rattle.life_quad.specs.Keeping.{AddsOnly}
 use Rattle.life_quad.specs.Store.{Nodes, stored_squares}
 use Rattle.life_canon.specs.Files.{Refuses}
 use Rattle.life_canon.specs.ReadWhole.{ReadsWhole}
-use Rattle.life_canon.specs.Room.{AddsFile, room_for}
+use Rattle.life_canon.specs.Space.{AddsFile, sufficient_for}
 use Rattle.life_canon.specs.Running.{AddsForRead, HasRead, ReadRefuses, ReadsPattern, ReadsSource}
 use Rattle.life_canon.specs.Running as reading
 use Rattle.life_canon.specs.Store.{IsRead}
@@ -37,13 +37,13 @@ squares_of_input old new input adds distinct not_blank = record {
 pub too_small : {X : Type 0} (old new : Nodes) (source : SourceRun) (result : Result X Fault) → ReadsSource (2 ^ 30) old new source result
     → AreOfInput (stored_squares old) source.before (stored_squares new) → result ≡ Err (fault_of Full) → IsTooSmallFor (stored_squares old) source new
 too_small old new source result reads squares full =
-    let room = reads.room full in
+    let space = reads.space full in
     record {
       squares = squares;
       lacks = reads.needed full;
-      read = room.bytes;
-      came = room.came;
-      tight = subst (λ limit. limit < length (stored_squares old) + room_for (length room.bytes)) (sym reads.keeps.limit) room.tight;
+      read = space.bytes;
+      came = space.came;
+      tight = subst (λ limit. limit < length (stored_squares old) + sufficient_for (length space.bytes)) (sym reads.keeps.limit) space.tight;
     }
 
 pub too_small_alone : {X : Type 0} (old new : Nodes) (source : SourceRun) (result : Result X Fault) → ReadsSource (2 ^ 30) old new source result
@@ -106,7 +106,7 @@ nothing_comes items gives refuses source old new fault limit empty squares f rea
   ok = tt;
   err = no_pattern refuses source new fault (read.reads.keeps.limit ∙ limit) f read.fault
       (λ full. too_small_alone old new source (Err fault) read.reads squares empty (ap (λ (e : Fault). Err e) full));
-  told = read.reads.told;
+  reported = read.reads.reported;
 }
 
 -- what a call on the pattern of a file answers comes of the file
@@ -117,7 +117,7 @@ pub comes_of_pattern : {X : Type 0} (items : X → List ℕ) (gives : List ℕ �
 comes_of_pattern items gives refuses source store pattern r has works is err = record {
   ok = text_of_pattern gives items source store pattern r has is;
   err = err;
-  told = λ failed. let bad : 0 ≡ 1 = sym works ∙ failed in absurd cc;
+  reported = λ failed. let bad : 0 ≡ 1 = sym works ∙ failed in absurd cc;
 }
 
 -- the status of a fault

@@ -34,7 +34,7 @@ fault_line refusal =
 abbrev pub refusal_of : Fault → Refusal
 refusal_of fault = record { fault = fault; in_table = false; made = 0 }
 
--- the status that a fault ends the program with: 3 for devices, 4 for want of room, else 2
+-- the status that a fault ends the program with: 3 for devices, 4 because the store was full, else 2
 abbrev pub status_of : Kind → ℕ
 status_of kinds.ReadFault = 3
 status_of kinds.WriteFault = 3

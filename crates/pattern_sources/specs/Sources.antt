@@ -11,7 +11,7 @@ use Rattle.life_base.specs.declared.kind.Kind.TheVariants.{Full, InputTooLong, M
 use Rattle.life_quad.specs.Store.{Nodes, stored_squares}
 use Rattle.life_canon.specs.Files.{Refuses}
 use Rattle.life_canon.specs.Needs.{IsNew}
-use Rattle.life_canon.specs.Room.{IsSquareOfFile, room_for}
+use Rattle.life_canon.specs.Space.{IsSquareOfFile, sufficient_for}
 use Rattle.life_canon.specs.Running.{LacksForRead}
 use Rattle.life_canon.specs.Store.{IsShortageOf}
 use Rattle.life_canon.specs.Texts.{FileHasMoreCells}
@@ -39,7 +39,7 @@ pub record IsTooSmallFor (base : List Tree) (source : SourceRun) (store : Nodes)
   pub lacks : LacksForRead MAX_LEVEL (2 ^ 30) store source
   pub read : List ℕ
   pub came : Consumes source.before source.after read
-  pub tight : store.limit < length base + room_for (length read)
+  pub tight : store.limit < length base + sufficient_for (length read)
 
 -- the store holds its limit, and is too small for what was read of the input, besides the squares of `base`; or a growth of memory was refused
 abbrev pub IsShortageFor : List Tree → SourceRun → Nodes → Fault → Type 0
@@ -55,7 +55,7 @@ pub record HasText (gives : List ℕ → List ℕ → Type 0) (source : SourceRu
   pub read : ReadAll (2 ^ 30) source.before source.after bytes
   pub is : gives bytes text
 
--- why nothing comes of a file: it isn't read; all of it was read, and `refuses` relates its bytes to the fault; or room or memory is wanted
+-- why nothing comes of a file: it isn't read; all of it was read, and `refuses` relates its bytes to the fault; or the store is full or memory is refused
 pub data HasNoText (refuses : List ℕ → Fault → Type 0) (source : SourceRun) (fault : Fault) : Type 0 where
   by_input : InputRefuses source fault → HasNoText refuses source fault
   by_file : (bytes : List ℕ) → ReadAll (2 ^ 30) source.before source.after bytes → refuses bytes fault → HasNoText refuses source fault
@@ -66,7 +66,7 @@ pub record ComesOf {A : Type 0} (items : A → List ℕ) (gives : List ℕ → L
     (result : Result A Fault) : Type 0 where
   pub ok : IfOk result (λ a. HasText gives source (items a))
   pub err : IfErr result (HasNoText refuses source)
-  pub told : source.failures ≡ 1 → IsErrAnd result (λ fault. fault.kind ≡ ReadFault)
+  pub reported : source.failures ≡ 1 → IsErrAnd result (λ fault. fault.kind ≡ ReadFault)
 
 -- the store holds no squares but such
 abbrev pub HoldsNoneBut : (Tree → Type 0) → Nodes → Type 0

@@ -101,7 +101,7 @@ pub fn status(kind: Kind) -> u8
 /// Writes the line of a fault that is none of a file's text, and returns its status.
 pub fn refuse<E: Sink>(err: &mut E, kind: Kind) -> u8
     requires { E.failures err.old ≡ 0 }
-    ensures told { Reports (sink_run E.contents E.failures E.stalled err.old err.new)
+    ensures reported { Reports (sink_run E.contents E.failures E.stalled err.old err.new)
         (fault_line (refusal_of (fault_of kind))) }
     ensures status { result ≡ status_of kind }
 {

@@ -120,10 +120,10 @@ answers laws (tasks.Convert Mc) file second status text h = (h.0, canonical laws
 answers laws (tasks.Same form) file second status text h =
     (accepted_is_ok file h.0, accepted_is_ok second h.1, compares laws form file second status text h.0 h.1 h.3)
 answers laws tasks.Show file second status text h =
-    let told = canon_text 62 h.1.universe in
-    let c : IsCanonical 62 file told = record { universe = h.1.universe; reads = h.1.reads; is = refl } in
-    let s = shown_is laws.on_plane laws.unique laws.files file text told h.1 c in
-    (h.0, (s.0, s.1, (told, canonical laws file told c, s.2)))
+    let reported = canon_text 62 h.1.universe in
+    let c : IsCanonical 62 file reported = record { universe = h.1.universe; reads = h.1.reads; is = refl } in
+    let s = shown_is laws.on_plane laws.unique laws.files file text reported h.1 c in
+    (h.0, (s.0, s.1, (reported, canonical laws file reported c, s.2)))
 answers laws tasks.Step file second status text h = (h.0, stepped_is laws.on_plane file text h.1)
 answers laws tasks.StepTable file second status text h =
     (h.0, stepped_text laws.on_plane laws.read laws.decide second file text h.1.0 ((laws.grammars (lines_of second) h.1.0).0 h.1.1) h.1.2)
@@ -158,7 +158,7 @@ module _ (laws : LayersAgree) (task : Task) (first second : SourceRun) (status :
 ended : (source : SourceRun) (bytes read : List ℕ) → ReadAll (2 ^ 30) source.before source.after read → source.before ≡ Some bytes
     → (source.after ≡ Some []) × IsShortFile bytes
 ended source bytes read r e = (
-  at_end source.before source.after bytes read r.taken r.ended e,
+  at_end source.before source.after bytes read r.consumed r.ended e,
   subst IsShortFile (all_read (2 ^ 30) source.before source.after bytes read r e) r.within,
 )
 
@@ -173,7 +173,7 @@ second_ended task first second status text h other has e = ended second other h.
 
 -- ---- the texts of two runs
 
--- what two runs wrote behind what their outputs held
+-- what two runs wrote after what their outputs held
 pub two_written : {R : List ℕ → List ℕ → Type 0} (old new other_old other_new : Option (List ℕ)) (held kept text other : List ℕ) → Appends old new text
     → Appends other_old other_new other → old ≡ Some held → other_old ≡ Some kept → R text other
     → (text : List ℕ) × (other : List ℕ) × (new ≡ Some (held ++ text)) × (other_new ≡ Some (kept ++ other)) × R text other

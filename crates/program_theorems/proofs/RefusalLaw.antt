@@ -37,7 +37,7 @@ use Rattle.claims.specs.Generation as steps
 use Rattle.claims.specs.Table.{Table, table_of}
 use Rattle.claims.specs.ByTable.{IsUnsteppedBy, IsFirstReasonBy}
 use Rattle.claims.specs.ByTable as table_steps
-use Rattle.generation_theorems.specs.ManyGenerations.{IsFirstReasonWithin, IsNotTakenFurther}
+use Rattle.generation_theorems.specs.ManyGenerations.{IsFirstReasonWithin, IsNotAdvanced}
 use Rattle.generation_theorems.specs.ManyGenerations as many
 use Rattle.generation_theorems.proofs.FurtherLaw.{reason-of}
 use Rattle.theorems.proofs.CellsLaw.{says_more}
@@ -154,8 +154,8 @@ module _ (laws : LayersAgree) (task : Task) (first second : SourceRun) (output :
   abbrev Comes : Type 0
   Comes = Origin task first second output refusal
 
-  abbrev Told : Bool → Type 0
-  Told of_table =
+  abbrev Reported : Bool → Type 0
+  Reported of_table =
       (file other : List ℕ) → first.before ≡ Some file → (HasClaimedSecond task → second.before ≡ Some other)
       → RefusesTask task file other of_table refusal.fault
 
@@ -168,23 +168,23 @@ module _ (laws : LayersAgree) (task : Task) (first second : SourceRun) (output :
   of_second_input has (sources.by_source is failed) = from_source is (inr failed)
 
   -- a file has a fault
-  of_pattern : refusal.in_table ≡ false → (bytes : List ℕ) → LayerRefuses 62 bytes refusal.fault → Told false → Comes
-  of_pattern e bytes h told =
+  of_pattern : refusal.in_table ≡ false → (bytes : List ℕ) → LayerRefuses 62 bytes refusal.fault → Reported false → Comes
+  of_pattern e bytes h reported =
       let kind = (laws.kinds (lines_of bytes) refusal.fault h).0 in
-      from_files false told (no_write_in is_file_kind refusal.fault.kind refl kind)
+      from_files false reported (no_write_in is_file_kind refusal.fault.kind refl kind)
       (line_of refusal false (ap (λ (v : Bool). is_of_table v refusal.fault.kind) e ∙ file_line refusal.fault.kind kind))
 
   -- a pattern has a fault of no line
-  of_none : (of_table : Bool) → IsPlaceless refusal.fault → Told of_table → Comes
-  of_none of_table none told = from_files of_table told none.kind (line_of_none refusal of_table none.line)
+  of_none : (of_table : Bool) → IsPlaceless refusal.fault → Reported of_table → Comes
+  of_none of_table none reported = from_files of_table reported none.kind (line_of_none refusal of_table none.line)
 
   -- the canonical text of a file
   module _ (writes : (bytes other text : List ℕ) → IsCanonical 62 bytes text → layer.TaskWrites task bytes other 0 text) (alone : LayerSecond task → ⊥)
       (e : refusal.in_table ≡ false)
-      (told : (file other : List ℕ) → IsShortFile file × (pattern_of file ≡ Err refusal.fault) → RefusesTask task file other false refusal.fault)
+      (reported : (file other : List ℕ) → IsShortFile file × (pattern_of file ≡ Err refusal.fault) → RefusesTask task file other false refusal.fault)
       (store : Nodes) where
     of_reading : ReadRefuses 62 (2 ^ 30) store first refusal.fault → Comes
-    of_reading (running.by_file bytes read h) = of_pattern e bytes h (λ file other f g. told file other (read_as _ _ bytes file _ read f h))
+    of_reading (running.by_file bytes read h) = of_pattern e bytes h (λ file other f g. reported file other (read_as _ _ bytes file _ read f h))
     of_reading (running.by_want want) = from_want (want_as store refusal.fault want)
     of_reading (running.by_length is came) = from_length is (inl came)
     of_reading (running.by_source is failed) = from_source is (inl failed)
@@ -281,7 +281,7 @@ module _ (laws : LayersAgree) (first second : SourceRun) (output : SinkRun) (ref
       (λ file other f g. (
         short _ _ bytes file read f,
         refl,
-        inr (subst (λ (b : List ℕ). IsNotTakenFurther n b refusal.fault) (all_read (2 ^ 30) first.before first.after file bytes read f) un),
+        inr (subst (λ (b : List ℕ). IsNotAdvanced n b refusal.fault) (all_read (2 ^ 30) first.before first.after file bytes read f) un),
       ))
 
   -- two files
@@ -519,7 +519,8 @@ module _ (task : Task) (first second : SourceRun) (output : SinkRun) (refusal : 
   want_line fault (inr is) = ap (λ (f : Fault). f.place.line) is
 
   pub reason_of : Origin task first second output refusal → Reason task file other is_unread Unwritten refusal
-  reason_of (from_files of_table told kind line) = record { of_table = of_table; reason = of_files of_table refusal.fault (told file other e f); line = line }
+  reason_of (from_files of_table reported kind line) =
+      record { of_table = of_table; reason = of_files of_table refusal.fault (reported file other e f); line = line }
   reason_of (from_want want) = of_no_file refusal.fault refl (want_line refusal.fault want) (of_want refusal.fault want)
   reason_of (from_length is (inl came)) =
       of_no_file (claimed_fault_of kinds.InputTooLong) is refl (of_length (inl (beyond (2 ^ 30) first.before first.after file came e)))
@@ -542,7 +543,7 @@ no_want fault (inr is) e = other_kind fault kinds.Memory is (λ n. cc) e
 
 pub cut_of : (task : Task) (first second : SourceRun) (output : SinkRun) (refusal : Refusal) → Origin task first second output refusal
     → refusal.fault.kind ≡ kinds.WriteFault → IsCut task first second output
-cut_of task first second output refusal (from_files of_table told kind line) e = absurd (kind e)
+cut_of task first second output refusal (from_files of_table reported kind line) e = absurd (kind e)
 cut_of task first second output refusal (from_want want) e = absurd (no_want refusal.fault want e)
 cut_of task first second output refusal (from_length is h) e = absurd (other_kind refusal.fault kinds.InputTooLong is (λ n. cc) e)
 cut_of task first second output refusal (from_source is h) e = absurd (other_kind refusal.fault kinds.ReadFault is (λ n. cc) e)
@@ -556,7 +557,7 @@ no_cause failures stalled (inr h) e f = cc
 
 -- ---- devices
 
--- what was told stands behind what the device held
+-- what was reported comes after what the device held
 pub held_by : (output : SinkRun) (heard text : List ℕ) → Reports output text → output.before ≡ Some heard
     → DeviceHolds heard text ((output.failures ≡ 1) ⊎ (output.stalled ≡ true)) output.after
 held_by output heard text (inl h) e = inl (appended output.before output.after heard text h e)
@@ -566,10 +567,10 @@ pub some_failed : {B : Type 0} (failures : B → ℕ) (new : Option B) → optio
 some_failed failures None e = cc
 some_failed failures (Some b) e = e
 
-pub told_of_some : {B : Type 0} (failures : B → ℕ) (new : Option B) (P : Type 0) → IfSome new (λ b. failures b ≡ 1 → P)
+pub reported_of_some : {B : Type 0} (failures : B → ℕ) (new : Option B) (P : Type 0) → IfSome new (λ b. failures b ≡ 1 → P)
     → IsSomeAnd new (λ b. failures b ≡ 1) → P
-told_of_some failures None P h is = absurd is
-told_of_some failures (Some b) P h is = h is
+reported_of_some failures None P h is = absurd is
+reported_of_some failures (Some b) P h is = h is
 
 pub same_status : (k : Kind) → claimed_status_of k ≡ layer_status k
 same_status kinds.ReadFault = refl

@@ -5,7 +5,7 @@ use Rattle.life_base.specs.declared.fault.Fault.{Fault}
 use Rattle.life_base.specs.declared.kind.Kind.{Kind}
 use Rattle.life_base.specs.declared.kind.Kind.TheVariants.{ReadFault, WriteFault, Full, Memory}
 
--- the status with which a fault ends the program: 3 for devices, 4 for want of room or of memory, and else 2
+-- the status with which a fault ends the program: 3 for devices, 4 for a full store or refused memory, and else 2
 abbrev pub claimed_status_of : Kind → ℕ
 claimed_status_of ReadFault = 3
 claimed_status_of WriteFault = 3

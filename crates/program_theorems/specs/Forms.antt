@@ -30,7 +30,7 @@ claimed_image exchange columns rows p = record {
   cell = λ x y. p.cell (claimed_coordinate columns (if exchange then y else x)) (claimed_coordinate rows (if exchange then x else y));
 }
 
--- a shift behind one of the eight takes the first to the second
+-- a shift after one of the eight takes the first to the second
 abbrev pub IsClaimedTurnedShift : Pattern → Pattern → Type 0
 IsClaimedTurnedShift p q = (exchange : Bool) × (columns : Bool) × (rows : Bool) × IsClaimedShift (claimed_image exchange columns rows p) q
 
@@ -42,7 +42,7 @@ pub record AreRelated (relates : Pattern → Pattern → Type 0) (a b : List ℕ
   pub second_is : pattern_of b ≡ Ok second
   pub related : relates first second
 
--- both are files of one pattern, or of one that a shift takes to the other, or a shift behind a turn
+-- both are files of one pattern, or of one that a shift takes to the other, or a shift after a turn
 abbrev pub SameIn : Form → List ℕ → List ℕ → Type 0
 SameIn Placed a b = SayOnePattern a b
 SameIn Moved a b = AreRelated IsClaimedShift a b

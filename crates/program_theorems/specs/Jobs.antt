@@ -16,7 +16,7 @@ use Rattle.claims.specs.Generation.{SaysMoreCells, IsClaimedStep, IsUnstepped}
 use Rattle.claims.specs.Table.{Table, table_of}
 use Rattle.claims.specs.ByTable.{IsClaimedStepBy, IsUnsteppedBy}
 use Rattle.theorems.specs.Patterns.{IsRleOfFile}
-use Rattle.generation_theorems.specs.ManyGenerations.{IsClaimedTextLater, IsNotTakenFurther}
+use Rattle.generation_theorems.specs.ManyGenerations.{IsClaimedTextLater, IsNotAdvanced}
 use Rattle.program_theorems.specs.Forms.{SameIn, IsClaimedTextIn}
 use Rattle.program_theorems.specs.Faults.{claimed_status_of, claimed_fault_line}
 
@@ -91,13 +91,14 @@ RefusesTask tasks.StepTable file second of_table fault =
     IsShortFile second × (((of_table ≡ true) × (table_of second ≡ Err fault)) ⊎ (IsShortFile file × ((table : Table) × (table_of second ≡ Ok table)
     × (((of_table ≡ false) × (pattern_of file ≡ Err fault)) ⊎ ((of_table ≡ true) × IsUnsteppedBy table file fault)))))
 RefusesTask (tasks.Later n) file second of_table fault =
-    IsShortFile file × (of_table ≡ false) × ((pattern_of file ≡ Err fault) ⊎ IsNotTakenFurther n file fault)
+    IsShortFile file × (of_table ≡ false) × ((pattern_of file ≡ Err fault) ⊎ IsNotAdvanced n file fault)
 RefusesTask (tasks.LaterTable n) file second of_table fault =
     IsShortFile second × (((of_table ≡ true) × (table_of second ≡ Err fault)) ⊎ (IsShortFile file × ((table : Table) × (table_of second ≡ Ok table)
     × (((of_table ≡ false) × (pattern_of file ≡ Err fault)) ⊎ ((of_table ≡ true) × StepsEndBefore table n file fault)))))
 RefusesTask _ file second of_table fault = IsShortFile file × (of_table ≡ false) × (pattern_of file ≡ Err fault)
 
--- Why a run has no answer: what its files say; room or memory was wanted, to read them or for the squares of the answer; a file is too long; a file could
+-- Why a run has no answer: what its files say; the store is full or memory is refused, to read them or for the squares of the answer; a file is too long; a
+-- file could
 -- not be read; or the text could not be written.
 pub data IsReason (task : Task) (file second : List ℕ) (is_unread is_unwritten : Type 0) : Bool → Fault → Type 0 where
   of_files : (of_table : Bool) (fault : Fault) → RefusesTask task file second of_table fault → IsReason task file second is_unread is_unwritten of_table fault
@@ -117,6 +118,6 @@ pub record IsRefused (task : Task) (file second : List ℕ) (is_unread is_unwrit
   pub status_is : status ≡ claimed_status_of fault.kind
   pub line_is : line ≡ claimed_fault_line of_table fault
 
--- what a device holds that was given this text behind what it held: all of it, or a front of it where the device failed
+-- what a device holds that was given this text after what it held: all of it, or a prefix of it where the device failed
 abbrev pub DeviceHolds : (held text : List ℕ) → (is_broken : Type 0) → Option (List ℕ) → Type 0
 DeviceHolds held text is_broken after = (after ≡ Some (held ++ text)) ⊎ (is_broken × ((n : ℕ) × (after ≡ Some (held ++ take n text))))

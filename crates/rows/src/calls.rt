@@ -60,7 +60,7 @@ const CALLS: [(&[u8], u8, Call); 64] = [
     (b"in_store", 3, Call::Lending(Lending::InStore)),
     (b"in_full_store", 1, Call::Lending(Lending::InFullStore)),
     (b"least_limit", 1, Call::Lending(Lending::LeastLimit)),
-    (b"takes_room", 1, Call::Lending(Lending::TakesRoom)),
+    (b"takes_room", 1, Call::Lending(Lending::TakesSpace)),
     (b"serves", 1, Call::Lending(Lending::Serves)),
     (b"refused", 1, Call::Lent(Lent::Refused)),
     (b"read", 1, Call::Lent(Lent::Read)),

@@ -8,7 +8,7 @@ use crate::answer::{Answer, Show, show_list};
 use crate::fill::{fill_at_once, fill_plane, put, unfinished};
 use crate::row::{number_of, run_of, up_to};
 use crate::steps::{Change, Make, Measure, Question, Step, Verb, step_of};
-use crate::stores::ROOM;
+use crate::stores::SPACE;
 use life_base::{Bounds, Cell, Kind, MAX_LEVEL, Run, lines};
 use life_quad::{
     Id, NeighbourhoodMemory, Plain, Quarters, Seed, Shared, Squares, bounds, cells, divide, grow,
@@ -414,7 +414,7 @@ pub(crate) enum Kept {
 /// Adds the answers of the steps of a row, which are taken on a store of a limit, so many times.
 pub(crate) fn answer(alloc: Global, out: &mut Answer, kept: Kept, texts: [&[u8]; 3]) {
     let [limit, times, steps] = texts;
-    let limit = number_of(out, limit).min(ROOM);
+    let limit = number_of(out, limit).min(SPACE);
     let times = number_of(out, times);
     match kept {
         Kept::Shared => {

@@ -10,11 +10,11 @@ use life_quad::{Seed, Shared};
 use std::alloc::Global;
 
 /// More squares than a store may hold in these tests.
-pub(crate) const ROOM: u64 = 1 << 31;
+pub(crate) const SPACE: u64 = 1 << 31;
 
 /// A new store, for more squares than it may hold in these tests.
 pub(crate) fn new_store(alloc: Global) -> Shared {
-    Shared::seeded(alloc, Seed::fixed(), ROOM)
+    Shared::seeded(alloc, Seed::fixed(), SPACE)
 }
 
 /// Adds the answer of a part: a call that is lent a store, `|` and an input.
@@ -59,7 +59,7 @@ fn show_full(out: &mut Answer, store: &Shared) {
 /// Calls on one store of a limit, so many times: their answers, and whether the store is full then.
 fn in_store(alloc: Global, out: &mut Answer, texts: [&[u8]; 3]) {
     let [limit, times, parts] = texts;
-    let limit = number_of(out, limit).min(ROOM);
+    let limit = number_of(out, limit).min(SPACE);
     let mut store = Shared::seeded(alloc, Seed::fixed(), limit);
     for _ in 0..number_of(out, times) {
         take_parts(alloc, out, &mut store, parts);
@@ -79,8 +79,8 @@ fn answer_at(alloc: Global, part: &[u8], limit: u64) -> (Answer, u64)
 
 /// Calls on a store that the first of them fills: its answer, whether the store is full then, and the answers of the others.
 fn in_full_store(alloc: Global, out: &mut Answer, first: &[u8], others: &[u8]) {
-    let (_, room) = answer_at(alloc, first, ROOM);
-    let mut store = Shared::seeded(alloc, Seed::fixed(), room.min(ROOM));
+    let (_, space) = answer_at(alloc, first, SPACE);
+    let mut store = Shared::seeded(alloc, Seed::fixed(), space.min(SPACE));
     take_part(alloc, out, &mut store, first);
     out.text(" & ");
     show_full(out, &store);
@@ -95,19 +95,19 @@ const MOST: u64 = 4096;
 fn first_limit(alloc: Global, out: &mut Answer, part: &[u8], wanted: &str) -> u64
     ensures { result ≤ 2 ^ 31 }
 {
-    let mut first = ROOM;
+    let mut first = SPACE;
     for limit in 0..=MOST {
         let (answer, len) = answer_at(alloc, part, limit);
         let is_wanted = answer.line() == wanted;
-        if is_wanted && first == ROOM {
+        if is_wanted && first == SPACE {
             first = limit;
         }
-        let is_refused = answer.line() == "0 Full" && len == limit && first == ROOM;
+        let is_refused = answer.line() == "0 Full" && len == limit && first == SPACE;
         if !is_wanted && !is_refused {
             out.is_bad = true;
         }
     }
-    if first == ROOM {
+    if first == SPACE {
         out.is_bad = true;
     }
     first
@@ -123,18 +123,18 @@ pub(crate) enum Lending {
     /// The first limit that suffices for a part, and its answer.
     LeastLimit,
     /// Whether the first limit that suffices for a part is above 0, and its answer.
-    TakesRoom,
+    TakesSpace,
     /// A part in the store that just suffices for it, whether that is full then, the part again, another one, which no longer fits, and the first again.
     Serves,
 }
 
 /// Adds what a call on the first limit that suffices for a part answers.
 fn at_first_limit(alloc: Global, out: &mut Answer, call: Lending, part: &[u8], other: &[u8]) {
-    let (answer, _) = answer_at(alloc, part, ROOM);
+    let (answer, _) = answer_at(alloc, part, SPACE);
     let limit = first_limit(alloc, out, part, answer.line());
     match call {
         Lending::LeastLimit => limit.show(out),
-        Lending::TakesRoom => (limit > 0).show(out),
+        Lending::TakesSpace => (limit > 0).show(out),
         _ => {
             let mut store = Shared::seeded(alloc, Seed::fixed(), limit);
             take_part(alloc, out, &mut store, part);

@@ -89,8 +89,8 @@ module _ (decide : TablesDecide) (layer : LayerTable) (table : Table) (is : IsTa
       let p = files_agree bytes u h.1 in
       let q = files_agree text t.universe t.reads in
       let rule = passes h.2 (none_some _) in
-      let room = passes rule.1 (none_some _) in
-      let few = passes room.1 (none_some _) in
+      let space = passes rule.1 (none_some _) in
+      let few = passes space.1 (none_some _) in
       let known = passes few.1 (none_some _) in
       let single = passes known.1 (λ m. none_some _ m.2) in
       let inside = passes single.1 (none_some _) in
@@ -105,7 +105,7 @@ module _ (decide : TablesDecide) (layer : LayerTable) (table : Table) (is : IsTa
           rule = p.rule ∙ ap rule_in step.rule ∙ ap named (sym is.name);
           same_rule = q.rule ∙ ap rule_in step.same_rule ∙ sym p.rule;
           generation = q.generation ∙ step.generation ∙ ap (λ g. g + 1) (sym p.generation);
-          not_last = λ e. room.0 (sym p.generation ∙ e);
+          not_last = λ e. space.0 (sym p.generation ∙ e);
           few = λ m. few.0 (m.0, same_cells p.pattern.cell u.cell m.0 cells m.1, m.2);
           known = λ x y. subst (λ (o : Option ℕ). p.pattern.cell x y < unwrap_or o 0) (sym is.n_states)
               (below (p.pattern.cell x y) layer.n_states (λ l. known.0 (x, y, subst (λ n. layer.n_states ≤ n) (p.cells x y) l)));
@@ -132,11 +132,11 @@ module _ (decide : TablesDecide) (layer : LayerTable) (table : Table) (is : IsTa
     abbrev cells : p.pattern.cell ≡ u.cell
     cells = λ i x y. p.cells x y i
 
-    abbrev Told : Fault → Type 0
-    Told f = IsFirstReasonBy table p.pattern f
+    abbrev Reported : Fault → Type 0
+    Reported f = IsFirstReasonBy table p.pattern f
 
-    as_told : (other : Fault) → Some fault ≡ Some other → Told other → Told fault
-    as_told other e t = subst Told (sym (some_of fault other e)) t
+    as_reported : (other : Fault) → Some fault ≡ Some other → Reported other → Reported fault
+    as_reported other e t = subst Reported (sym (some_of fault other e)) t
 
     -- what the table decides for a cell of the pattern is the layer's answer there
     decides_here : (x y : ℤ) (answer : LayerAnswer) → AnswersAt layer u.cell x y answer → decided_at table p.pattern.cell x y ≡ answer_in answer
@@ -176,33 +176,33 @@ module _ (decide : TablesDecide) (layer : LayerTable) (table : Table) (is : IsTa
     leaves_is l = (l.0, l.1, l.2, outside_is l.0 l.1 l.3, l.4, decides_here l.0 l.1 (Becomes l.2) l.5)
 
     module _ (rule : p.pattern.rule ≡ named table.name) where
-      module _ (room : p.pattern.generation ≢ 2 ^ 64 - 1) (few : HasMoreClaimedCells (2 ^ 20) p.pattern.cell → ⊥) where
+      module _ (space : p.pattern.generation ≢ 2 ^ 64 - 1) (few : HasMoreClaimedCells (2 ^ 20) p.pattern.cell → ⊥) where
         behind_states : (HasStateBeyond table p.pattern.cell → ⊥)
             → IfElse (SomeAmbiguousCell (AnswersAt layer u.cell)) ((line : ℕ) × LayerFirst (AnswersAt layer u.cell) line × (Some fault ≡ Some (fault_on line)))
-            (IfElse (LayerLeaves (AnswersAt layer u.cell) 62) (Some fault ≡ Some (fault_of kinds.OutOfPlane)) (Some fault ≡ None)) → Told fault
-        behind_states known (inl h) = as_told (fault_on h.1.0) h.1.2 (two_states rule room few known h.1.0 (first_is h.1.0 h.1.1))
+            (IfElse (LayerLeaves (AnswersAt layer u.cell) 62) (Some fault ≡ Some (fault_of kinds.OutOfPlane)) (Some fault ≡ None)) → Reported fault
+        behind_states known (inl h) = as_reported (fault_on h.1.0) h.1.2 (two_states rule space few known h.1.0 (first_is h.1.0 h.1.1))
         behind_states known (inr (n, inl h)) =
-            as_told (fault_of kinds.OutOfPlane) h.1
-            (leaves_plane rule room few known (λ x y line e. n (x, y, line, answers_here x y (Ambiguous line) e)) (leaves_is h.0))
+            as_reported (fault_of kinds.OutOfPlane) h.1
+            (leaves_plane rule space few known (λ x y line e. n (x, y, line, answers_here x y (Ambiguous line) e)) (leaves_is h.0))
         behind_states known (inr (n, inr h)) = absurd (none_some fault (sym h.1))
 
       behind_rule : IfElse (u.generation ≡ 2 ^ 64 - 1) (Some fault ≡ Some (fault_of kinds.GenerationTooLarge))
           (IfElse (LayerMoreCells (2 ^ 20) u) (Some fault ≡ Some (fault_of kinds.TooManyCells))
           (IfElse (HasStateFrom layer.n_states u.cell) (Some fault ≡ Some (fault_of kinds.StateBeyondTable))
           (IfElse (SomeAmbiguousCell (AnswersAt layer u.cell)) ((line : ℕ) × LayerFirst (AnswersAt layer u.cell) line × (Some fault ≡ Some (fault_on line)))
-          (IfElse (LayerLeaves (AnswersAt layer u.cell) 62) (Some fault ≡ Some (fault_of kinds.OutOfPlane)) (Some fault ≡ None))))) → Told fault
-      behind_rule (inl h) = as_told (fault_of kinds.GenerationTooLarge) h.1 (last_generation rule (p.generation ∙ h.0))
+          (IfElse (LayerLeaves (AnswersAt layer u.cell) 62) (Some fault ≡ Some (fault_of kinds.OutOfPlane)) (Some fault ≡ None))))) → Reported fault
+      behind_rule (inl h) = as_reported (fault_of kinds.GenerationTooLarge) h.1 (last_generation rule (p.generation ∙ h.0))
       behind_rule (inr (g, inl h)) =
-          as_told (fault_of kinds.TooManyCells) h.1
+          as_reported (fault_of kinds.TooManyCells) h.1
           (many_cells rule (λ e. g (sym p.generation ∙ e)) (h.0.0, of_layer p.pattern.cell u.cell h.0.0 cells h.0.1, h.0.2))
       behind_rule (inr (g, inr (m, inl h))) =
-          as_told (fault_of kinds.StateBeyondTable) h.1 (state_beyond rule (λ e. g (sym p.generation ∙ e)) (λ c. m (more_cells c)) (beyond h.0))
+          as_reported (fault_of kinds.StateBeyondTable) h.1 (state_beyond rule (λ e. g (sym p.generation ∙ e)) (λ c. m (more_cells c)) (beyond h.0))
       behind_rule (inr (g, inr (m, inr (s, more)))) =
           behind_states (λ e. g (sym p.generation ∙ e)) (λ c. m (more_cells c)) (λ b. s (not_beyond b)) more
 
-    first_reason : TableRefusal 62 layer u (Some fault) → Told fault
+    first_reason : TableRefusal 62 layer u (Some fault) → Reported fault
     first_reason (inl h) =
-        as_told (fault_of kinds.RuleMismatch) h.1 (rule_differs (λ e. h.0 (name_of u.rule layer.name (sym p.rule ∙ e ∙ ap named is.name))))
+        as_reported (fault_of kinds.RuleMismatch) h.1 (rule_differs (λ e. h.0 (name_of u.rule layer.name (sym p.rule ∙ e ∙ ap named is.name))))
     first_reason (inr a) = behind_rule (p.rule ∙ ap rule_in (named_so u.rule layer.name a.0) ∙ ap named (sym is.name)) a.1
 
     pub unstepped_is : TableRefusal 62 layer u (Some fault) → IsUnsteppedBy table bytes fault

@@ -28,7 +28,7 @@ use Rattle.theorems.proofs.RefusalLaw.{refuses_agree, want_as}
 use Rattle.theorems.proofs.TextLaw.{text_of_pattern}
 use Rattle.step_theorems.proofs.NextLaw.{next_is}
 
--- a reason that is not told does not hold
+-- a reason that is not reported does not hold
 pub passes : {P A B : Type 0} → IfElse P A B → (A → ⊥) → (P → ⊥) × B
 passes (inl h) never = absurd (never h.1)
 passes (inr h) never = h
@@ -50,8 +50,8 @@ stepped_is on_plane bytes text h =
     let q = files_agree text t.universe t.reads in
     let valid : IsLifeRule life = subst IsRule step.rule (on_plane bytes u h.1).rule in
     let refusal : RuleRefusal 62 (Life life) u None = subst (λ (r : LayerRule). RuleRefusal 62 r u None) step.rule h.2 in
-    let room = passes refusal (none_some _) in
-    let few = passes room.1 (none_some _) in
+    let space = passes refusal (none_some _) in
+    let few = passes space.1 (none_some _) in
     let inside = passes few.1 (none_some _) in
     let cells : p.pattern.cell ≡ u.cell = λ i x y. p.cells x y i in
     let n = most_neighbours life.near in
@@ -71,7 +71,7 @@ stepped_is on_plane bytes text h =
         rule = p.rule ∙ ap rule_in step.rule;
         same_rule = q.rule ∙ ap rule_in step.same_rule ∙ sym p.rule;
         generation = q.generation ∙ step.generation ∙ ap (λ g. g + 1) (sym p.generation);
-        not_last = λ e. room.0 (sym p.generation ∙ e);
+        not_last = λ e. space.0 (sym p.generation ∙ e);
         few = λ m. few.0 (m.0, same_cells p.pattern.cell u.cell m.0 cells m.1, m.2);
         inside = λ m. inside.0 (m.0, m.1, not_of_plane m.0 m.1 m.2, λ z. m.3 (next m.0 m.1 ∙ z));
         cells = λ x y. q.cells x y ∙ step.cells x y ∙ sym (next x y);
@@ -101,10 +101,10 @@ unstepped_is on_plane bytes u fault h refusal = (p.pattern, p.is, by u.rule refl
     by (Named name) r e = is (claimed_fault_of NeedsTable) e (no_table name (p.rule ∙ ap rule_in r))
     by (Life life) r (inl f) =
         is (claimed_fault_of GenerationTooLarge) f.1 (last_generation _ _ _ (p.rule ∙ ap rule_in r) (p.generation ∙ f.0))
-    by (Life life) r (inr (room, inl f)) =
+    by (Life life) r (inr (space, inl f)) =
         is (claimed_fault_of TooManyCells) f.1
-        (many_cells _ _ _ (p.rule ∙ ap rule_in r) (λ e. room (sym p.generation ∙ e)) (f.0.0, of_layer p.pattern.cell u.cell f.0.0 cells f.0.1, f.0.2))
-    by (Life life) r (inr (room, inr (few, inl f))) =
+        (many_cells _ _ _ (p.rule ∙ ap rule_in r) (λ e. space (sym p.generation ∙ e)) (f.0.0, of_layer p.pattern.cell u.cell f.0.0 cells f.0.1, f.0.2))
+    by (Life life) r (inr (space, inr (few, inl f))) =
         let n = most_neighbours life.near in
         let b = filter (has_digit life.sets.births) counts in
         let s = filter (has_digit life.sets.survivals) counts in
@@ -112,10 +112,10 @@ unstepped_is on_plane bytes u fault h refusal = (p.pattern, p.is, by u.rule refl
         let next : (x y : ℤ) → claimed_next_life n b s p.pattern.cell x y ≡ layer_next life u.cell x y =
         λ x y. ap (λ (c : ℤ → ℤ → ℕ). claimed_next_life n b s c x y) cells ∙ next_is life valid u.cell x y in
         is (claimed_fault_of OutOfPlane) f.1
-        (leaves_plane n b s (p.rule ∙ ap rule_in r) (λ e. room (sym p.generation ∙ e))
+        (leaves_plane n b s (p.rule ∙ ap rule_in r) (λ e. space (sym p.generation ∙ e))
         (λ m. few (m.0, same_cells p.pattern.cell u.cell m.0 cells m.1, m.2))
         (f.0.0, f.0.1, outside_is f.0.0 f.0.1 f.0.2, λ z. f.0.3 (sym (next f.0.0 f.0.1) ∙ z)))
-    by (Life life) r (inr (room, inr (few, inr (inside, e)))) = cc
+    by (Life life) r (inr (space, inr (few, inr (inside, e)))) = cc
 
 -- why a file is not stepped
 pub unstepped_as : FilesAreOnPlane 62 → (bytes : List ℕ) (store : Nodes) (fault : Fault)

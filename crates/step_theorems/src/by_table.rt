@@ -27,7 +27,7 @@ pub fn next_generation_by_table(
     alloc: Global,
     rules: &[u8],
     file: &[u8],
-    room: StoreOptions,
+    space: StoreOptions,
     names: NameSeed,
 ) -> Result<Vec<u8>, Fault>
     ensures stepped { IfOk result
@@ -43,7 +43,7 @@ pub fn next_generation_by_table(
     tables_refuse();
     tables_decide();
     let table = read_table_seeded(alloc, names, rules)?;
-    step_table(alloc, &mut room.new_store(alloc), file, &table)
+    step_table(alloc, &mut space.new_store(alloc), file, &table)
 }
 
 /// The text of the next generation of a file by a rule table is its own canonical text.

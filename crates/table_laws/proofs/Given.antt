@@ -61,18 +61,18 @@ module _ (vars : List Var) (variables : List Variable) (same : AreVariables vars
       ap (λ (n : ℕ). n ∷ map (state_of choice) es) head ∙ ap (λ (t : List ℕ). s ∷ t) tail
 
   -- the state that an input takes is one of its variable's
-  has_taken : (value : ℕ → ℕ) (i : ℕ) (es : List LayerEntry) (ss : List ℕ) → length es ≡ length ss
+  has_consumed : (value : ℕ → ℕ) (i : ℕ) (es : List LayerEntry) (ss : List ℕ) → length es ≡ length ss
       → list_all (allows variables value) (zip (map entry_in es) ss) ≡ true → list_any (is_variable i) es ≡ true
       → list_any (λ t. t == value i) (claimed_states_of variables (variable i)) ≡ true
-  has_taken value i [] ss l a m = cc
-  has_taken value i (e ∷ es) [] l a m = absurd (omega (arith, l))
-  has_taken value i (entries.Fixed f ∷ es) (s ∷ ss) l a m = has_taken value i es ss (omega (arith, l)) (right_of_and _ _ a) m
-  has_taken value i (entries.Var j ∷ es) (s ∷ ss) l a m = elim (eqb_tells i j) [
+  has_consumed value i [] ss l a m = cc
+  has_consumed value i (e ∷ es) [] l a m = absurd (omega (arith, l))
+  has_consumed value i (entries.Fixed f ∷ es) (s ∷ ss) l a m = has_consumed value i es ss (omega (arith, l)) (right_of_and _ _ a) m
+  has_consumed value i (entries.Var j ∷ es) (s ∷ ss) l a m = elim (eqb_tells i j) [
     | inl e ↦
         let at : value j ≡ s = eqb-true (value j) s (left_of_and _ _ (left_of_and _ _ a)) in
         subst (λ n. list_any (λ t. t == value n) (claimed_states_of variables (variable n)) ≡ true) (sym e.1)
         (subst (λ n. list_any (λ t. t == n) (claimed_states_of variables (variable j)) ≡ true) (sym at) (right_of_and _ _ (left_of_and _ _ a)))
-    | inr n ↦ has_taken value i es ss (omega (arith, l)) (right_of_and _ _ a) (or_rest (eqb i j) _ n.0 m)
+    | inr n ↦ has_consumed value i es ss (omega (arith, l)) (right_of_and _ _ a) (or_rest (eqb i j) _ n.0 m)
   ]
 
   module _ (base : ℕ → ℕ) (is_base : IsChoice vars base) (es : List LayerEntry) (ss : List ℕ) (l : length es ≡ length ss)
@@ -91,7 +91,7 @@ module _ (vars : List Var) (variables : List Variable) (same : AreVariables vars
     choice_is : IsChoice vars choice
     choice_is i below = elim (cases_Bool (list_any (is_variable i) es)) [
       | inl m ↦ subst (λ s. IfSome (slice_get vars i) (λ var. HasState var s)) (sym (choice_at i m))
-          (has_state_of i (state_of_variable (map entry_in es) ss i) (has_taken (state_of_variable (map entry_in es) ss) i es ss l a m))
+          (has_state_of i (state_of_variable (map entry_in es) ss i) (has_consumed (state_of_variable (map entry_in es) ss) i es ss l a m))
       | inr m ↦ subst (λ s. IfSome (slice_get vars i) (λ var. HasState var s)) (sym (choice_off i m)) (is_base i below)
     ]
 
@@ -139,14 +139,14 @@ module _ (vars : List Var) (variables : List Variable) (same : AreVariables vars
 
   -- ---- the state of a choice is given
 
-  taken_is : (choice : ℕ → ℕ) (i : ℕ) (es : List LayerEntry) → list_any (is_variable i) es ≡ true
+  consumed_is : (choice : ℕ → ℕ) (i : ℕ) (es : List LayerEntry) → list_any (is_variable i) es ≡ true
       → state_of_variable (map entry_in es) (map (state_of choice) es) i ≡ choice i
-  taken_is choice i [] m = cc
-  taken_is choice i (entries.Fixed f ∷ es) m = taken_is choice i es m
-  taken_is choice i (entries.Var j ∷ es) m = elim (eqb_tells j i) [
+  consumed_is choice i [] m = cc
+  consumed_is choice i (entries.Fixed f ∷ es) m = consumed_is choice i es m
+  consumed_is choice i (entries.Var j ∷ es) m = elim (eqb_tells j i) [
     | inl e ↦ ap (λ v. cond v (choice j) (state_of_variable (map entry_in es) (map (state_of choice) es) i)) e.0 ∙ ap choice e.1
     | inr n ↦ ap (λ v. cond v (choice j) (state_of_variable (map entry_in es) (map (state_of choice) es) i)) n.0
-        ∙ taken_is choice i es (or_rest (eqb i j) _ (equal_swapped i j ∙ n.0) m)
+        ∙ consumed_is choice i es (or_rest (eqb i j) _ (equal_swapped i j ∙ n.0) m)
   ]
 
   all_allowed : (n : ℕ) (value choice : ℕ → ℕ) → IsChoice vars choice → (es : List LayerEntry) → All (IsEntry n vars) es
@@ -162,10 +162,10 @@ module _ (vars : List Var) (variables : List Variable) (same : AreVariables vars
       (is_state_of j (choice j) below (is j below)))
       (all_allowed n value choice is es (All-tail (IsEntry n vars) (entries.Var j) es there) (λ i m. h i (or_right (eqb i j) _ m)))
 
-  output_taken : (choice : ℕ → ℕ) (es : List LayerEntry) (output : LayerEntry) → ((i : ℕ) → output ≡ entries.Var i → list_any (is_variable i) es ≡ true)
+  output_consumed : (choice : ℕ → ℕ) (es : List LayerEntry) (output : LayerEntry) → ((i : ℕ) → output ≡ entries.Var i → list_any (is_variable i) es ≡ true)
       → state_of (state_of_variable (map entry_in es) (map (state_of choice) es)) output ≡ state_of choice output
-  output_taken choice es (entries.Fixed f) bound = refl
-  output_taken choice es (entries.Var i) bound = taken_is choice i es (bound i refl)
+  output_consumed choice es (entries.Fixed f) bound = refl
+  output_consumed choice es (entries.Var i) bound = consumed_is choice i es (bound i refl)
 
   pub choice_is_given : (n : ℕ) (line : LayerTransition) (ss : List ℕ) (s : ℕ) → All (IsEntry n vars) line.inputs
       → ((i : ℕ) → line.output ≡ entries.Var i → IsTrue (list_any (is_variable i) line.inputs))
@@ -175,5 +175,5 @@ module _ (vars : List Var) (variables : List Variable) (same : AreVariables vars
       ap (claimed_state_given variables (transition_in line)) (sym g.inputs)
       ∙ shown line states
       ∙ ap (λ v. cond v (Some (state_of (state_of_variable (map entry_in line.inputs) states) line.output)) None)
-      (all_allowed n (state_of_variable (map entry_in line.inputs) states) g.choice g.is_choice line.inputs there (λ i m. taken_is g.choice i line.inputs m))
-      ∙ ap Some (output_taken g.choice line.inputs line.output bound ∙ g.output)
+      (all_allowed n (state_of_variable (map entry_in line.inputs) states) g.choice g.is_choice line.inputs there (λ i m. consumed_is g.choice i line.inputs m))
+      ∙ ap Some (output_consumed g.choice line.inputs line.output bound ∙ g.output)

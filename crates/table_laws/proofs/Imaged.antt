@@ -45,10 +45,10 @@ orders_are (x ∷ xs) = inserted_are x (claimed_orders xs) ∙ ap (flat_map (lay
 abbrev pub have_length : ℕ → List (List ℕ) → Bool
 have_length n vs = list_all (λ v. length v == n) vs
 
-in_front : (n y : ℕ) (vs : List (List ℕ)) → have_length n vs ≡ true → have_length (suc n) (map (λ v. y ∷ v) vs) ≡ true
-in_front n y [] h = refl
-in_front n y (v ∷ vs) h =
-    and_from (suc (length v) == suc n) _ (one_more (length v) n ∙ left_of_and (length v == n) _ h) (in_front n y vs (right_of_and (length v == n) _ h))
+in_prefix : (n y : ℕ) (vs : List (List ℕ)) → have_length n vs ≡ true → have_length (suc n) (map (λ v. y ∷ v) vs) ≡ true
+in_prefix n y [] h = refl
+in_prefix n y (v ∷ vs) h =
+    and_from (suc (length v) == suc n) _ (one_more (length v) n ∙ left_of_and (length v == n) _ h) (in_prefix n y vs (right_of_and (length v == n) _ h))
   where
     one_more : (a b : ℕ) → (suc a == suc b) ≡ (a == b)
     one_more a b = grind (arith, nat_tests)
@@ -61,7 +61,7 @@ insertions_have : (x : ℕ) (ys : List ℕ) → have_length (suc (length ys)) (c
 insertions_have x [] = refl
 insertions_have x (y ∷ ys) =
     and_from (suc (suc (length ys)) == suc (suc (length ys))) _ (eq-eqb (suc (suc (length ys))) (suc (suc (length ys))) refl)
-    (in_front (suc (length ys)) y (claimed_insertions x ys) (insertions_have x ys))
+    (in_prefix (suc (length ys)) y (claimed_insertions x ys) (insertions_have x ys))
 
 inserted_have : (n x : ℕ) (vs : List (List ℕ)) → have_length n vs ≡ true → have_length (suc n) (flat_map (claimed_insertions x) vs) ≡ true
 inserted_have n x [] h = refl

@@ -49,7 +49,7 @@ pub data Stands (parsed : Parsed) : Section → Type 0 where
 
 -- both go on, or have the same fault
 pub data Steps : Result Parsed Kind → Result Section Kind → Type 0 where
-  steps : (told : Parsed) (next : Section) → Stands told next → Steps (Ok told) (Ok next)
+  steps : (reported : Parsed) (next : Section) → Stands reported next → Steps (Ok reported) (Ok next)
   halts : (kind : Kind) → Steps (Err kind) (Err kind)
 
 abbrev StepsAfter : Parsed → Result Directive Kind → Result Section Kind → Type 0
@@ -60,10 +60,10 @@ put parsed a b x y e f h = subst (λ o. StepsAfter parsed o x) (sym e) (subst (�
 
 -- ---- before the table
 
-command_rule : (front : Bool) (text : List ℕ) (name : List ℕ) → layer_rule_of text ≡ Ok (Named name)
-    → (front && is_blank (take 1 text)) ≡ (front && list_any is_whitespace (take 1 text))
+command_rule : (prefix : Bool) (text : List ℕ) (name : List ℕ) → layer_rule_of text ≡ Ok (Named name)
+    → (prefix && is_blank (take 1 text)) ≡ (prefix && list_any is_whitespace (take 1 text))
 unfolding layer_rule_of
-command_rule front [] name e = cc
+command_rule prefix [] name e = cc
 command_rule true (b ∷ text) name e = by (is_whitespace b)
   where
     by : (v : Bool) → (v && true) ≡ (v || false)
@@ -105,9 +105,9 @@ module _ (parsed : Parsed) (new : IsNew parsed) (at : parsed.section ≡ before_
 
   opened : (name : List ℕ) → parsed.name ≡ Some name → Stands (record parsed { section = in_the_table }) (in_table (new_table name))
   opened name e =
-      let told : Parsed = record parsed { section = in_the_table } in
-      let is : table_in told name [] ≡ new_table name =
-      ap (λ (o : Option ℕ). record (table_in told name []) { n_states = o }) new.n_states
+      let reported : Parsed = record parsed { section = in_the_table } in
+      let is : table_in reported name [] ≡ new_table name =
+      ap (λ (o : Option ℕ). record (table_in reported name []) { n_states = o }) new.n_states
       ∙ ap (λ (o : Option Neighborhood). record
       (new_table name) {
         neighbours = option_map neighbour_count o;
@@ -118,7 +118,7 @@ module _ (parsed : Parsed) (new : IsNew parsed) (at : parsed.section ≡ before_
       ∙ ap (λ (o : Option Symmetry). record
       (new_table name) { symmetry = option_map symmetry_word o; transitions = map transition_in parsed.lines }) new.symmetry
       ∙ ap (λ (ts : List LayerTransition). record (new_table name) { transitions = map transition_in ts }) new.lines in
-      subst (λ (t : Table). Stands told (in_table t)) is
+      subst (λ (t : Table). Stands reported (in_table t)) is
       (is_open name [] e refl (subst (λ (vs : List Var). AreVariables vs []) (sym new.vars) (record { names = refl; states = λ i s. refl })))
 
   named_fits : (name : List ℕ) → parsed.name ≡ Some name → (line : List ℕ)
@@ -192,31 +192,31 @@ module _ (parsed : Parsed) (name : List ℕ) (variables : List Variable) (same :
   abbrev table : Table
   table = table_in parsed name variables
 
-  abbrev told : ℕ → ℕ
-  told number = min number (2 ^ 64 - 1)
+  abbrev reported : ℕ → ℕ
+  reported number = min number (2 ^ 64 - 1)
 
   lifted : (r : Result Parsed Kind) (x : Result Table Kind) → Fits parsed name r x → Steps r (x >>= λ next. Ok (in_table next))
   lifted r x (goes next t vs s m v e) = steps next (in_table t) (subst (λ (u : Table). Stands next (in_table u)) (sym e) (is_open name vs (m ∙ is) (s ∙ at) v))
   lifted r x (stops kind) = halts kind
 
   abbrev rest : ℕ → List ℕ → Result Directive Kind
-  rest number text = parse_rest parsed.n_states parsed.neighborhood parsed.symmetry parsed.vars parsed.lines (told number) text
+  rest number text = parse_rest parsed.n_states parsed.neighborhood parsed.symmetry parsed.vars parsed.lines (reported number) text
 
   settled : (number : ℕ) (text : List ℕ) (n : ℕ) → parsed.n_states ≡ Some n → (h : Neighborhood) → parsed.neighborhood ≡ Some h
-      → FitsAfter parsed name (parse_settled n h parsed.vars parsed.lines (told number) text)
+      → FitsAfter parsed name (parse_settled n h parsed.vars parsed.lines (reported number) text)
       (cond (is_claimed_command (codes "var") text && nat_lt 3 (length text)) (with_variable table (drop 3 text)) (with_transition table number text))
   settled number text n en h eh =
       let same_line : (is_claimed_command (codes "var") text && nat_lt 3 (length text)) ≡ is_variable_line text = variable_line text in
       elim (cases_Bool (is_variable_line text)) [
         | inl v ↦ moved parsed name _ (if_variable (variable_of n parsed.vars text)) _ (with_variable table (drop 3 text))
             (ap (λ b. cond b (if_variable (variable_of n parsed.vars text))
-            (if_transition parsed.vars parsed.lines (transition_of n (neighbour_count h) parsed.vars (told number) text))) v)
+            (if_transition parsed.vars parsed.lines (transition_of n (neighbour_count h) parsed.vars (reported number) text))) v)
             (ap (λ b. cond b (with_variable table (drop 3 text)) (with_transition table number text)) (same_line ∙ v))
             (variable_fits parsed name variables same good n en text)
-        | inr v ↦ moved parsed name _ (if_transition parsed.vars parsed.lines (transition_of n (neighbour_count h) parsed.vars (told number) text)) _
+        | inr v ↦ moved parsed name _ (if_transition parsed.vars parsed.lines (transition_of n (neighbour_count h) parsed.vars (reported number) text)) _
             (with_transition table number text)
             (ap (λ b. cond b (if_variable (variable_of n parsed.vars text))
-            (if_transition parsed.vars parsed.lines (transition_of n (neighbour_count h) parsed.vars (told number) text))) v)
+            (if_transition parsed.vars parsed.lines (transition_of n (neighbour_count h) parsed.vars (reported number) text))) v)
             (ap (λ b. cond b (with_variable table (drop 3 text)) (with_transition table number text)) (same_line ∙ v))
             (transition_fits parsed name variables same good n en h eh number text)
       ]
@@ -230,18 +230,18 @@ module _ (parsed : Parsed) (name : List ℕ) (variables : List Variable) (same :
   rest_fits number text = elim (cases_Bool (is_described parsed)) [
     | inl d ↦
         let g = given_all parsed.n_states parsed.neighborhood parsed.symmetry d in
-        moved parsed name _ (parse_settled g.n g.h parsed.vars parsed.lines (told number) text) _
+        moved parsed name _ (parse_settled g.n g.h parsed.vars parsed.lines (reported number) text) _
         (cond (is_claimed_command (codes "var") text && nat_lt 3 (length text)) (with_variable table (drop 3 text)) (with_transition table number text))
-        (ap (λ (o : Option ℕ). parse_rest o parsed.neighborhood parsed.symmetry parsed.vars parsed.lines (told number) text) g.is_n
-        ∙ ap (λ (o : Option Neighborhood). parse_rest (Some g.n) o parsed.symmetry parsed.vars parsed.lines (told number) text) g.is_h
-        ∙ ap (λ (o : Option Symmetry). parse_rest (Some g.n) (Some g.h) o parsed.vars parsed.lines (told number) text) g.is_y)
+        (ap (λ (o : Option ℕ). parse_rest o parsed.neighborhood parsed.symmetry parsed.vars parsed.lines (reported number) text) g.is_n
+        ∙ ap (λ (o : Option Neighborhood). parse_rest (Some g.n) o parsed.symmetry parsed.vars parsed.lines (reported number) text) g.is_h
+        ∙ ap (λ (o : Option Symmetry). parse_rest (Some g.n) (Some g.h) o parsed.vars parsed.lines (reported number) text) g.is_y)
         (ap (λ v. cond (not v) (Err kinds.BadDescriptor)
         (cond (is_claimed_command (codes "var") text && nat_lt 3 (length text)) (with_variable table (drop 3 text)) (with_transition table number text)))
         (complete_is name variables parsed ∙ d))
         (settled number text g.n g.is_n g.h g.is_h)
     | inr d ↦
         moved parsed name _ (Err kinds.BadDescriptor) _ (Err kinds.BadDescriptor)
-        (none_rest parsed.n_states parsed.neighborhood parsed.symmetry parsed.vars parsed.lines (told number) text d)
+        (none_rest parsed.n_states parsed.neighborhood parsed.symmetry parsed.vars parsed.lines (reported number) text d)
         (ap (λ v. cond (not v) (Err kinds.BadDescriptor)
         (cond (is_claimed_command (codes "var") text && nat_lt 3 (length text)) (with_variable table (drop 3 text)) (with_transition table number text)))
         (complete_is name variables parsed ∙ d))
@@ -259,7 +259,7 @@ module _ (parsed : Parsed) (name : List ℕ) (variables : List Variable) (same :
       by false = rest_fits number text
 
   open_fits : (number : ℕ) (line : List ℕ)
-      → StepsAfter parsed (parse_in_table parsed (told number) line)
+      → StepsAfter parsed (parse_in_table parsed (reported number) line)
       (cond (begins_with line (codes "@")) (cond (is_complete table) (Ok (after_table table)) (Err kinds.BadDescriptor))
       (with_text table number (line_content line) >>= λ next. Ok (in_table next)))
   open_fits number line = elim (cases_Bool (begins_with line (codes "@"))) [
@@ -273,7 +273,7 @@ module _ (parsed : Parsed) (name : List ℕ) (variables : List Variable) (same :
           let text = line_content line in
           put parsed _ (cond (is_descriptor text) (parse_descriptor parsed.n_states parsed.neighborhood parsed.symmetry text) (rest number text)) _
           (cond (is_descriptor text) (with_descriptor table (key_of text) (setting_of text)) (undescribed number text) >>= λ next. Ok (in_table next))
-          (let k : parse_in_table parsed (told number) line
+          (let k : parse_in_table parsed (reported number) line
           ≡ cond (is_descriptor text) (parse_descriptor parsed.n_states parsed.neighborhood parsed.symmetry text) (rest number text) = rw (s, e) refl in k)
           (ap (λ v. cond v (cond (is_complete table) (Ok (after_table table)) (Err kinds.BadDescriptor))
           (with_text table number text >>= λ next. Ok (in_table next))) s

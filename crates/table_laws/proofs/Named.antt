@@ -29,7 +29,7 @@ Place = TypeOf nothing_parsed.section
 abbrev pub Directive : Type 0
 Directive = OkOf (parse_ahead None [])
 
--- before the table, in it and behind it
+-- before the table, in it and after it
 abbrev pub before_table : Place
 before_table = nothing_parsed.section
 

@@ -34,8 +34,8 @@ parsed_of lines = parsed_by (numbered_from 1 lines)
 
 -- ---- one line
 
-went : (told : Parsed) (x : Result Section Kind) → Steps (Ok told) x → (next : Section) × (x ≡ Ok next) × Stands told next
-went told x (steps t next s) = (next, refl, s)
+went : (reported : Parsed) (x : Result Section Kind) → Steps (Ok reported) x → (next : Section) × (x ≡ Ok next) × Stands reported next
+went reported x (steps t next s) = (next, refl, s)
 
 stopped : (kind : Kind) (x : Result Section Kind) → Steps (Err kind) x → x ≡ Err kind
 stopped kind x (halts k) = refl
@@ -69,14 +69,14 @@ record Ends (before : List (List ℕ)) (section : Section) (more : List (List �
 
 -- one of them breaks a rule
 record Breaks (before : List (List ℕ)) (section : Section) (more : List (List ℕ)) : Type 0 where
-  pub front : List (List ℕ)
+  pub prefix : List (List ℕ)
   pub line : List ℕ
   pub rest : List (List ℕ)
   pub kind : Kind
-  pub split : before ++ more ≡ front ++ line ∷ rest
-  pub reached : Reach front
-  pub breaks : broken_table_rule front line ≡ Some kind
-  pub is : read_table_lines (length before + 1) section more ≡ Err (claimed_fault_at (length front + 1) kind)
+  pub split : before ++ more ≡ prefix ++ line ∷ rest
+  pub reached : Reach prefix
+  pub breaks : broken_table_rule prefix line ≡ Some kind
+  pub is : read_table_lines (length before + 1) section more ≡ Err (claimed_fault_at (length prefix + 1) kind)
 
 abbrev Walks : List (List ℕ) → Section → List (List ℕ) → Type 0
 Walks before section more = Ends before section more ⊎ Breaks before section more
@@ -107,7 +107,7 @@ walks (line ∷ more) before section r s =
       reached = subst Reach (append_assoc before (line ∷ []) more) w.reached;
     })
     further next e (inr w) = inr (record {
-      front = w.front;
+      prefix = w.prefix;
       line = w.line;
       rest = w.rest;
       kind = w.kind;
@@ -125,7 +125,7 @@ walks (line ∷ more) before section r s =
         let m = reach_more before line directive r e in
         further g.0 g.1 (below g.0 m.1 g.2)
     by (Err kind) e below = inr (record {
-      front = before;
+      prefix = before;
       line = line;
       rest = more;
       kind = kind;
@@ -224,14 +224,14 @@ pub record IsRefused (bytes : List ℕ) : Type 0 where
   pub is : table_of bytes ≡ Err fault
   pub refuses : RefusesTable (lines_of bytes) fault
 
-unbroken_front : (lines front rest : List (List ℕ)) (line : List ℕ) → lines ≡ front ++ line ∷ rest
-    → UnbrokenBelow IsTableFile broken_table_rule missing_table_part front (length front)
-    → UnbrokenBelow IsTableFile broken_table_rule missing_table_part lines (length front)
-unbroken_front lines front rest line e u =
-    subst (λ (ls : List (List ℕ)). UnbrokenBelow IsTableFile broken_table_rule missing_table_part ls (length front)) (sym e)
+unbroken_prefix : (lines prefix rest : List (List ℕ)) (line : List ℕ) → lines ≡ prefix ++ line ∷ rest
+    → UnbrokenBelow IsTableFile broken_table_rule missing_table_part prefix (length prefix)
+    → UnbrokenBelow IsTableFile broken_table_rule missing_table_part lines (length prefix)
+unbroken_prefix lines prefix rest line e u =
+    subst (λ (ls : List (List ℕ)). UnbrokenBelow IsTableFile broken_table_rule missing_table_part ls (length prefix)) (sym e)
     (λ k h.
-    let a : take k (front ++ line ∷ rest) ≡ take k front = take-append-le k front (line ∷ rest) (omega (arith, h)) in
-    let b : get_or (front ++ line ∷ rest) k [] ≡ get_or front k [] = get_or-append front (line ∷ rest) [] k h in
+    let a : take k (prefix ++ line ∷ rest) ≡ take k prefix = take-append-le k prefix (line ∷ rest) (omega (arith, h)) in
+    let b : get_or (prefix ++ line ∷ rest) k [] ≡ get_or prefix k [] = get_or-append prefix (line ∷ rest) [] k h in
     rw (a, b) (u k h))
 
 of_lines : (bytes : List ℕ) → Walks [] ahead (lines_of bytes) → IsRead bytes ⊎ IsRefused bytes
@@ -256,21 +256,21 @@ of_lines bytes (inl w) = elim (ended (parsed_of (lines_of bytes)) w.next w.stand
       })
 ]
 of_lines bytes (inr w) =
-    let e : lines_of bytes ≡ w.front ++ w.line ∷ w.rest = w.split in
-    let f : take (length w.front) (lines_of bytes) ≡ w.front = ap (take (length w.front)) e ∙ take-append_seam w.front (w.line ∷ w.rest) in
-    let g : get_or (lines_of bytes) (length w.front) [] ≡ w.line = ap (λ (ls : List (List ℕ)). get_or ls (length w.front) []) e
-    ∙ get_or-append_seam w.front w.line w.rest [] in
-    let below : length w.front < length (lines_of bytes) = (let k = ap length e in omega (arith, k, length-append w.front (w.line ∷ w.rest))) in
-    let b : broken_table_rule (take (length w.front) (lines_of bytes)) (get_or (lines_of bytes) (length w.front) []) ≡ Some w.kind = rw (f, g) w.breaks in
+    let e : lines_of bytes ≡ w.prefix ++ w.line ∷ w.rest = w.split in
+    let f : take (length w.prefix) (lines_of bytes) ≡ w.prefix = ap (take (length w.prefix)) e ∙ take-append_seam w.prefix (w.line ∷ w.rest) in
+    let g : get_or (lines_of bytes) (length w.prefix) [] ≡ w.line = ap (λ (ls : List (List ℕ)). get_or ls (length w.prefix) []) e
+    ∙ get_or-append_seam w.prefix w.line w.rest [] in
+    let below : length w.prefix < length (lines_of bytes) = (let k = ap length e in omega (arith, k, length-append w.prefix (w.line ∷ w.rest))) in
+    let b : broken_table_rule (take (length w.prefix) (lines_of bytes)) (get_or (lines_of bytes) (length w.prefix) []) ≡ Some w.kind = rw (f, g) w.breaks in
     inr (record {
-      fault = claimed_fault_at (length w.front + 1) w.kind;
+      fault = claimed_fault_at (length w.prefix + 1) w.kind;
       is = ap (λ n. read_table_lines n ahead (lines_of bytes)) (let k : 1 ≡ 0 + 1 = omega arith in k) ∙ w.is;
-      refuses = refusal_at IsTableFile broken_table_rule missing_table_part by_lines (lines_of bytes) (length w.front) w.kind below
-          (unbroken_front (lines_of bytes) w.front w.rest w.line e w.reached.unbroken) b;
+      refuses = refusal_at IsTableFile broken_table_rule missing_table_part by_lines (lines_of bytes) (length w.prefix) w.kind below
+          (unbroken_prefix (lines_of bytes) w.prefix w.rest w.line e w.reached.unbroken) b;
     })
 
-pub told : (bytes : List ℕ) → IsRead bytes ⊎ IsRefused bytes
-told bytes =
+pub reported : (bytes : List ℕ) → IsRead bytes ⊎ IsRefused bytes
+reported bytes =
     of_lines bytes (walks (lines_of bytes) [] ahead reach_none (subst (λ (p : Parsed). Stands p ahead) (sym parsed_start)
     (stands_ahead (record { n_states = refl; neighborhood = refl; symmetry = refl; vars = refl; lines = refl }) refl refl)))
 
@@ -278,11 +278,11 @@ told bytes =
 
 pub tables_read : TablesRead
 tables_read bytes = (
-  λ layer are. elim (told bytes) [
+  λ layer are. elim (reported bytes) [
     | inl r ↦ (r.table, r.is, r.same layer are)
     | inr r ↦ absurd (r.refuses.refused are.file)
   ],
-  λ table e. elim (told bytes) [
+  λ table e. elim (reported bytes) [
     | inl r ↦
         let w = (accepted (lines_of bytes)).0 r.file in
         (w.0, w.1, subst (IsTable w.0) (ok_of r.table table (sym r.is ∙ e)) (r.same w.0 w.1))
@@ -295,11 +295,11 @@ tables_read bytes = (
 
 pub tables_refuse : TablesRefuse
 tables_refuse bytes fault = (
-  λ refuses. elim (told bytes) [
+  λ refuses. elim (reported bytes) [
     | inl r ↦ absurd (refuses.refused r.file)
     | inr r ↦ r.is ∙ ap Err (refusal_unique IsTableFile broken_table_rule missing_table_part (lines_of bytes) r.fault fault r.refuses refuses)
   ],
-  λ e. elim (told bytes) [
+  λ e. elim (reported bytes) [
     | inl r ↦ absurd (let k : Ok r.table ≡ Err fault = sym r.is ∙ e in cc)
     | inr r ↦ subst (RefusesTable (lines_of bytes)) (err_of r.fault fault (sym r.is ∙ e)) r.refuses
   ],

@@ -36,8 +36,8 @@ table_in parsed name variables = record {
 
 -- one line more says the same, or has the same fault
 pub data Fits (parsed : Parsed) (name : List ℕ) : Result Parsed Kind → Result Table Kind → Type 0 where
-  goes : (told : Parsed) (next : Table) (variables : List Variable) → told.section ≡ parsed.section → told.name ≡ parsed.name
-      → AreVariables told.vars variables → next ≡ table_in told name variables → Fits parsed name (Ok told) (Ok next)
+  goes : (reported : Parsed) (next : Table) (variables : List Variable) → reported.section ≡ parsed.section → reported.name ≡ parsed.name
+      → AreVariables reported.vars variables → next ≡ table_in reported name variables → Fits parsed name (Ok reported) (Ok next)
   stops : (kind : Kind) → Fits parsed name (Err kind) (Err kind)
 
 abbrev pub FitsAfter : Parsed → List ℕ → Result Directive Kind → Result Table Kind → Type 0

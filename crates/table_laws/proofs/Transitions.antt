@@ -81,7 +81,7 @@ quiet_test true false false = refl
 quiet_test false quiet true = refl
 quiet_test false quiet false = refl
 
--- ---- the front and the last of some words
+-- ---- the prefix and the last of some words
 
 abbrev joined : {X : Type 0} → Option (List X) → Option X → Option (List X)
 joined None o = None
@@ -94,16 +94,16 @@ more_joined x (Some xs) None = refl
 more_joined x (Some xs) (Some y) = refl
 
 module _ {X : Type 0} (f : List ℕ → Option X) where
-  front_and_last : (words : List (List ℕ)) (m : ℕ) → length words ≡ suc m
+  prefix_and_last : (words : List (List ℕ)) (m : ℕ) → length words ≡ suc m
       → all_some (map f words) ≡ joined (all_some (map f (take m words))) (f (slice_index_or words m []))
-  front_and_last [] m l = absurd (omega (arith, l))
-  front_and_last (word ∷ []) zero l = one (f word)
+  prefix_and_last [] m l = absurd (omega (arith, l))
+  prefix_and_last (word ∷ []) zero l = one (f word)
     where
       one : (o : Option X) → all_some (o ∷ []) ≡ joined (Some []) o
       one None = refl
       one (Some x) = refl
-  front_and_last (word ∷ other ∷ words) zero l = absurd (omega (arith, l))
-  front_and_last (word ∷ words) (suc m) l = by (f word) (front_and_last words m (omega (arith, l)))
+  prefix_and_last (word ∷ other ∷ words) zero l = absurd (omega (arith, l))
+  prefix_and_last (word ∷ words) (suc m) l = by (f word) (prefix_and_last words m (omega (arith, l)))
     where
       by : (o : Option X) → all_some (map f words) ≡ joined (all_some (map f (take m words))) (f (slice_index_or words m []))
           → all_some (o ∷ map f words) ≡ joined (all_some (o ∷ map f (take m words))) (f (slice_index_or words m []))
@@ -127,32 +127,32 @@ no_parts k number parts e =
     ap (λ v. cond v (option_map (λ (output : LayerEntry). record { line = number; inputs = take (k + 1) parts; output = output })
     (slice_get parts (k + 1))) None) e
 
-all_parts : (k number : ℕ) (front : List LayerEntry) (last : LayerEntry) → length front ≡ k + 1
-    → transition_from k number (front ++ last ∷ []) ≡ Some (record { line = number; inputs = front; output = last })
-all_parts k number front last l =
-    let long : (length (front ++ last ∷ []) == k + 2)
-    ≡ true = eq-eqb (length (front ++ last ∷ [])) (k + 2) (omega (arith, l, length-append front (last ∷ []))) in
-    ap (λ v. cond v (option_map (λ (output : LayerEntry). record { line = number; inputs = take (k + 1) (front ++ last ∷ []); output = output })
-    (slice_get (front ++ last ∷ []) (k + 1))) None) long
-    ∙ ap (λ m. option_map (λ (output : LayerEntry). record { line = number; inputs = take m (front ++ last ∷ []); output = output })
-    (slice_get (front ++ last ∷ []) m)) (sym l)
-    ∙ ap (option_map (λ (output : LayerEntry). record { line = number; inputs = take (length front) (front ++ last ∷ []); output = output }))
-    (slice_get-last front last)
-    ∙ ap (λ (es : List LayerEntry). Some (record { line = number; inputs = es; output = last })) (take-append_seam front (last ∷ []))
+all_parts : (k number : ℕ) (prefix : List LayerEntry) (last : LayerEntry) → length prefix ≡ k + 1
+    → transition_from k number (prefix ++ last ∷ []) ≡ Some (record { line = number; inputs = prefix; output = last })
+all_parts k number prefix last l =
+    let long : (length (prefix ++ last ∷ []) == k + 2)
+    ≡ true = eq-eqb (length (prefix ++ last ∷ [])) (k + 2) (omega (arith, l, length-append prefix (last ∷ []))) in
+    ap (λ v. cond v (option_map (λ (output : LayerEntry). record { line = number; inputs = take (k + 1) (prefix ++ last ∷ []); output = output })
+    (slice_get (prefix ++ last ∷ []) (k + 1))) None) long
+    ∙ ap (λ m. option_map (λ (output : LayerEntry). record { line = number; inputs = take m (prefix ++ last ∷ []); output = output })
+    (slice_get (prefix ++ last ∷ []) m)) (sym l)
+    ∙ ap (option_map (λ (output : LayerEntry). record { line = number; inputs = take (length prefix) (prefix ++ last ∷ []); output = output }))
+    (slice_get-last prefix last)
+    ∙ ap (λ (es : List LayerEntry). Some (record { line = number; inputs = es; output = last })) (take-append_seam prefix (last ∷ []))
 
 module _ (parsed : Parsed) (name : List ℕ) (variables : List Variable) (same : AreVariables parsed.vars variables) (good : IsGood parsed)
     (n : ℕ) (en : parsed.n_states ≡ Some n) (h : Neighborhood) (eh : parsed.neighborhood ≡ Some h) where
   abbrev table : Table
   table = table_in parsed name variables
 
-  abbrev told : ℕ → ℕ
-  told number = min number (2 ^ 64 - 1)
+  abbrev reported : ℕ → ℕ
+  reported number = min number (2 ^ 64 - 1)
 
-  entries_fit : (number : ℕ) (front : List LayerEntry) (last : LayerEntry)
-      → FitsAfter parsed name (if_transition parsed.vars parsed.lines (Some (record { line = told number; inputs = front; output = last })))
-      (with_entries table number (map entry_in front) (entry_in last))
-  entries_fit number front last =
-      let line : LayerTransition = record { line = told number; inputs = front; output = last } in
+  entries_fit : (number : ℕ) (prefix : List LayerEntry) (last : LayerEntry)
+      → FitsAfter parsed name (if_transition parsed.vars parsed.lines (Some (record { line = reported number; inputs = prefix; output = last })))
+      (with_entries table number (map entry_in prefix) (entry_in last))
+  entries_fit number prefix last =
+      let line : LayerTransition = record { line = reported number; inputs = prefix; output = last } in
       let quiet_is : (claimed_fits_zero variables (transition_in line) && leaves_zero (entry_in last) && not
       (list_any (claimed_fits_zero variables) (map transition_in parsed.lines)))
       ≡ not (is_quiet parsed.vars (parsed.lines ++ line ∷ [])) =
@@ -162,9 +162,9 @@ module _ (parsed : Parsed) (name : List ℕ) (variables : List Variable) (same :
       ∙ ap (λ v. layer_fits_zero parsed.vars line && not (is_quiet_output last) && not v) (any_fits parsed.vars variables same parsed.lines)
       ∙ quiet_test (layer_fits_zero parsed.vars line) (is_quiet_output last) (list_any (layer_fits_zero parsed.vars) parsed.lines)
       ∙ ap not (sym (quiet_more parsed.vars parsed.lines line good.quiet)) in
-      elim (cases_Bool (layer_is_bound front last)) [
+      elim (cases_Bool (layer_is_bound prefix last)) [
         | inl b ↦
-            let c : is_claimed_bound (map entry_in front) (entry_in last) ≡ true = bound_is front last ∙ b in
+            let c : is_claimed_bound (map entry_in prefix) (entry_in last) ≡ true = bound_is prefix last ∙ b in
             elim (cases_Bool (is_quiet parsed.vars (parsed.lines ++ line ∷ []))) [
               | inl q ↦
                   let p : (claimed_fits_zero variables (transition_in line) && leaves_zero (entry_in last) && not
@@ -177,24 +177,25 @@ module _ (parsed : Parsed) (name : List ℕ) (variables : List Variable) (same :
                   rw (c, b, q, p) (stops kinds.NotQuiet)
             ]
         | inr b ↦
-            let c : is_claimed_bound (map entry_in front) (entry_in last) ≡ false = bound_is front last ∙ b in
+            let c : is_claimed_bound (map entry_in prefix) (entry_in last) ≡ false = bound_is prefix last ∙ b in
             rw (c, b) (stops kinds.UnboundOutput)
       ]
 
   abbrev of_entries : ℕ → Option (List Entry) → Option Entry → Result Table Kind
-  of_entries number front last = elim front [
+  of_entries number prefix last = elim prefix [
     | None ↦ Err kinds.BadTransition
     | Some es ↦ elim last [ None ↦ Err kinds.BadTransition | Some output ↦ with_entries table number es output ]
   ]
 
-  parts_fit : (number : ℕ) (front : Option (List LayerEntry)) (last : Option LayerEntry)
-      → ((es : List LayerEntry) → front ≡ Some es → length es ≡ neighbour_count h + 1)
-      → FitsAfter parsed name (if_transition parsed.vars parsed.lines (option_and_then (transition_from (neighbour_count h) (told number)) (joined front last)))
-      (of_entries number (option_map (map entry_in) front) (option_map entry_in last))
+  parts_fit : (number : ℕ) (prefix : Option (List LayerEntry)) (last : Option LayerEntry)
+      → ((es : List LayerEntry) → prefix ≡ Some es → length es ≡ neighbour_count h + 1)
+      → FitsAfter parsed name
+      (if_transition parsed.vars parsed.lines (option_and_then (transition_from (neighbour_count h) (reported number)) (joined prefix last)))
+      (of_entries number (option_map (map entry_in) prefix) (option_map entry_in last))
   parts_fit number None last l = stops kinds.BadTransition
   parts_fit number (Some es) None l = stops kinds.BadTransition
   parts_fit number (Some es) (Some e) l =
-      moved parsed name _ _ _ _ (ap (if_transition parsed.vars parsed.lines) (all_parts (neighbour_count h) (told number) es e (l es refl))) refl
+      moved parsed name _ _ _ _ (ap (if_transition parsed.vars parsed.lines) (all_parts (neighbour_count h) (reported number) es e (l es refl))) refl
       (entries_fit number es e)
 
   abbrev of_texts : ℕ → List (List ℕ) → ℕ → Result Table Kind
@@ -204,14 +205,14 @@ module _ (parsed : Parsed) (name : List ℕ) (variables : List Variable) (same :
 
   wrong_count : (number : ℕ) (texts : List (List ℕ)) (os : Option (List LayerEntry))
       → ((es : List LayerEntry) → os ≡ Some es → (length es == neighbour_count h + 2) ≡ false)
-      → option_and_then (transition_from (neighbour_count h) (told number)) os ≡ None
+      → option_and_then (transition_from (neighbour_count h) (reported number)) os ≡ None
   wrong_count number texts None l = refl
-  wrong_count number texts (Some es) l = no_parts (neighbour_count h) (told number) es (l es refl)
+  wrong_count number texts (Some es) l = no_parts (neighbour_count h) (reported number) es (l es refl)
 
   texts_fit : (number : ℕ) (texts : List (List ℕ))
       → FitsAfter parsed name
       (if_transition parsed.vars parsed.lines
-      (option_and_then (transition_from (neighbour_count h) (told number)) (all_some (map (layer_entry_of n parsed.vars) texts))))
+      (option_and_then (transition_from (neighbour_count h) (reported number)) (all_some (map (layer_entry_of n parsed.vars) texts))))
       (of_texts number texts (neighbour_count h + 1))
   texts_fit number texts =
       let k = neighbour_count h in
@@ -220,8 +221,8 @@ module _ (parsed : Parsed) (name : List ℕ) (variables : List Variable) (same :
         | inl e ↦
             let count : length texts ≡ suc (k + 1) = (let s : length texts ≡ k + 1 + 1 = eqb-true (length texts) (k + 1 + 1) e in omega (arith, s)) in
             moved parsed name _ _ _ _
-            (ap (λ (o : Option (List LayerEntry)). if_transition parsed.vars parsed.lines (option_and_then (transition_from k (told number)) o))
-            (front_and_last f texts (k + 1) count))
+            (ap (λ (o : Option (List LayerEntry)). if_transition parsed.vars parsed.lines (option_and_then (transition_from k (reported number)) o))
+            (prefix_and_last f texts (k + 1) count))
             (ap (λ v. cond (not v) (Err kinds.BadTransition)
             (of_entries number (claimed_entries_of table (take (k + 1) texts)) (claimed_entry_of table (slice_index_or texts (k + 1) [])))) e
             ∙ ap (λ (o : Option (List Entry)). of_entries number o (claimed_entry_of table (slice_index_or texts (k + 1) [])))
@@ -242,7 +243,7 @@ module _ (parsed : Parsed) (name : List ℕ) (variables : List Variable) (same :
       ]
 
   pub transition_fits : (number : ℕ) (text : List ℕ)
-      → FitsAfter parsed name (if_transition parsed.vars parsed.lines (transition_of n (neighbour_count h) parsed.vars (told number) text))
+      → FitsAfter parsed name (if_transition parsed.vars parsed.lines (transition_of n (neighbour_count h) parsed.vars (reported number) text))
       (with_transition table number text)
   unfolding transition_of layer_entries_of
   transition_fits number text =

@@ -9,7 +9,7 @@ use Rattle.life_rle.specs.Written.{rle_text}
 use Rattle.life_base.specs.declared.cell.Cell.{Cell}
 use Rattle.life_base.specs.declared.rule.Rule.{Rule as LayerRule}
 use Rattle.life_rle.specs.Grammar.{IsRle}
-use Rattle.life_rle.proofs.FrontLaws.{begins_as_rle, fronts_are_files}
+use Rattle.life_rle.proofs.PrefixLaws.{begins_as_rle, prefixes_are_files}
 use Rattle.life_base.specs.declared.fault.Fault.{Fault}
 use Rattle.life_canon.specs.Universe.{Universe, IsSame, macrocell_universe, is_life}
 use Rattle.life_canon.specs.Least.{IsLeastText, HasNoLeaves}
@@ -70,7 +70,7 @@ mc_first (header ∷ rest) file are = by (is_too_long header) (begins_with heade
 
 pub rle_first : (lines : List (List ℕ)) (file : Rle) → IsRle 62 lines file → is_macrocell lines ≡ false
 rle_first [] file h = refl
-rle_first (line ∷ lines) file h = begins_as_rle 62 line lines ((fronts_are_files 62 (line ∷ lines)).1 (inl (file, h)))
+rle_first (line ∷ lines) file h = begins_as_rle 62 line lines ((prefixes_are_files 62 (line ∷ lines)).1 (inl (file, h)))
 
 pub files_agree : (bytes : List ℕ) (u : Universe) → Reads 62 bytes u → Agrees bytes u
 files_agree bytes _ (as_macrocell file are) =
@@ -166,10 +166,10 @@ text_is_least on_plane a s l rival r =
     counted (Life rule) = refl
     counted (Named name) = refl
 
-    compared : (rule : LayerRule) (told : Rule) → told ≡ rule_in rule → (file : Macrocell) → (is_counting told ≡ true) ⊎ (has_leaves rival ≡ false)
+    compared : (rule : LayerRule) (reported : Rule) → reported ≡ rule_in rule → (file : Macrocell) → (is_counting reported ≡ true) ⊎ (has_leaves rival ≡ false)
         → (has_leaves rival ≡ false → HasNoLeaves file) → (is_life rule ≡ true) ⊎ HasNoLeaves file
-    compared rule told e file (inl c) f = inl (sym (counted rule) ∙ ap is_counting (sym e) ∙ c)
-    compared rule told e file (inr n) f = inr (f n)
+    compared rule reported e file (inl c) f = inl (sym (counted rule) ∙ ap is_counting (sym e) ∙ c)
+    compared rule reported e file (inr n) f = inr (f n)
 
 pub map_ok : {X E : Type 0} {P Q : X → Type 0} (r : Result X E) → ((x : X) → P x → Q x) → IfOk r P → IfOk r Q
 map_ok (Ok x) f h = f x h

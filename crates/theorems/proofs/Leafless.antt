@@ -15,7 +15,7 @@ use Rattle.life_canon.specs.Universe.{Universe, is_life, least_level, whole}
 use Rattle.life_canon.specs.Least.{HasNoLeaves}
 use Rattle.life_canon.specs.Listing.{canonical_file, line_of, lines_for, listed_squares}
 use Rattle.claims.specs.Counting.{has_leaves}
-use Rattle.claims.specs.Rules.{Rule as ToldRule, is_counting}
+use Rattle.claims.specs.Rules.{Rule as ReportedRule, is_counting}
 use Rattle.claims.proofs.RuleLaw.{rule_in}
 
 -- none of the lines is a leaf
@@ -98,7 +98,7 @@ counted : (rule : Rule) → is_counting (rule_in rule) ≡ is_life rule
 counted (Life life) = refl
 counted (Named name) = refl
 
-pub leaves_so : (text : List ℕ) (u : Universe) (rule : ToldRule) → rule ≡ rule_in u.rule → IsMacrocell 62 text (canonical_file 62 u)
+pub leaves_so : (text : List ℕ) (u : Universe) (rule : ReportedRule) → rule ≡ rule_in u.rule → IsMacrocell 62 text (canonical_file 62 u)
     → (is_counting rule ≡ true) ⊎ (has_leaves text ≡ false)
 leaves_so text u rule e says = elim (leafless u) [
   | inl life ↦ inl (ap is_counting e ∙ counted u.rule ∙ life)

@@ -9,7 +9,7 @@ use Rattle.life_mc.specs.Macrocell.{largest_state}
 use Rattle.life_canon.specs.Universe.{Universe, IsSame, IsOnPlane}
 use Rattle.life_canon.specs.Laws.{FaultsStay, FilesAreOnPlane, PatternsFit, TextsTellUniverses}
 use Rattle.life_canon.specs.Listing.{canon_text}
-use Rattle.life_canon.specs.Feeding.{RefusesFront}
+use Rattle.life_canon.specs.Feeding.{RefusesPrefix}
 use Rattle.life_canon.specs.Store.{IsRead, IsShortageOf, RefusesIn, universe_in}
 use Rattle.life_canon.specs.Texts.{IsCanonical}
 use Rattle.life_canon.specs.declared.pattern.Pattern.{Pattern}
@@ -61,15 +61,15 @@ joined_split (piece ∷ pieces) (suc n) =
     ap (λ (t : List ℕ). piece.items ++ t) (joined_split pieces n)
     ∙ sym (append_assoc piece.items (all_bytes (take n pieces)) (all_bytes (drop n pieces)))
 
--- a fault that is told of the pieces so far is that of all
-pub refused_so_far : FaultsStay 62 → (pieces : List (Vec ℕ)) (n : ℕ) (front : List ℕ) (store : Nodes) (fault : Fault) → front ≡ all_bytes (take n pieces)
-    → IsShortageOf store fault ⊎ RefusesFront 62 front fault → (pattern_of (all_bytes pieces) ≡ Err fault) ⊎ IsUnmet fault
-refused_so_far stay pieces n front store fault e (inl w) = inr (want_as store fault w)
-refused_so_far stay pieces n front store fault e (inr r) =
-    let whole : front ++ all_bytes (drop n pieces) ≡ all_bytes pieces = ap (λ (t : List ℕ). t ++ all_bytes (drop n pieces)) e ∙ sym (joined_split pieces n) in
+-- a fault that is reported of the pieces so far is that of all
+pub refused_so_far : FaultsStay 62 → (pieces : List (Vec ℕ)) (n : ℕ) (prefix : List ℕ) (store : Nodes) (fault : Fault) → prefix ≡ all_bytes (take n pieces)
+    → IsShortageOf store fault ⊎ RefusesPrefix 62 prefix fault → (pattern_of (all_bytes pieces) ≡ Err fault) ⊎ IsUnmet fault
+refused_so_far stay pieces n prefix store fault e (inl w) = inr (want_as store fault w)
+refused_so_far stay pieces n prefix store fault e (inr r) =
+    let whole : prefix ++ all_bytes (drop n pieces) ≡ all_bytes pieces = ap (λ (t : List ℕ). t ++ all_bytes (drop n pieces)) e ∙ sym (joined_split pieces n) in
     inl
     (subst (λ (b : List ℕ). pattern_of b ≡ Err fault) whole
-    (refuses_agree (front ++ all_bytes (drop n pieces)) fault (stay front (all_bytes (drop n pieces)) fault r).refuses))
+    (refuses_agree (prefix ++ all_bytes (drop n pieces)) fault (stay prefix (all_bytes (drop n pieces)) fault r).refuses))
 
 -- the same of bytes that are those of the pieces
 pub refused_there : (a b : List ℕ) (fault : Fault) → a ≡ b → (pattern_of a ≡ Err fault) ⊎ IsUnmet fault → (pattern_of b ≡ Err fault) ⊎ IsUnmet fault

@@ -24,15 +24,15 @@ use Rattle.claims.proofs.Running.{cut_at}
 use Rattle.theorems.proofs.FileLaw.{files_agree, as_mc, as_rle_lines, mc_first, rle_first}
 use Rattle.life_base.proofs.Basics.{true_false}
 
-front_format : (lines : List (List ℕ)) (k : ℕ) → k < length lines → is_macrocell (take k lines ++ slice_index_or lines k [] ∷ []) ≡ is_macrocell lines
-front_format [] k h = absurd (omega arith)
-front_format (line ∷ lines) zero h = refl
-front_format (line ∷ lines) (suc k) h = refl
+prefix_format : (lines : List (List ℕ)) (k : ℕ) → k < length lines → is_macrocell (take k lines ++ slice_index_or lines k [] ∷ []) ≡ is_macrocell lines
+prefix_format [] k h = absurd (omega arith)
+prefix_format (line ∷ lines) zero h = refl
+prefix_format (line ∷ lines) (suc k) h = refl
 
-first_format : (front : List (List ℕ)) (line : List ℕ) (rest more : List (List ℕ))
-    → is_macrocell ((front ++ line ∷ rest) ++ more) ≡ is_macrocell (front ++ line ∷ rest)
+first_format : (prefix : List (List ℕ)) (line : List ℕ) (rest more : List (List ℕ))
+    → is_macrocell ((prefix ++ line ∷ rest) ++ more) ≡ is_macrocell (prefix ++ line ∷ rest)
 first_format [] line rest more = refl
-first_format (first ∷ front) line rest more = refl
+first_format (first ∷ prefix) line rest more = refl
 
 take_more : (lines : List (List ℕ)) (k : ℕ) → k < length lines → take (suc k) lines ≡ take k lines ++ slice_index_or lines k [] ∷ []
 take_more [] k h = absurd (omega arith)
@@ -52,10 +52,10 @@ length_seam : (xs ys : List (List ℕ)) (y : List ℕ) → length xs < length ((
 length_seam [] ys y = omega arith
 length_seam (x ∷ xs) ys y = let h = length_seam xs ys y in omega (arith, h)
 
--- the last line of a front of a macrocell file breaks no rule
-unbroken : (front : List (List ℕ)) (line : List ℕ) → is_macrocell (front ++ line ∷ []) ≡ true → Prefix (Accepts 62) (front ++ line ∷ [])
-    → broken_rule 62 front line ≡ None
-unbroken front line m p = by (p.1.0) (p.1.1)
+-- the last line of a prefix of a macrocell file breaks no rule
+unbroken : (prefix : List (List ℕ)) (line : List ℕ) → is_macrocell (prefix ++ line ∷ []) ≡ true → Prefix (Accepts 62) (prefix ++ line ∷ [])
+    → broken_rule 62 prefix line ≡ None
+unbroken prefix line m p = by (p.1.0) (p.1.1)
   where
     more : List (List ℕ)
     more = kept_lines p.0 continuations
@@ -64,15 +64,15 @@ unbroken front line m p = by (p.1.0) (p.1.1)
     format [] ys y = refl
     format (x ∷ xs) ys y = refl
 
-    by : (u : Universe) → Says 62 ((front ++ line ∷ []) ++ kept_lines p.0 continuations) u → broken_rule 62 front line ≡ None
+    by : (u : Universe) → Says 62 ((prefix ++ line ∷ []) ++ kept_lines p.0 continuations) u → broken_rule 62 prefix line ≡ None
     by _ (as_macrocell file are) =
-        sym (ap (λ (t : List (List ℕ)). broken_rule 62 t line) (take_seam front (kept_lines p.0 continuations) line))
-        ∙ sym (ap (λ (t : List ℕ). broken_rule 62 (take (length front) ((front ++ line ∷ []) ++ kept_lines p.0 continuations)) t)
-        (index_seam front (kept_lines p.0 continuations) line))
-        ∙ are.unbroken (length front) (length_seam front (kept_lines p.0 continuations) line)
+        sym (ap (λ (t : List (List ℕ)). broken_rule 62 t line) (take_seam prefix (kept_lines p.0 continuations) line))
+        ∙ sym (ap (λ (t : List ℕ). broken_rule 62 (take (length prefix) ((prefix ++ line ∷ []) ++ kept_lines p.0 continuations)) t)
+        (index_seam prefix (kept_lines p.0 continuations) line))
+        ∙ are.unbroken (length prefix) (length_seam prefix (kept_lines p.0 continuations) line)
     by _ (as_rle file is) =
-        absurd (true_false (is_macrocell (front ++ line ∷ [])) m (sym (format front (kept_lines p.0 continuations) line)
-        ∙ rle_first ((front ++ line ∷ []) ++ kept_lines p.0 continuations) file is))
+        absurd (true_false (is_macrocell (prefix ++ line ∷ [])) m (sym (format prefix (kept_lines p.0 continuations) line)
+        ∙ rle_first ((prefix ++ line ∷ []) ++ kept_lines p.0 continuations) file is))
 
 fault_is : (fault : Fault) (n : ℕ) → fault.place.line ≡ min n (2 ^ 64 - 1) → claimed_fault_at n fault.kind ≡ fault
 fault_is fault n e = ap (λ l. record { place = record { line = l }; kind = fault.kind }) (sym e)
@@ -89,41 +89,41 @@ module _ (bytes : List ℕ) (fault : Fault) (r : Refuses 62 bytes fault) where
   abbrev lines : List (List ℕ)
   lines = lines_of bytes
 
-  -- a front of the lines before the place
+  -- a prefix of the lines before the place
   before : (i : ℕ) → suc i < r.n → i < length (lines_of bytes) → is_macrocell (lines_of bytes) ≡ true
       → broken_rule 62 (take i (lines_of bytes)) (slice_index_or (lines_of bytes) i []) ≡ None
   before i h l m =
-      unbroken (take i (lines_of bytes)) (slice_index_or (lines_of bytes) i []) (front_format (lines_of bytes) i l ∙ m)
+      unbroken (take i (lines_of bytes)) (slice_index_or (lines_of bytes) i []) (prefix_format (lines_of bytes) i l ∙ m)
       (subst (Prefix (Accepts 62)) (take_more (lines_of bytes) i l) (r.place.before (suc i) h))
 
   at_line : (k : ℕ) → r.n ≡ suc k → k < length (lines_of bytes) → pattern_of bytes ≡ Err fault
   at_line k e h =
       let same : r.n - 1 ≡ k = omega (arith, e) in
-      let front = take k (lines_of bytes) in
+      let prefix = take k (lines_of bytes) in
       let line = slice_index_or (lines_of bytes) k [] in
-      let breaks : Breaks 62 front line fault.kind = subst (λ m. Breaks 62 (take m (lines_of bytes)) (slice_index_or (lines_of bytes) m []) fault.kind) same
+      let breaks : Breaks 62 prefix line fault.kind = subst (λ m. Breaks 62 (take m (lines_of bytes)) (slice_index_or (lines_of bytes) m []) fault.kind) same
       (r.at_line (omega (arith, e, h))) in
-      let format = front_format (lines_of bytes) k h in
-      let told : claimed_fault_at (suc k) fault.kind ≡ fault = fault_is fault (suc k) (r.line ∙ ap (λ n. min n (2 ^ 64 - 1)) e) in
+      let format = prefix_format (lines_of bytes) k h in
+      let reported : claimed_fault_at (suc k) fault.kind ≡ fault = fault_is fault (suc k) (r.line ∙ ap (λ n. min n (2 ^ 64 - 1)) e) in
       elim (cases_Bool (is_macrocell (lines_of bytes))) [
         | inl m ↦
-            let b : broken_rule 62 front line ≡ Some fault.kind = when_true (is_macrocell (front ++ line ∷ [])) _ _ (format ∙ m) breaks in
+            let b : broken_rule 62 prefix line ≡ Some fault.kind = when_true (is_macrocell (prefix ++ line ∷ [])) _ _ (format ∙ m) breaks in
             let plus : k + 1 ≡ suc k = omega arith in
             as_mc bytes m ∙ macrocell_refuses (lines_of bytes) k fault.kind h (λ i l. before i (omega (arith, e)) (omega arith) m) b
-            ∙ ap (λ n. Err (claimed_fault_at n fault.kind)) plus ∙ ap Err told
+            ∙ ap (λ n. Err (claimed_fault_at n fault.kind)) plus ∙ ap Err reported
         | inr m ↦
-            let b : BreaksRle 62 front line fault.kind = when_false (is_macrocell (front ++ line ∷ [])) _ _ (format ∙ m) breaks in
-            let short : 1 + length front ≡ suc k = omega (arith, length-take-le k (lines_of bytes) (omega arith)) in
+            let b : BreaksRle 62 prefix line fault.kind = when_false (is_macrocell (prefix ++ line ∷ [])) _ _ (format ∙ m) breaks in
+            let short : 1 + length prefix ≡ suc k = omega (arith, length-take-le k (lines_of bytes) (omega arith)) in
             as_rle_lines bytes m ∙ ap (read_lines with_rle_line end_of_rle 1 begun) (cut_at (lines_of bytes) k h)
-            ∙ rle_refuses front (drop (suc k) (lines_of bytes)) line fault.kind b
-            ∙ ap (λ n. Err (claimed_fault_at n fault.kind)) short ∙ ap Err told
+            ∙ rle_refuses prefix (drop (suc k) (lines_of bytes)) line fault.kind b
+            ∙ ap (λ n. Err (claimed_fault_at n fault.kind)) short ∙ ap Err reported
       ]
 
   at_end : r.n ≡ suc (length (lines_of bytes)) → pattern_of bytes ≡ Err fault
   at_end e = by (is_macrocell (lines_of bytes)) refl (r.at_end (omega (arith, e)))
     where
-      told : claimed_fault_at (suc (length (lines_of bytes))) fault.kind ≡ fault
-      told = fault_is fault (suc (length (lines_of bytes))) (r.line ∙ ap (λ n. min n (2 ^ 64 - 1)) e)
+      reported : claimed_fault_at (suc (length (lines_of bytes))) fault.kind ≡ fault
+      reported = fault_is fault (suc (length (lines_of bytes))) (r.line ∙ ap (λ n. min n (2 ^ 64 - 1)) e)
 
       whole : Prefix (Accepts 62) (lines_of bytes)
       whole = subst (Prefix (Accepts 62)) (all (lines_of bytes)) (r.place.before (length (lines_of bytes)) (omega (arith, e)))
@@ -135,22 +135,22 @@ module _ (bytes : List ℕ) (fault : Fault) (r : Refuses 62 bytes fault) where
       no_broken : is_macrocell (lines_of bytes) ≡ false → HasBroken 62 (lines_of bytes) → ⊥
       no_broken m h = at (whole.1.0) (whole.1.1)
         where
-          parts : lines_of bytes ++ kept_lines whole.0 continuations ≡ (h.front ++ h.line ∷ []) ++ (h.rest ++ kept_lines whole.0 continuations)
+          parts : lines_of bytes ++ kept_lines whole.0 continuations ≡ (h.prefix ++ h.line ∷ []) ++ (h.rest ++ kept_lines whole.0 continuations)
           parts =
               ap (λ (t : List (List ℕ)). t ++ kept_lines whole.0 continuations) h.whole
-              ∙ append_assoc h.front (h.line ∷ h.rest) (kept_lines whole.0 continuations)
-              ∙ sym (append_assoc h.front (h.line ∷ []) (h.rest ++ kept_lines whole.0 continuations))
+              ∙ append_assoc h.prefix (h.line ∷ h.rest) (kept_lines whole.0 continuations)
+              ∙ sym (append_assoc h.prefix (h.line ∷ []) (h.rest ++ kept_lines whole.0 continuations))
 
           format : is_macrocell (lines_of bytes ++ kept_lines whole.0 continuations) ≡ false
           format =
               ap (λ (t : List (List ℕ)). is_macrocell (t ++ kept_lines whole.0 continuations)) h.whole
-              ∙ first_format h.front h.line h.rest (kept_lines whole.0 continuations)
+              ∙ first_format h.prefix h.line h.rest (kept_lines whole.0 continuations)
               ∙ ap is_macrocell (sym h.whole) ∙ m
 
           at : (u : Universe) → Says 62 (lines_of bytes ++ kept_lines whole.0 continuations) u → ⊥
           at _ (as_macrocell file are) = true_false (is_macrocell (lines_of bytes ++ kept_lines whole.0 continuations))
               (mc_first (lines_of bytes ++ kept_lines whole.0 continuations) file are) format
-          at _ (as_rle file is) = (broken_for_good 62 h.front h.line h.kind h.breaks).2 (h.rest ++ kept_lines whole.0 continuations) file
+          at _ (as_rle file is) = (broken_for_good 62 h.prefix h.line h.kind h.breaks).2 (h.rest ++ kept_lines whole.0 continuations) file
               (subst (λ (t : List (List ℕ)). IsRle 62 t file) parts is)
 
       lacks : is_macrocell (lines_of bytes) ≡ false → LacksHeader 62 (lines_of bytes)
@@ -169,7 +169,7 @@ module _ (bytes : List ℕ) (fault : Fault) (r : Refuses 62 bytes fault) where
           as_rle_lines bytes m ∙ rle_lacks (lines_of bytes) l.0 l.1
           ∙ ap (λ (k : Kind). Err (claimed_fault_at (1 + length (lines_of bytes)) k)) kind
           ∙ ap (λ n. Err (claimed_fault_at n fault.kind)) (let plus : 1 + length (lines_of bytes) ≡ suc (length (lines_of bytes)) = omega arith in plus)
-          ∙ ap Err told
+          ∙ ap Err reported
 
   -- a refused file has this fault
   pub refuses_agree : pattern_of bytes ≡ Err fault
@@ -186,7 +186,7 @@ module _ (bytes : List ℕ) (fault : Fault) (r : Refuses 62 bytes fault) where
       by (inl h) = at_line h.0 h.1 h.2
       by (inr h) = at_end h
 
--- room or memory was wanted
+-- the store is full or memory is refused
 pub want_as : (store : Nodes) (fault : Fault) → IsShortageOf store fault → IsUnmet fault
 want_as store fault (inl e) = inr e
 want_as store fault (inr e) = inl e.0

@@ -32,8 +32,8 @@ rule_text_is (Life rule) = by rule.near (digits_of rule.sets.births) (digits_of 
     by VonNeumann b s = refl
 
 -- the five lines by their parts
-abbrev told : ℕ → List ℕ → ℕ → List ℕ → ℕ → List ℕ
-told population rule generation box nodes =
+abbrev reported : ℕ → List ℕ → ℕ → List ℕ → ℕ → List ℕ
+reported population rule generation box nodes =
     codes "rule " ++ rule ++ codes "\ngeneration " ++ decimal generation ++ codes "\npopulation " ++ decimal population ++ codes "\n" ++ box ++ codes "nodes "
     ++ decimal nodes ++ codes "\n"
 
@@ -45,7 +45,7 @@ same_box : (d : ℤ → ℤ → ℕ) (box : Option Bounds) → IsBoxOf d box →
 same_box d None h = h
 same_box d (Some box) h = record { inside = h.inside; at_left = h.at_left; at_right = h.at_right; at_top = h.at_top; at_bottom = h.at_bottom }
 
--- the pattern of a file and what is told of it
+-- the pattern of a file and what is reported of it
 pub shown_is : FilesAreOnPlane 62 → FilesAreUnique 62 → TextsAreFiles 62 → (bytes lines text : List ℕ) → LayerShown 62 bytes lines → IsCanonical 62 bytes text
     → (pattern : Pattern) × (pattern_of bytes ≡ Ok pattern) × IsClaimedShown pattern (claimed_node_lines text) lines
 shown_is on_plane unique files bytes lines text s c =
@@ -67,11 +67,12 @@ shown_is on_plane unique files bytes lines text s c =
         box = s.box;
         is_box = subst (λ (f : ℤ → ℤ → ℕ). IsBox f s.box) (sym cells) (same_box u.cell s.box s.least);
         is = s.is
-            ∙ ap (λ (r : List ℕ). told (length s.cells) r u.generation (box_text s.box) (layer_node_lines (canonical_file 62 u)))
+            ∙ ap (λ (r : List ℕ). reported (length s.cells) r u.generation (box_text s.box) (layer_node_lines (canonical_file 62 u)))
             (sym (ap claimed_rule_text p.rule ∙ rule_text_is u.rule))
-            ∙ ap (λ g. told (length s.cells) (claimed_rule_text p.pattern.rule) g (box_text s.box) (layer_node_lines (canonical_file 62 u))) (sym p.generation)
-            ∙ ap (λ (b : List ℕ). told (length s.cells) (claimed_rule_text p.pattern.rule) p.pattern.generation b (layer_node_lines (canonical_file 62 u)))
+            ∙ ap (λ g. reported (length s.cells) (claimed_rule_text p.pattern.rule) g (box_text s.box) (layer_node_lines (canonical_file 62 u)))
+            (sym p.generation)
+            ∙ ap (λ (b : List ℕ). reported (length s.cells) (claimed_rule_text p.pattern.rule) p.pattern.generation b (layer_node_lines (canonical_file 62 u)))
             (sym (box_line_is s.box))
-            ∙ ap (λ n. told (length s.cells) (claimed_rule_text p.pattern.rule) p.pattern.generation (box_line s.box) n) nodes;
+            ∙ ap (λ n. reported (length s.cells) (claimed_rule_text p.pattern.rule) p.pattern.generation (box_line s.box) n) nodes;
       },
     )

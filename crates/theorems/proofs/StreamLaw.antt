@@ -18,9 +18,9 @@ some_of xs ys e = cc
 
 pub all_read : (most : ℕ) (old new : Option (List ℕ)) (bytes read : List ℕ) → ReadAll most old new read → old ≡ Some bytes → read ≡ bytes
 all_read most None new bytes read r e = cc
-all_read most (Some xs) None bytes read r e = absurd r.taken
+all_read most (Some xs) None bytes read r e = absurd r.consumed
 all_read most (Some xs) (Some ys) bytes read r e =
-    sym (append-nil read) ∙ ap (λ (t : List ℕ). read ++ t) (sym r.ended) ∙ sym r.taken ∙ some_of xs bytes e
+    sym (append-nil read) ∙ ap (λ (t : List ℕ). read ++ t) (sym r.ended) ∙ sym r.consumed ∙ some_of xs bytes e
 
 pub appended : (old new : Option (List ℕ)) (held text : List ℕ) → Appends old new text → old ≡ Some held → new ≡ Some (held ++ text)
 appended None new held text h e = cc
@@ -29,9 +29,9 @@ appended (Some xs) (Some ys) held text h e = ap Some (h ∙ ap (λ (t : List ℕ
 
 pub beyond : (most : ℕ) (old new : Option (List ℕ)) (bytes : List ℕ) → CameBeyond most old new → old ≡ Some bytes → most < length bytes
 beyond most None new bytes h e = cc
-beyond most (Some xs) None bytes h e = absurd h.taken
+beyond most (Some xs) None bytes h e = absurd h.consumed
 beyond most (Some xs) (Some ys) bytes h e =
-    let whole : length bytes ≡ length h.bytes + length ys = ap length (sym (some_of xs bytes e) ∙ h.taken) ∙ length-append h.bytes ys in
+    let whole : length bytes ≡ length h.bytes + length ys = ap length (sym (some_of xs bytes e) ∙ h.consumed) ∙ length-append h.bytes ys in
     let l = h.long in omega (arith, whole, l)
 
 -- all was read, and the sink has this text after what it held
@@ -59,7 +59,7 @@ pub has_ended : (source : SourceRun) (before after : Option (List ℕ)) (bytes :
 has_ended source before after bytes r e =
     let same = all_read (2 ^ 30) source.before source.after bytes r.bytes r.read e in
     let within : length bytes ≤ 2 ^ 30 = subst (λ (b : List ℕ). length b ≤ 2 ^ 30) same r.read.within in
-    (at_end source.before source.after bytes r.bytes r.read.taken r.read.ended e, within)
+    (at_end source.before source.after bytes r.bytes r.read.consumed r.read.ended e, within)
 
 pub stream_fault : (store : Nodes) (source : SourceRun) (sink : SinkRun) (bytes : List ℕ) (fault : Fault)
     → RunRefuses 62 (2 ^ 30) store source sink fault → source.before ≡ Some bytes → IsStreamFault bytes source.failures sink.failures sink.stalled fault

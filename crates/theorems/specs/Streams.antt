@@ -5,7 +5,7 @@ use Rattle.life_base.specs.declared.kind.Kind.TheVariants.{ReadFault, WriteFault
 use Rattle.claims.specs.Files.{pattern_of, claimed_fault_of, IsShortage}
 
 -- The fault of a stream of these bytes, of whose source and sink so many calls have failed, and whose sink has taken no bytes or has: they are no
--- file; room or memory was wanted; they are too many; the source failed; the sink failed or took no bytes.
+-- file; the store is full or memory is refused; they are too many; the source failed; the sink failed or took no bytes.
 pub data IsStreamFault (bytes : List ℕ) (failed_reads failed_writes : ℕ) (stalled : Bool) : Fault → Type 0 where
   no_file : (fault : Fault) → length bytes ≤ 2 ^ 30 → pattern_of bytes ≡ Err fault → IsStreamFault bytes failed_reads failed_writes stalled fault
   want : (fault : Fault) → IsShortage fault → IsStreamFault bytes failed_reads failed_writes stalled fault

@@ -3,7 +3,7 @@
 ghost use Rattle.std.specs.Prelude.{◌≡◌, ◌≢◌, ◌⊎◌, ◌≤◌, ◌^◌, ◌++◌, ℕ, List, [], length, true, false, Some, IfOk, IfErr, IsErrAnd, OnOk};
 ghost use Rattle.theorems.specs.Words.{IsTextOfFile, SayOnePattern, IsStreamFault};
 
-use crate::room::StoreOptions;
+use crate::space::StoreOptions;
 use life_base::{Fault, Kind, Sink, Source};
 use life_canon::laws::{files_are_on_plane, files_are_unique, texts_keep_patterns};
 use life_canon::{canon, run_canon};
@@ -19,7 +19,7 @@ use std::alloc::Global;
 /// source failed; `WriteFault` where the sink failed or took no bytes.
 pub fn stream_to_stream<R: Source, W: Sink>(
     alloc: Global,
-    room: StoreOptions,
+    space: StoreOptions,
     reader: &mut R,
     writer: &mut W,
 ) -> Result<(), Fault>
@@ -38,14 +38,14 @@ pub fn stream_to_stream<R: Source, W: Sink>(
     ensures refused { (bytes : List ℕ) → R.remaining reader.old ≡ Some bytes
         → IfErr result (IsStreamFault bytes (R.failures reader.new) (W.failures writer.new)
         (W.stalled writer.new)) }
-    ensures read_told { R.failures reader.new ≡ 1
+    ensures read_reported { R.failures reader.new ≡ 1
         → IsErrAnd result (λ fault. fault.kind ≡ Kind.ReadFault) }
-    ensures write_told { (W.failures writer.new ≡ 1) ⊎ (W.stalled writer.new ≡ true)
+    ensures write_reported { (W.failures writer.new ≡ 1) ⊎ (W.stalled writer.new ≡ true)
         → IsErrAnd result (λ fault. fault.kind ≡ Kind.WriteFault) }
 {
     files_are_on_plane();
     texts_keep_patterns();
-    run_canon(alloc, &mut room.new_store(alloc), reader, writer)
+    run_canon(alloc, &mut space.new_store(alloc), reader, writer)
 }
 
 /// What is written to a sink that reports what it holds is the canonical text that `canon` makes of the bytes of the source.

@@ -59,7 +59,7 @@ pub(super) enum End {
 /// A writer of std that takes `piece` bytes at a time, `room` bytes at most.
 #[derive(Drop)]
 pub(super) struct Narrow<'a> {
-    pub(super) taken: &'a mut Vec<u8>,
+    pub(super) written: &'a mut Vec<u8>,
     pub(super) room: usize,
     pub(super) piece: usize,
     pub(super) end: End,
@@ -72,7 +72,7 @@ impl<'a> Write for Narrow<'a> {
             _ => {}
         }
         let count = buf.len().min(self.room).min(self.piece);
-        self.taken.extend_from_slice(&buf[..count])?;
+        self.written.extend_from_slice(&buf[..count])?;
         self.room -= count;
         Ok(count)
     }
@@ -88,7 +88,7 @@ impl<'a> Write for Narrow<'a> {
 /// A sink that takes some bytes at a time, none where `piece` is 0, and fails when it is full.
 #[derive(Drop)]
 pub struct Limited {
-    pub taken: Vec<u8>,
+    pub written: Vec<u8>,
     pub room: usize,
     pub piece: usize,
     pub failed: bool,
@@ -99,7 +99,7 @@ pub struct Limited {
 impl Sink for Limited {
     ghost failures = { λ s. flag_count s.failed };
 
-    ghost contents = { λ s. Some s.taken.items };
+    ghost contents = { λ s. Some s.written.items };
 
     ghost stalled = { λ s. s.stalled };
 
@@ -114,7 +114,7 @@ impl Sink for Limited {
     fn write(&mut self, buf: &[u8]) -> Result<usize, Kind> {
         self.flushed = false;
         let count = buf.len().min(self.room).min(self.piece);
-        if self.room == 0 || self.taken.extend_from_slice(&buf[..count]).is_err() {
+        if self.room == 0 || self.written.extend_from_slice(&buf[..count]).is_err() {
             self.failed = true;
             return Err(Kind::WriteFault);
         }
@@ -137,7 +137,7 @@ pub(super) fn sink_with(alloc: Global, room: usize, piece: usize) -> Limited
     ensures stalled { result.stalled ≡ false }
 {
     Limited {
-        taken: Vec::new(alloc),
+        written: Vec::new(alloc),
         room,
         piece,
         failed: false,
@@ -153,8 +153,8 @@ pub(super) fn assert_left(
     wanted: (u8, &[u8], &[u8]),
 ) {
     assert!(rt; status == wanted.0, "status {status}");
-    assert!(rt; out.taken.as_slice() == wanted.1, "standard output");
-    assert!(rt; err.taken.as_slice() == wanted.2, "standard error");
+    assert!(rt; out.written.as_slice() == wanted.1, "standard output");
+    assert!(rt; err.written.as_slice() == wanted.2, "standard error");
     assert!(rt; !out.failed || status == 3);
 }
 
@@ -269,9 +269,9 @@ pub(super) fn assert_case(
 ) {
     let mut out = sink_with(alloc, sink.0, sink.1);
     let (status, err, first_failed) = run_case(rt, alloc, case, &mut out, (99, 3));
-    let is_told = status == wanted.status && first_failed == wanted.first_failed;
-    let is_taken = out.taken.as_slice() == wanted.out && err.taken.as_slice() == wanted.err;
-    if !is_told || !is_taken || (out.failed && status != 3) {
+    let is_reported = status == wanted.status && first_failed == wanted.first_failed;
+    let is_written = out.written.as_slice() == wanted.out && err.written.as_slice() == wanted.err;
+    if !is_reported || !is_written || (out.failed && status != 3) {
         refuse(rt, case, sink, status);
     }
 }

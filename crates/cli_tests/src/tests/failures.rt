@@ -50,16 +50,16 @@ fn each_read_of_the_second_file_fails(rt: HostRuntime) {
 }
 
 /// A task whose output takes the text only up to some byte reports that, and has written what was taken.
-fn assert_front(
+fn assert_prefix(
     rt: &impl Abort,
     alloc: Global,
     case: &Case,
     text: &[u8],
     (room, piece, end): (usize, usize, End),
 ) {
-    let mut taken = Vec::new(alloc);
+    let mut written = Vec::new(alloc);
     let writer = Narrow {
-        taken: &mut taken,
+        written: &mut written,
         room,
         piece,
         end,
@@ -67,9 +67,9 @@ fn assert_front(
     let mut out = Device::new(writer);
     let (status, err, _) = run_case(rt, alloc, case, &mut out, (99, 3));
     drop(out);
-    let is_fault = status == 3 && err.taken.as_slice() == b"WriteFault\n".as_slice();
-    let is_front = text.starts_with(&taken) && taken.len() == room;
-    assert!(rt; is_fault && is_front, "{:?} {room} {piece}", case.task);
+    let is_fault = status == 3 && err.written.as_slice() == b"WriteFault\n".as_slice();
+    let is_prefix = text.starts_with(&written) && written.len() == room;
+    assert!(rt; is_fault && is_prefix, "{:?} {room} {piece}", case.task);
 }
 
 /// How many bytes are taken at most before a write is interrupted, or takes none: whole texts but the last byte, where 999 is said.
@@ -84,9 +84,9 @@ const ENDS: [(usize, End); 4] = [
 ];
 
 /// A task whose output takes the text only up to some byte, in any of these ways, reports that.
-fn assert_fronts(rt: &impl Abort, alloc: Global, case: &Case, text: &[u8], room: usize) {
+fn assert_prefixes(rt: &impl Abort, alloc: Global, case: &Case, text: &[u8], room: usize) {
     for &(piece, end) in &ENDS {
-        assert_front(rt, alloc, case, text, (room, piece, end));
+        assert_prefix(rt, alloc, case, text, (room, piece, end));
     }
 }
 
@@ -96,7 +96,7 @@ fn each_write_fails(rt: HostRuntime) {
         let case = case_of(task, first, second, 999);
         for most in ROOMS {
             let room = text.len().saturating_sub(1).min(most);
-            assert_fronts(&rt, rt.alloc(), &case, text, room);
+            assert_prefixes(&rt, rt.alloc(), &case, text, room);
         }
     }
 }
@@ -107,12 +107,12 @@ fn each_flush_fails(rt: HostRuntime) {
     for &(task, first, second, _, text) in &TASKS {
         let case = case_of(task, first, second, 999);
         let end = (text.len(), 999, End::Unflushed(io::ErrorKind::Other));
-        assert_front(&rt, rt.alloc(), &case, text, end);
+        assert_prefix(&rt, rt.alloc(), &case, text, end);
     }
 }
 
 /// Where standard error takes only a prefix of the fault's line, the status stays.
-fn assert_error_front(rt: &impl Abort, alloc: Global, room: usize, piece: usize, wanted: &[u8]) {
+fn assert_error_prefix(rt: &impl Abort, alloc: Global, room: usize, piece: usize, wanted: &[u8]) {
     let mut out = sink_with(alloc, 999, 7);
     let case = case_of(Task::Canon(Form::Placed), b"o!\n", None, 999);
     let (status, err, _) = run_case(rt, alloc, &case, &mut out, (room, piece));
@@ -124,7 +124,7 @@ fn each_write_to_standard_error_fails(rt: HostRuntime) {
     let line = b"line 1: NoHeader\n".as_slice();
     for room in 0..line.len() {
         for piece in [1, 3, 7, 999] {
-            assert_error_front(&rt, rt.alloc(), room, piece, &line[..room]);
+            assert_error_prefix(&rt, rt.alloc(), room, piece, &line[..room]);
         }
     }
 }

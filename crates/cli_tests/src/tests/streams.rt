@@ -94,14 +94,14 @@ fn each_call_reaches_what_is_inside(rt: HostRuntime) {
 }
 
 #[test]
-fn each_failure_inside_is_told(rt: HostRuntime) {
+fn each_failure_inside_is_reported(rt: HostRuntime) {
     assert_one_read(&rt, true, Err(Kind::ReadFault));
     assert_one_write(&rt, true, Err(Kind::WriteFault));
     assert_one_flush(&rt, true, Err(Kind::WriteFault));
 }
 
 #[test]
-fn expected_bytes_are_told(rt: HostRuntime) {
+fn expected_bytes_are_reported(rt: HostRuntime) {
     let reader = Device::new(&b"ab"[..]);
     assert!(rt; reader.expected() == 0 && reader.expecting(7).expected() == 7);
 }
@@ -146,19 +146,19 @@ fn write_all<W: Sink>(writer: &mut W) -> Result<(), Kind>
 
 #[test]
 fn texts_are_written_one_after_another(rt: HostRuntime) {
-    let mut taken = Vec::new(rt.alloc());
-    let mut writer = Device::new(&mut taken);
-    let written = write_all(&mut writer);
-    assert!(rt; written == Ok(()) && !Sink::failed(&writer));
+    let mut written = Vec::new(rt.alloc());
+    let mut writer = Device::new(&mut written);
+    let outcome = write_all(&mut writer);
+    assert!(rt; outcome == Ok(()) && !Sink::failed(&writer));
     drop(writer);
-    assert!(rt; taken.as_slice() == b"abcdefgh".as_slice());
+    assert!(rt; written.as_slice() == b"abcdefgh".as_slice());
 }
 
 /// Of `abcdefgh`, in two texts, a writer has the bytes that fitted: it takes no more, or fails.
-fn assert_front(rt: &impl Abort, alloc: Global, room: usize, end: End, wanted: Result<(), Kind>) {
-    let mut taken = Vec::new(alloc);
+fn assert_prefix(rt: &impl Abort, alloc: Global, room: usize, end: End, wanted: Result<(), Kind>) {
+    let mut written = Vec::new(alloc);
     let mut writer = Device::new(Narrow {
-        taken: &mut taken,
+        written: &mut written,
         room,
         piece: 3,
         end,
@@ -170,31 +170,31 @@ fn assert_front(rt: &impl Abort, alloc: Global, room: usize, end: End, wanted: R
         "with room for {room}"
     );
     drop(writer);
-    let is_front = b"abcdefgh".starts_with(&taken) && taken.len() == room;
-    assert!(rt; is_front, "with room for {room}");
+    let is_prefix = b"abcdefgh".starts_with(&written) && written.len() == room;
+    assert!(rt; is_prefix, "with room for {room}");
 }
 
 #[test]
-fn a_writer_that_stops_has_the_front_of_the_text(rt: HostRuntime) {
+fn a_writer_that_stops_has_the_prefix_of_the_text(rt: HostRuntime) {
     for end in [End::Stops, End::Fails(io::ErrorKind::BrokenPipe)] {
         for room in 0..=7usize {
-            assert_front(&rt, rt.alloc(), room, end, Err(Kind::WriteFault));
+            assert_prefix(&rt, rt.alloc(), room, end, Err(Kind::WriteFault));
         }
-        assert_front(&rt, rt.alloc(), 8, end, Ok(()));
+        assert_prefix(&rt, rt.alloc(), 8, end, Ok(()));
     }
 }
 
 #[test]
-fn a_flush_that_fails_is_told(rt: HostRuntime) {
-    let mut taken = Vec::new(rt.alloc());
+fn a_flush_that_fails_is_reported(rt: HostRuntime) {
+    let mut written = Vec::new(rt.alloc());
     let mut writer = Device::new(Narrow {
-        taken: &mut taken,
+        written: &mut written,
         room: 9,
         piece: 3,
         end: End::Unflushed(io::ErrorKind::BrokenPipe),
     });
-    let told = deliver(&mut writer, b"abc");
-    assert!(rt; told == Err(Kind::WriteFault) && Sink::failed(&writer));
+    let reported = deliver(&mut writer, b"abc");
+    assert!(rt; reported == Err(Kind::WriteFault) && Sink::failed(&writer));
     drop(writer);
-    assert!(rt; taken.as_slice() == b"abc".as_slice());
+    assert!(rt; written.as_slice() == b"abc".as_slice());
 }

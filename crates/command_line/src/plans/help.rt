@@ -316,7 +316,7 @@ LIST has one name a line, as `find` writes them. With --zero each name ends in N
 `find -print0` writes them, and so do the lines of the output. The list is read before
 any file is opened. In the list, - is the name of a file, and not standard input.
 
-With --stream STREAM the patterns of one file, or of standard input, are taken one after
+With --stream STREAM the patterns of one file, or of standard input, are consumed one after
 the other. Each ends in a NUL byte; what follows the last NUL is a pattern too, unless it
 is empty. A pattern has its number for a name, from 1 on, and all that is written of it is
 what would be written of a file of that name with these bytes. Its line is written as soon

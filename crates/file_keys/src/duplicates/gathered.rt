@@ -1,7 +1,7 @@
 //! What a run of the command `duplicates` keeps of its files.
 
 ghost use Rattle.std.specs.Prelude.{◌≡◌, [], true};
-ghost use Rattle.file_keys.specs.Words.{classes_in, is_empty, IsToldAs, kept_groups, PutsFile, status_by, with_outcome};
+ghost use Rattle.file_keys.specs.Words.{classes_in, is_empty, IsReportedAs, kept_groups, PutsFile, status_by, with_outcome};
 
 use super::groups::Groups;
 use crate::keys::outcome::Outcome;
@@ -23,7 +23,7 @@ pub struct Gathered<'a> {
 
 /// Keeps the name of a file that has a key. Where memory is refused for that, the file has no key.
 fn keep<'a>(groups: &mut Groups<'a>, name: &'a [u8], outcome: Outcome) -> Outcome
-    ensures told { IsToldAs outcome result }
+    ensures reported { IsReportedAs outcome result }
     ensures kept { classes_in groups.new ≡ with_outcome (classes_in groups.old) result name.now }
 {
     let Outcome::Key(key) = outcome else {
@@ -36,7 +36,7 @@ fn keep<'a>(groups: &mut Groups<'a>, name: &'a [u8], outcome: Outcome) -> Outcom
 }
 
 impl<'a> Gathered<'a> {
-    /// No file is taken yet.
+    /// No file is processed yet.
     pub(super) fn new(alloc: Global, seeds: &Seeds) -> Gathered<'a>
         ensures tells { result.tells ≡ true }
         ensures status { result.status ≡ 0 }
@@ -52,13 +52,13 @@ impl<'a> Gathered<'a> {
     /// Keeps the name of a file that has a key, or reports why it has none.
     pub(super) fn put<E: Sink>(&mut self, name: &'a [u8], outcome: Outcome, err: &mut E)
         requires { self.old.tells ≡ true → E.failures err.old ≡ 0 }
-        ensures { (told : _) × IsToldAs outcome told
+        ensures { (reported : _) × IsReportedAs outcome reported
             × PutsFile E.contents E.failures E.stalled err.old err.new self.old self.new name.now
-            told }
+            reported }
     {
-        let told = keep(&mut self.groups, name, outcome);
-        self.tells = tell_outcome(self.tells, err, name, &told);
-        let status = told.status();
+        let reported = keep(&mut self.groups, name, outcome);
+        self.tells = tell_outcome(self.tells, err, name, &reported);
+        let status = reported.status();
         if status > self.status {
             self.status = status;
         }

@@ -66,7 +66,7 @@ impl<'a, R: Source + Drop, F: FnMut(Origin<'_>) -> IoResult<OpenedFile<R>> + Dro
 
 /// Writes the names of the files that the plan names in groups, one for each key that more than one of them has. Files that are refused or can't be
 /// opened are reported on `err` and passed over, and so is a file for whose key or name there is no memory. Nothing is written to `out` before all
-/// files were taken. A file that `opener` opens is reported as `ReadFault` exactly where a read of it fails. Returns the status that the program ends
+/// files were processed. A file that `opener` opens is reported as `ReadFault` exactly where a read of it fails. Returns the status that the program ends
 /// with: the greatest one of a file, or if that is 0, whether there is no group.
 pub fn write_duplicates<R, F, W, E>(
     alloc: Global,

@@ -13,7 +13,7 @@ use memchr::memchr3;
 use std::io::ErrorKind;
 
 /// How many bytes at the beginning of a name are written as they are: those before the first backslash, LF or CR.
-fn plain_front(name: &[u8]) -> usize
+fn plain_prefix(name: &[u8]) -> usize
     ensures plain { escaped_name (take result name.now) ≡ take result name.now }
     ensures within { result ≤ length name.now }
     ensures next { result < length name.now → is_special (slice_index name.now result) ≡ true }
@@ -43,7 +43,7 @@ fn first_piece(name: &[u8]) -> (&[u8], usize)
     ensures count { (0 < result.1) × (result.1 ≤ length name.now) }
     ensures piece { escaped_name name.now ≡ result.0.now ++ escaped_name (drop result.1 name.now) }
 {
-    match plain_front(name) {
+    match plain_prefix(name) {
         0 => (escape(name[0]), 1),
         count => (&name[..count], count),
     }
@@ -83,7 +83,7 @@ pub(crate) fn write_escaped<E: Sink>(err: &mut E, name: &[u8]) -> Result<(), Kin
 fn mark(name: &[u8]) -> &'static [u8]
     ensures { result.now ≡ name_mark name.now }
 {
-    if plain_front(name) < name.len() {
+    if plain_prefix(name) < name.len() {
         b"\\"
     } else {
         b""

@@ -1,7 +1,7 @@
 //! What a run of the command `keys` writes of its files.
 
 ghost use Rattle.std.specs.Prelude.{◌≡◌, true, false, max};
-ghost use Rattle.file_keys.specs.Words.{LeavesSink, sink_run, fault_of, fault_line, refusal_of, status_of, Reports, error_line, IsToldAs, object_text, outcome_line, outcome_status, output_line, report_line, TellsOn, warning_line, WritesEntry, WritesFiles, WritesText};
+ghost use Rattle.file_keys.specs.Words.{LeavesSink, sink_run, fault_of, fault_line, refusal_of, status_of, Reports, error_line, IsReportedAs, object_text, outcome_line, outcome_status, output_line, report_line, TellsOn, warning_line, WritesEntry, WritesFiles, WritesText};
 
 use super::lines::{append_key_line, write_error_line, write_warning};
 use super::objects::write_object_whole;
@@ -23,22 +23,22 @@ pub struct Outputs {
     pub status: u8,
     alloc: Global,
     // The buffer for the line of a key.
-    room: Vec<u8>,
+    space: Vec<u8>,
 }
 
-/// Makes the line of a key in `room`. Where memory is refused for it, the file has no key.
-fn make_line(room: &mut Vec<u8>, name: &[u8], outcome: Outcome, zero: bool) -> Outcome
-    ensures told { IsToldAs outcome result }
-    ensures line { room.new.items ≡ outcome_line zero name.now result }
+/// Makes the line of a key in `space`. Where memory is refused for it, the file has no key.
+fn make_line(space: &mut Vec<u8>, name: &[u8], outcome: Outcome, zero: bool) -> Outcome
+    ensures reported { IsReportedAs outcome result }
+    ensures line { space.new.items ≡ outcome_line zero name.now result }
 {
-    room.clear();
+    space.clear();
     let Outcome::Key(key) = outcome else {
         return outcome;
     };
-    if append_key_line(room, &key, name, zero).is_ok() {
+    if append_key_line(space, &key, name, zero).is_ok() {
         return outcome;
     }
-    room.clear();
+    space.clear();
     Outcome::Refused(FileRefusal::of(Fault::of(Kind::Memory)))
 }
 
@@ -75,7 +75,8 @@ fn tell_warning<E: Sink>(tells: bool, err: &mut E, name: &[u8], warning: Option<
 /// Reports why the run ends early, unless `tells` says that `err` takes no more reports, and returns the status of that.
 pub(crate) fn break_off<E: Sink>(tells: bool, err: &mut E, kind: Kind) -> u8
     requires { tells ≡ true → E.failures err.old ≡ 0 }
-    ensures told { tells ≡ true → Reports (sink_run E.contents E.failures E.stalled err.old err.new)
+    ensures reported { tells ≡ true
+        → Reports (sink_run E.contents E.failures E.stalled err.old err.new)
         (fault_line (refusal_of (fault_of kind))) }
     ensures silent { tells ≡ false → err.new ≡ err.old }
     ensures status { result ≡ status_of kind }
@@ -106,7 +107,7 @@ impl Outputs {
             tells: true,
             status: 0,
             alloc,
-            room: Vec::new(alloc),
+            space: Vec::new(alloc),
         }
     }
 
@@ -140,17 +141,17 @@ impl Outputs {
     ) -> Result<(), Kind>
         requires works { W.failures out.old ≡ 0 }
         requires hears { self.old.tells ≡ true → E.failures err.old ≡ 0 }
-        ensures taken { (told : _) × IsToldAs outcome told
+        ensures processed { (reported : _) × IsReportedAs outcome reported
             × WritesFiles W.contents E.contents E.failures E.stalled out.old out.new err.old err.new
-            self.old self.new result (outcome_line zero name.now told)
-            (error_line name.now told) (outcome_status told) }
+            self.old self.new result (outcome_line zero name.now reported)
+            (error_line name.now reported) (outcome_status reported) }
         ensures sink { LeavesSink W.failures W.stalled out.old out.new result }
         ensures style { self.new.style ≡ self.old.style }
     {
-        let told = make_line(&mut self.room, name, outcome, zero);
-        self.tells = tell_outcome(self.tells, err, name, &told);
-        self.status = greater(self.status, told.status());
-        write_text(out, self.room.as_slice())
+        let reported = make_line(&mut self.space, name, outcome, zero);
+        self.tells = tell_outcome(self.tells, err, name, &reported);
+        self.status = greater(self.status, reported.status());
+        write_text(out, self.space.as_slice())
     }
 
     /// Writes what the style has of a file: its object; or the line of its key, as one text, or a report of why it has none.
@@ -163,10 +164,10 @@ impl Outputs {
     ) -> Result<(), Kind>
         requires works { W.failures out.old ≡ 0 }
         requires hears { self.old.tells ≡ true → E.failures err.old ≡ 0 }
-        ensures taken { (told : _) × IsToldAs outcome told
+        ensures processed { (reported : _) × IsReportedAs outcome reported
             × WritesFiles W.contents E.contents E.failures E.stalled out.old out.new err.old err.new
-            self.old self.new result (output_line self.old.style name.now told)
-            (report_line self.old.style name.now told) (outcome_status told) }
+            self.old self.new result (output_line self.old.style name.now reported)
+            (report_line self.old.style name.now reported) (outcome_status reported) }
         ensures sink { LeavesSink W.failures W.stalled out.old out.new result }
         ensures style { self.new.style ≡ self.old.style }
     {
@@ -200,7 +201,7 @@ impl Outputs {
     /// Reports why the run ends early, if standard error takes it, and returns the status of that.
     pub(crate) fn break_off<E: Sink>(&self, err: &mut E, kind: Kind) -> u8
         requires hears { self.now.tells ≡ true → E.failures err.old ≡ 0 }
-        ensures told { self.now.tells ≡ true
+        ensures reported { self.now.tells ≡ true
             → Reports (sink_run E.contents E.failures E.stalled err.old err.new)
             (fault_line (refusal_of (fault_of kind))) }
         ensures silent { self.now.tells ≡ false → err.new ≡ err.old }

@@ -67,11 +67,11 @@ impl HeldPiece {
         if more.is_empty() || self.lacks_memory {
             return;
         }
-        let room = LONGEST_PIECE.saturating_sub(self.bytes.len());
+        let space = LONGEST_PIECE.saturating_sub(self.bytes.len());
         let mut kept = more;
-        if more.len() > room {
+        if more.len() > space {
             self.is_long = true;
-            kept = &more[..room];
+            kept = &more[..space];
         }
         if append(&mut self.bytes, kept).is_err() {
             self.lacks_memory = true;
@@ -86,7 +86,7 @@ impl HeldPiece {
     }
 
     /// What comes of the piece, and its warning.
-    pub(super) fn taken(
+    pub(super) fn processed(
         &self,
         alloc: Global,
         seeds: &Seeds,

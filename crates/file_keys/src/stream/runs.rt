@@ -55,7 +55,7 @@ impl StreamRun {
         self.count += 1;
         let mut buffer = Buffer::new();
         let name = buffer.format(self.count).as_bytes();
-        let (outcome, warning) = self.piece.taken(self.alloc, &self.seeds, self.form);
+        let (outcome, warning) = self.piece.processed(self.alloc, &self.seeds, self.form);
         self.piece.clear();
         self.outputs.put_warned(name, outcome, warning, out, err)
     }
@@ -167,7 +167,7 @@ impl StreamRun {
     ) -> Result<(), Kind>
         requires can { CanTakePieces self.old (W.failures out.old) (E.failures err.old) }
         requires count { self.old.count < 2 ^ 64 - 1 }
-        ensures told { (begun : List ℕ) → (broken ≡ None → HoldsPiece self.old.piece begun)
+        ensures reported { (begun : List ℕ) → (broken ≡ None → HoldsPiece self.old.piece begun)
             → (entries : List PatternEntry)
             × TellsStreamEnd self.old.form self.old.count broken begun entries
             × WritesEntries W.contents E.contents E.failures E.stalled out.old out.new
@@ -191,7 +191,8 @@ impl StreamRun {
         requires can { CanTakePieces self.old (W.failures out.old) (E.failures err.old) }
         requires count { self.old.count ≡ 0 }
         requires begun { HoldsPiece self.old.piece [] }
-        ensures told { (entries : List PatternEntry) × (is_all : Bool) × OnOk result (is_all ≡ true)
+        ensures reported { (entries : List PatternEntry) × (is_all : Bool)
+            × OnOk result (is_all ≡ true)
             × TellsSource self.old.form
             (source_run R.remaining R.failures source.old source.new) entries is_all
             × WritesEntries W.contents E.contents E.failures E.stalled out.old out.new
@@ -213,7 +214,8 @@ impl StreamRun {
         requires can { CanTakePieces self.old (W.failures out.old) (E.failures err.old) }
         requires count { self.old.count ≡ 0 }
         requires begun { HoldsPiece self.old.piece [] }
-        ensures told { (entries : List PatternEntry) × (is_all : Bool) × OnOk result (is_all ≡ true)
+        ensures reported { (entries : List PatternEntry) × (is_all : Bool)
+            × OnOk result (is_all ≡ true)
             × TellsGiven R.remaining R.failures self.old.form name.now opened entries is_all
             × WritesEntries W.contents E.contents E.failures E.stalled out.old out.new
             err.old err.new self.old.outputs self.new.outputs result entries }
@@ -242,7 +244,8 @@ impl StreamRun {
         requires can { CanTakePieces self.old (W.failures out.old) (E.failures err.old) }
         requires count { self.old.count ≡ 0 }
         requires begun { HoldsPiece self.old.piece [] }
-        ensures told { (entries : List PatternEntry) × (is_all : Bool) × OnOk result (is_all ≡ true)
+        ensures reported { (entries : List PatternEntry) × (is_all : Bool)
+            × OnOk result (is_all ≡ true)
             × TellsGiven R.remaining R.failures self.old.form name.now opened entries is_all
             × WritesEntries W.contents E.contents E.failures E.stalled out.old out.new
             err.old err.new self.old.outputs self.new.outputs result entries }

@@ -5,17 +5,17 @@ use life_quad::Seed;
 use life_step::step_life;
 
 // How many squares a store may hold.
-const ROOM: u64 = 100_000;
+const SPACE: u64 = 100_000;
 
 // The text of a file so many generations later, or the kind for which it is refused.
 fn later_text(alloc: Global, file: &[u8], generations: u64) -> Result<Vec<u8>, Fault> {
-    let mut store = Shared::seeded(alloc, Seed::fixed(), ROOM);
+    let mut store = Shared::seeded(alloc, Seed::fixed(), SPACE);
     step_later(alloc, &mut store, file, generations)
 }
 
 // Whether a file has the canonical text of another file so many generations later.
 fn becomes(alloc: Global, file: &[u8], generations: u64, later: &[u8]) -> bool {
-    let mut store = Shared::seeded(alloc, Seed::fixed(), ROOM);
+    let mut store = Shared::seeded(alloc, Seed::fixed(), SPACE);
     match (
         later_text(alloc, file, generations),
         canon(alloc, &mut store, later),
@@ -35,7 +35,7 @@ fn is_refused(alloc: Global, file: &[u8], generations: u64, kind: Kind, line: u6
 
 // Whether a file has the text of its next generation one generation later.
 fn is_stepped(alloc: Global, file: &[u8]) -> bool {
-    let mut store = Shared::seeded(alloc, Seed::fixed(), ROOM);
+    let mut store = Shared::seeded(alloc, Seed::fixed(), SPACE);
     match (
         later_text(alloc, file, 1),
         step_life(alloc, &mut store, file),
@@ -46,7 +46,7 @@ fn is_stepped(alloc: Global, file: &[u8]) -> bool {
 }
 
 #[test]
-fn patterns_are_taken_further(rt: HostRuntime) {
+fn patterns_are_advanced(rt: HostRuntime) {
     let alloc = rt.alloc();
     // A glider comes back to its shape after four generations, one cell further in both directions.
     assert!(rt;

@@ -9,8 +9,8 @@ use Rattle.file_keys.proofs.keys.placed_key.Goals as goal
 pub returns : goal.returns
 returns g c =
     let ran = c.in_ok-write_canonical.ensures.runs.ok in
-    placed_comes _ ran.text _ (record { bytes = ran.bytes; read = ran.read; is = ran.canonical }) c.in_ok-write_canonical.ensures.runs.reads.told
-    (c.key.ensures ∙ ap sha256 (ran.written ∙ ap (λ told. told ++ ran.text) c.new-sink.ensures))
+    placed_comes _ ran.text _ (record { bytes = ran.bytes; read = ran.read; is = ran.canonical }) c.in_ok-write_canonical.ensures.runs.reads.reported
+    (c.key.ensures ∙ ap sha256 (ran.written ∙ ap (λ reported. reported ++ ran.text) c.new-sink.ensures))
 
 pub returns-in_err-write_canonical : goal.returns-in_err-write_canonical
 returns-in_err-write_canonical g c =
@@ -18,4 +18,4 @@ returns-in_err-write_canonical g c =
     let reads = c.in_err-write_canonical.ensures.runs.reads in
     let limit = reads.keeps.limit ∙ c.seeded-store.ensures.most in
     rw (p.1, p.2) (none_placed _ _ c.write_canonical.new.store _ limit refl refl c.in_err-write_canonical.ensures.runs.err
-    (λ full. too_small_alone _ _ _ _ reads c.write_canonical.ensures.squares c.seeded-store.ensures.stored (ap (λ (f : Fault). Err f) full)) reads.told)
+    (λ full. too_small_alone _ _ _ _ reads c.write_canonical.ensures.squares c.seeded-store.ensures.stored (ap (λ (f : Fault). Err f) full)) reads.reported)

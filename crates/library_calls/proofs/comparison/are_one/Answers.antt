@@ -3,11 +3,11 @@ use Rattle.std.proofs.lemmas.Result.{IfOk-weaker, IfErr-weaker, err_from_is_err_
 use Rattle.life_forms.specs.Forms.{IsShift, IsTurnedShift}
 use Rattle.library_calls.specs.Comparing.{SomeToReadBoth}
 use Rattle.library_calls.specs.ComparingInForm.{AreOneInForm, OneHasFormLargerThan, RefusesEitherInForm}
-use Rattle.library_calls.specs.InForm.{form_room}
+use Rattle.library_calls.specs.InForm.{squares_of_form}
 use Rattle.library_calls.specs.Texts.{NeedsMore}
 use Rattle.library_calls.specs.declared.pattern_form.PatternForm.{PatternForm}
 use Rattle.library_calls.proofs.Answering.{of-any}
-use Rattle.library_calls.proofs.FormFacts.{accepted-it, reads-it, either-unread, either-unmoved, either-unturned, files-told, small-moved, small-turned}
+use Rattle.library_calls.proofs.FormFacts.{accepted-it, reads-it, either-unread, either-unmoved, either-unturned, files-reported, small-moved, small-turned}
 use Rattle.library_calls.proofs.NeedFacts.{where-ok}
 use Rattle.library_calls.proofs.comparison.are_one.Goals as goal
 
@@ -54,26 +54,26 @@ pub returns-in-Moved-clause-answer : goal.returns-in-Moved-clause-answer
 returns-in-Moved-clause-answer c =
     subst (λ (f : PatternForm). IfOk c.are_shifts.result (λ answer. IsTrue answer ↔ AreOneInForm f c.args.first.now c.args.second.now))
     (sym c.in-Moved.is)
-    (IfOk-weaker c.are_shifts.result _ _ (λ answer told. files-told c.files_are_unique.ensures IsShift c.args.first.now c.args.second.now _ _ answer
-    (reads-it c.patterns_fit.ensures _ _ _ c.in_ok-a.ensures.one) (reads-it c.patterns_fit.ensures _ _ _ c.in_ok-a.ensures.other) told)
+    (IfOk-weaker c.are_shifts.result _ _ (λ answer reported. files-reported c.files_are_unique.ensures IsShift c.args.first.now c.args.second.now _ _ answer
+    (reads-it c.patterns_fit.ensures _ _ _ c.in_ok-a.ensures.one) (reads-it c.patterns_fit.ensures _ _ _ c.in_ok-a.ensures.other) reported)
     c.are_shifts.ensures.answer)
 
 pub returns-in-Placed-clause-small : goal.returns-in-Placed-clause-small
 returns-in-Placed-clause-small c =
-    λ limit fresh. subst (λ (f : PatternForm). ¬ OneHasFormLargerThan f (form_room limit) c.args.first.now c.args.second.now) (sym c.in-Placed.is)
+    λ limit fresh. subst (λ (f : PatternForm). ¬ OneHasFormLargerThan f (squares_of_form limit) c.args.first.now c.args.second.now) (sym c.in-Placed.is)
     (λ large. large)
 
 pub returns-in-Moved-clause-small : goal.returns-in-Moved-clause-small
 returns-in-Moved-clause-small c =
     IfOk-weaker c.are_shifts.result _ _ (λ answer small limit fresh.
-    subst (λ (f : PatternForm). ¬ OneHasFormLargerThan f (form_room limit) c.args.first.now c.args.second.now) (sym c.in-Moved.is)
+    subst (λ (f : PatternForm). ¬ OneHasFormLargerThan f (squares_of_form limit) c.args.first.now c.args.second.now) (sym c.in-Moved.is)
     (small-moved c.files_are_unique.ensures c.patterns_fit.ensures limit c.args.first.now c.args.second.now c.read_both.new.store _ _
     (c.read_both.ensures.limit ∙ fresh.most) c.in_ok-a.ensures.one c.in_ok-a.ensures.other small)) c.are_shifts.ensures.small
 
 pub returns-clause-small : goal.returns-clause-small
 returns-clause-small c =
     IfOk-weaker c.are_turns.result _ _ (λ answer small limit fresh.
-    subst (λ (f : PatternForm). ¬ OneHasFormLargerThan f (form_room limit) c.args.first.now c.args.second.now) (sym c.in-Turned.is)
+    subst (λ (f : PatternForm). ¬ OneHasFormLargerThan f (squares_of_form limit) c.args.first.now c.args.second.now) (sym c.in-Turned.is)
     (small-turned c.files_are_unique.ensures c.patterns_fit.ensures limit c.args.first.now c.args.second.now c.read_both.new.store _ _
     (c.read_both.ensures.limit ∙ fresh.most) c.in_ok-a.ensures.one c.in_ok-a.ensures.other small)) c.are_turns.ensures.small
 
@@ -99,8 +99,9 @@ returns-clause-accepted c =
 pub returns-clause-answer : goal.returns-clause-answer
 returns-clause-answer c =
     subst (λ (f : PatternForm). IfOk c.are_turns.result (λ answer. IsTrue answer ↔ AreOneInForm f c.args.first.now c.args.second.now)) (sym c.in-Turned.is)
-    (IfOk-weaker c.are_turns.result _ _ (λ answer told. files-told c.files_are_unique.ensures IsTurnedShift c.args.first.now c.args.second.now _ _ answer
-    (reads-it c.patterns_fit.ensures _ _ _ c.in_ok-a.ensures.one) (reads-it c.patterns_fit.ensures _ _ _ c.in_ok-a.ensures.other) told)
+    (IfOk-weaker c.are_turns.result _ _
+    (λ answer reported. files-reported c.files_are_unique.ensures IsTurnedShift c.args.first.now c.args.second.now _ _ answer
+    (reads-it c.patterns_fit.ensures _ _ _ c.in_ok-a.ensures.one) (reads-it c.patterns_fit.ensures _ _ _ c.in_ok-a.ensures.other) reported)
     c.are_turns.ensures.answer)
 
 pub returns-in-Moved-clause-fault : goal.returns-in-Moved-clause-fault

@@ -25,7 +25,7 @@ returns-in_err-a-clause-needed c =
     let is = c.in_err-a.was ∙ ap (λ (f : Fault). Err f) full in
     first-low c.refusals_have_kinds.ensures c.args.first.now c.args.second.now c.args.store.now store fault empty
     (record { distinct = c.len.ensures.distinct; live = λ t there. (c.len.ensures.only t there).0 }) c.read-found.ensures.reads.adds
-    c.read-found.ensures.reads.keeps.limit (c.read-found.ensures.reads.needed is) (c.read-found.ensures.reads.room is)
+    c.read-found.ensures.reads.keeps.limit (c.read-found.ensures.reads.needed is) (c.read-found.ensures.reads.space is)
     (if-err (RefusesIn MAX_LEVEL c.args.first.now store) c.read-found.result fault c.in_err-a.was c.read-found.ensures.fault) full)
 
 pub returns-in_err-a-clause-adds : goal.returns-in_err-a-clause-adds
@@ -50,7 +50,7 @@ returns-in_err-b-clause-needed c =
     rw (p.1, p.2) (λ e empty.
     let full : fault ≡ fault_of Full = cc in
     let is = c.in_err-b.was ∙ ap (λ (f : Fault). Err f) full in
-    second-low c.refusals_have_kinds.ensures c.few_squares.ensures c.room_suffices.ensures c.args.first.now c.args.second.now c.args.store.now
+    second-low c.refusals_have_kinds.ensures c.few_squares.ensures c.limit_suffices.ensures c.args.first.now c.args.second.now c.args.store.now
     c.read-found.new.store store fault empty
     (record { distinct = c.len-2.ensures.distinct; live = λ t there. (c.len-2.ensures.only t there).0 }) (accepted-it _ _ _ one)
     c.read-found.ensures.reads.adds c.read-found-2.ensures.reads.adds (c.read-found-2.ensures.reads.needed is)

@@ -1,6 +1,6 @@
 use Rattle.std.proofs.Common.{sym, ◌∙◌, subst}
 use Rattle.library_calls.specs.Outputs.{IsOutputText, RefusesTextOf}
-use Rattle.library_calls.specs.Told.{Returns}
+use Rattle.library_calls.specs.Reported.{Returns}
 use Rattle.library_calls.specs.declared.texts.Output.{Output}
 use Rattle.library_calls.proofs.Answering.{at-form}
 use Rattle.library_calls.proofs.TextFacts.{answers-in-form}

@@ -1,7 +1,7 @@
 use Rattle.std.proofs.Common.{refl, sym, ap, ◌∙◌, subst}
 use Rattle.sha2.specs.Sha256.{sha256}
 use Rattle.library_calls.specs.Outputs.{IsOutputText, RefusesTextOf}
-use Rattle.library_calls.specs.Told.{by_text, by_fault}
+use Rattle.library_calls.specs.Reported.{by_text, by_fault}
 use Rattle.library_calls.specs.declared.texts.Output.{Output}
 use Rattle.library_calls.proofs.Answering.{at-form, no-text}
 use Rattle.library_calls.proofs.TextFacts.{in-form, refused-in-form}

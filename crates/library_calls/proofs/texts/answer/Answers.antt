@@ -1,5 +1,5 @@
 use Rattle.library_calls.specs.Outputs.{IsOutputText, RefusesTextOf}
-use Rattle.library_calls.proofs.Answering.{answered, where-told}
+use Rattle.library_calls.proofs.Answering.{answered, where-reported}
 use Rattle.library_calls.proofs.texts.answer.Goals as goal
 
 pub returns-clause-answers : goal.returns-clause-answers
@@ -9,4 +9,4 @@ returns-clause-answers c =
     c.text_of_file.result c.text_of_file.ensures.text c.text_of_file.ensures.fault c.tell.ensures.gives c.tell.ensures.no_line c.tell.ensures.tells
 
 pub returns-clause-fits : goal.returns-clause-fits
-returns-clause-fits c = where-told c.tell.result c.text_of_file.result c.text_of_file.ensures.fits c.tell.ensures.text
+returns-clause-fits c = where-reported c.tell.result c.text_of_file.result c.text_of_file.ensures.fits c.tell.ensures.text

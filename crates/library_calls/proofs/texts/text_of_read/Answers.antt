@@ -19,7 +19,7 @@ turned_text-requires c = (c.patterns_fit.ensures _ c.args.store.now c.args.patte
 pub returns-in-Canonical-clause-text : goal.returns-in-Canonical-clause-text
 returns-in-Canonical-clause-text c =
     of-form c.args.store.now c.args.pattern (λ text. text.items) c.text_of.result c.in-Canonical.is
-    (IfOk-weaker c.text_of.result _ _ (λ text is limit bytes room read.
+    (IfOk-weaker c.text_of.result _ _ (λ text is limit bytes space read.
     canonical c.patterns_fit.ensures c.files_are_on_plane.ensures c.texts_tell_universes.ensures
     c.texts_are_files.ensures c.canonical_is_least.ensures bytes c.args.store.now c.args.pattern text.items is read) c.text_of.ensures.text)
 
@@ -29,7 +29,7 @@ returns-in-Canonical-clause-fault c = IfErr-weaker c.text_of.result _ _ (wants c
 pub returns-in-Rle-clause-text : goal.returns-in-Rle-clause-text
 returns-in-Rle-clause-text c =
     of-form c.args.store.now c.args.pattern (λ text. text.items) c.rle_of.result c.in-Rle.is
-    (IfOk-weaker c.rle_of.result _ _ (λ text h limit bytes room read. (h.0 bytes read, h.1 bytes read))
+    (IfOk-weaker c.rle_of.result _ _ (λ text h limit bytes space read. (h.0 bytes read, h.1 bytes read))
     (both _ _ c.rle_of.result c.rle_of.ensures.text c.rle_of.ensures.same))
 
 pub returns-in-Rle-clause-fault : goal.returns-in-Rle-clause-fault
@@ -41,7 +41,7 @@ returns-in-Rle-clause-fault c =
 pub returns-in-Lines-clause-text : goal.returns-in-Lines-clause-text
 returns-in-Lines-clause-text c =
     of-form c.args.store.now c.args.pattern (λ text. text.items) c.five_lines_of.result c.in-Lines.is
-    (IfOk-weaker c.five_lines_of.result _ _ (λ text is limit bytes room read. is bytes read) c.five_lines_of.ensures.text)
+    (IfOk-weaker c.five_lines_of.result _ _ (λ text is limit bytes space read. is bytes read) c.five_lines_of.ensures.text)
 
 pub returns-in-Lines-clause-fault : goal.returns-in-Lines-clause-fault
 returns-in-Lines-clause-fault c =
@@ -50,7 +50,7 @@ returns-in-Lines-clause-fault c =
 pub returns-in-Next-clause-text : goal.returns-in-Next-clause-text
 returns-in-Next-clause-text c =
     of-form c.args.store.now c.args.pattern (λ text. text.items) c.next_by_rule-text.result c.in-Next.is
-    (IfOk-weaker c.next_by_rule-text.result _ _ (λ text is limit bytes room read. is bytes read) c.next_by_rule-text.ensures.stepped)
+    (IfOk-weaker c.next_by_rule-text.result _ _ (λ text is limit bytes space read. is bytes read) c.next_by_rule-text.ensures.stepped)
 
 pub returns-in-Next-clause-fault : goal.returns-in-Next-clause-fault
 returns-in-Next-clause-fault c =
@@ -63,7 +63,7 @@ returns-in-Next-clause-fault c =
 pub returns-in-Later-clause-text : goal.returns-in-Later-clause-text
 returns-in-Later-clause-text c =
     of-form c.args.store.now c.args.pattern (λ text. text.items) c.later_by_rule.result c.in-Later.is
-    (IfOk-weaker c.later_by_rule.result _ _ (λ text is limit bytes room read. is bytes read) c.later_by_rule.ensures.later)
+    (IfOk-weaker c.later_by_rule.result _ _ (λ text is limit bytes space read. is bytes read) c.later_by_rule.ensures.later)
 
 pub returns-in-Later-clause-fault : goal.returns-in-Later-clause-fault
 returns-in-Later-clause-fault c =
@@ -74,8 +74,8 @@ returns-in-Later-clause-fault c =
 pub returns-in_ok-form-in-Moved-clause-text : goal.returns-in_ok-form-in-Moved-clause-text
 returns-in_ok-form-in-Moved-clause-text c =
     of-form c.args.store.now c.args.pattern (λ text. text.items) c.text_of-in-Moved.result c.in-Moved.is
-    (IfOk-weaker c.text_of-in-Moved.result _ _ (λ text is limit bytes room read. moved-text c.patterns_fit.ensures limit bytes c.args.store.now
-    c.in_ok-form-in-Moved.form c.args.pattern c.in_ok-form-in-Moved.moved text.items room read c.in_ok-form-in-Moved.ensures.small
+    (IfOk-weaker c.text_of-in-Moved.result _ _ (λ text is limit bytes space read. moved-text c.patterns_fit.ensures limit bytes c.args.store.now
+    c.in_ok-form-in-Moved.form c.args.pattern c.in_ok-form-in-Moved.moved text.items space read c.in_ok-form-in-Moved.ensures.small
     c.in_ok-form-in-Moved.ensures.moved is)
     c.text_of-in-Moved.ensures.text)
 
@@ -86,8 +86,8 @@ returns-in_ok-form-in-Moved-clause-fault c =
 pub returns-in-Turned-clause-text : goal.returns-in-Turned-clause-text
 returns-in-Turned-clause-text c =
     of-form c.args.store.now c.args.pattern (λ text. text.items) c.turned_text.result c.in-Turned.is
-    (IfOk-weaker c.turned_text.result _ _ (λ text is limit bytes room read. turned-text c.patterns_fit.ensures limit bytes c.args.store.now c.args.pattern
-    text.items room read is.1 is.0) (both _ _ c.turned_text.result c.turned_text.ensures.text c.turned_text.ensures.small))
+    (IfOk-weaker c.turned_text.result _ _ (λ text is limit bytes space read. turned-text c.patterns_fit.ensures limit bytes c.args.store.now c.args.pattern
+    text.items space read is.1 is.0) (both _ _ c.turned_text.result c.turned_text.ensures.text c.turned_text.ensures.small))
 
 pub returns-in-Turned-clause-fault : goal.returns-in-Turned-clause-fault
 returns-in-Turned-clause-fault c =

@@ -6,12 +6,13 @@ use Rattle.library_theorems.proofs.limits.key_is_within_limit.Goals as goal
 pub returns-clause-within : goal.returns-clause-within
 returns-clause-within c = λ status ok.
     text_within c.args.file.now c.args.options.limit _ _ c.read-found.new.store c.read-found.result ok c.new-store.ensures.stored c.read-found.ensures.reads
-    (record { distinct = c.len.ensures.distinct; live = λ t there. (c.len.ensures.only t there).0 }) c.len.ensures.len (c.key-told.ensures.fits status)
+    (record { distinct = c.len.ensures.distinct; live = λ t there. (c.len.ensures.only t there).0 }) c.len.ensures.len (c.key-reported.ensures.fits status)
 
 pub returns-clause-full : goal.returns-clause-full
 returns-clause-full c = λ zero status ok.
-    let placed = subst (λ (n : ℕ). AnswersInForm IsKeyInForm n c.args.options.limit c.args.file.now c.args.out.now c.key-told.new.out c.key-told.result) zero
-    c.key-told.ensures.answers in
+    let placed = subst (λ (n : ℕ). AnswersInForm IsKeyInForm n c.args.options.limit c.args.file.now c.args.out.now c.key-reported.new.out c.key-reported.result)
+    zero
+    c.key-reported.ensures.answers in
     text_full c.args.file.now c.args.options.limit _ _ c.read-found.new.store c.read-found.result ok c.new-store.ensures.stored c.read-found.ensures.reads
     (record { distinct = c.len.ensures.distinct; live = λ t there. (c.len.ensures.only t there).0 }) c.len.ensures.len _ _ _ c.read-found.ensures.pattern
     placed status

@@ -6,7 +6,7 @@ abbrev pub invariant-loop-bytes : goal.invariant-loop-bytes
 invariant-loop-bytes g l = record {
   within : vec_len l.bytes ≤ l.most;
   works : g.R.Source.failures l.reader ≡ 0;
-  taken : Consumes (g.R.Source.remaining l.initial.reader) (g.R.Source.remaining l.reader) l.bytes.items;
+  consumed : Consumes (g.R.Source.remaining l.initial.reader) (g.R.Source.remaining l.reader) l.bytes.items;
 }
 
 abbrev pub decreases-loop-bytes : goal.decreases-loop-bytes

@@ -58,8 +58,8 @@ parts g m c cells x y binary h =
     let se = c.in_ok-se.ensures in
     let north = keeps-then nw.keeps ne.keeps in
     parts-of_pieces _ _ g.met.S.Squares.full refl x y ne.keeps sw.keeps se.keeps nw.at ne.at sw.at se.at
-    (nw.next cells _ _ binary (western-nine _ cells c.western.ensures (first-of_four c.front.ensures h)))
-    (ne.next cells _ _ binary (eastern-nine _ cells c.eastern.ensures (first-of_four c.front-2.ensures (AreSixteen-kept nw.keeps cells c.requires.known h))))
+    (nw.next cells _ _ binary (western-nine _ cells c.western.ensures (first-of_four c.north.ensures h)))
+    (ne.next cells _ _ binary (eastern-nine _ cells c.eastern.ensures (first-of_four c.north-2.ensures (AreSixteen-kept nw.keeps cells c.requires.known h))))
     (sw.next cells _ _ binary (western-nine _ cells c.western-2.ensures (last-of_four c.rear.ensures (AreSixteen-kept north cells c.requires.known h))))
     (se.next cells _ _ binary (eastern-nine _ cells c.eastern-2.ensures (last-of_four c.rear-2.ensures
     (AreSixteen-kept (keeps-then north sw.keeps) cells c.requires.known h))))
@@ -72,12 +72,12 @@ pub next_of_middle-returns-in_err-nw-clause-needed : goal.next_of_middle-returns
 next_of_middle-returns-in_err-nw-clause-needed g m c =
     on_err_any c.from_residual.result
     (of_north_west (g.S.Squares.needs_node c.next_of.new.squares) c.args.rule.now
-    (g.S.Squares.content c.args.squares.now) c.args.level c.front.ensures c.western.ensures c.in_err-nw.ensures.needed)
+    (g.S.Squares.content c.args.squares.now) c.args.level c.north.ensures c.western.ensures c.in_err-nw.ensures.needed)
 
 pub next_of_middle-returns-in_err-ne-clause-needed : goal.next_of_middle-returns-in_err-ne-clause-needed
 next_of_middle-returns-in_err-ne-clause-needed g m c =
     on_err_any c.from_residual-in_err-ne.result
-    (of_north_east (g.S.Squares.needs_node c.next_of-2.new.squares) c.args.rule.now c.in_ok-nw.ensures.keeps c.requires.known c.front-2.ensures
+    (of_north_east (g.S.Squares.needs_node c.next_of-2.new.squares) c.args.rule.now c.in_ok-nw.ensures.keeps c.requires.known c.north-2.ensures
     c.eastern.ensures c.in_err-ne.ensures.needed)
 
 pub next_of_middle-returns-in_err-sw-clause-needed : goal.next_of_middle-returns-in_err-sw-clause-needed
@@ -116,14 +116,14 @@ next_of-returns-clause-adds g t c =
 pub next_of_middle-returns-in_err-nw-clause-adds : goal.next_of_middle-returns-in_err-nw-clause-adds
 next_of_middle-returns-in_err-nw-clause-adds g m c =
     adds-as _ c.in_err-nw.ensures.adds (λ P. of_north_west P c.args.rule.now
-    (g.S.Squares.content c.args.squares.now) c.args.level c.front.ensures c.western.ensures)
+    (g.S.Squares.content c.args.squares.now) c.args.level c.north.ensures c.western.ensures)
 
 pub next_of_middle-returns-in_err-ne-clause-adds : goal.next_of_middle-returns-in_err-ne-clause-adds
 next_of_middle-returns-in_err-ne-clause-adds g m c =
     let nw = c.in_ok-nw.ensures in
     adds-more
-    (adds-as _ nw.adds (λ P. of_north_west P c.args.rule.now (g.S.Squares.content c.args.squares.now) c.args.level c.front.ensures c.western.ensures))
-    c.in_err-ne.ensures.adds (λ P. of_north_east P c.args.rule.now nw.keeps c.requires.known c.front-2.ensures c.eastern.ensures)
+    (adds-as _ nw.adds (λ P. of_north_west P c.args.rule.now (g.S.Squares.content c.args.squares.now) c.args.level c.north.ensures c.western.ensures))
+    c.in_err-ne.ensures.adds (λ P. of_north_east P c.args.rule.now nw.keeps c.requires.known c.north-2.ensures c.eastern.ensures)
 
 pub next_of_middle-returns-in_err-sw-clause-adds : goal.next_of_middle-returns-in_err-sw-clause-adds
 next_of_middle-returns-in_err-sw-clause-adds g m c =
@@ -132,8 +132,8 @@ next_of_middle-returns-in_err-sw-clause-adds g m c =
     let north = keeps-then nw.keeps ne.keeps in
     adds-more
     (adds-more
-    (adds-as _ nw.adds (λ P. of_north_west P c.args.rule.now (g.S.Squares.content c.args.squares.now) c.args.level c.front.ensures c.western.ensures))
-    ne.adds (λ P. of_north_east P c.args.rule.now nw.keeps c.requires.known c.front-2.ensures c.eastern.ensures))
+    (adds-as _ nw.adds (λ P. of_north_west P c.args.rule.now (g.S.Squares.content c.args.squares.now) c.args.level c.north.ensures c.western.ensures))
+    ne.adds (λ P. of_north_east P c.args.rule.now nw.keeps c.requires.known c.north-2.ensures c.eastern.ensures))
     c.in_err-sw.ensures.adds (λ P. of_south_west P c.args.rule.now north c.requires.known c.rear.ensures c.western-2.ensures)
 
 pub next_of_middle-returns-in_err-se-clause-adds : goal.next_of_middle-returns-in_err-se-clause-adds
@@ -145,8 +145,8 @@ next_of_middle-returns-in_err-se-clause-adds g m c =
     adds-more
     (adds-more
     (adds-more
-    (adds-as _ nw.adds (λ P. of_north_west P c.args.rule.now (g.S.Squares.content c.args.squares.now) c.args.level c.front.ensures c.western.ensures))
-    ne.adds (λ P. of_north_east P c.args.rule.now nw.keeps c.requires.known c.front-2.ensures c.eastern.ensures))
+    (adds-as _ nw.adds (λ P. of_north_west P c.args.rule.now (g.S.Squares.content c.args.squares.now) c.args.level c.north.ensures c.western.ensures))
+    ne.adds (λ P. of_north_east P c.args.rule.now nw.keeps c.requires.known c.north-2.ensures c.eastern.ensures))
     sw.adds (λ P. of_south_west P c.args.rule.now north c.requires.known c.rear.ensures c.western-2.ensures))
     c.in_err-se.ensures.adds (λ P. of_south_east P c.args.rule.now (keeps-then north sw.keeps) c.requires.known c.rear-2.ensures c.eastern-2.ensures)
 
@@ -160,8 +160,8 @@ next_of_middle-returns-clause-adds g m c =
     (adds-more
     (adds-more
     (adds-more
-    (adds-as _ nw.adds (λ P. of_north_west P c.args.rule.now (g.S.Squares.content c.args.squares.now) c.args.level c.front.ensures c.western.ensures))
-    ne.adds (λ P. of_north_east P c.args.rule.now nw.keeps c.requires.known c.front-2.ensures c.eastern.ensures))
+    (adds-as _ nw.adds (λ P. of_north_west P c.args.rule.now (g.S.Squares.content c.args.squares.now) c.args.level c.north.ensures c.western.ensures))
+    ne.adds (λ P. of_north_east P c.args.rule.now nw.keeps c.requires.known c.north-2.ensures c.eastern.ensures))
     sw.adds (λ P. of_south_west P c.args.rule.now north c.requires.known c.rear.ensures c.western-2.ensures))
     c.in_ok-se.ensures.adds (λ P. of_south_east P c.args.rule.now (keeps-then north sw.keeps) c.requires.known c.rear-2.ensures c.eastern-2.ensures))
     c.join.ensures.adds (λ P p cells x y binary h. own-part P _ _ x y _ (joined-is (parts g m c cells x y binary h)) p)

@@ -65,9 +65,9 @@ next_of_middle-returns-clause-next g t c =
     (IfOk-weaker c.join.result _ _
     (λ r is cells x y h. joined-pieces _ (IsNextAt (g.L.Law.answers law) (g.L.Law.bound law) cells) c.args.level x y refl ne.keeps sw.keeps se.keeps
     nw.at ne.at sw.at
-    (nw.next cells _ _ (western-nine content cells c.western.ensures (first-of_four c.front.ensures h)))
+    (nw.next cells _ _ (western-nine content cells c.western.ensures (first-of_four c.north.ensures h)))
     (piece-by g.L.Law.answers g.L.Law.bound second cells (step_ahead x side) y (next c.next_of-2.new.to c.in_ok-ne.ne)
-    (ne.next cells _ _ (eastern-nine content cells c.eastern.ensures (first-of_four c.front-2.ensures h))))
+    (ne.next cells _ _ (eastern-nine content cells c.eastern.ensures (first-of_four c.north-2.ensures h))))
     (piece-by g.L.Law.answers g.L.Law.bound third cells x (step_ahead y side) (next c.next_of-3.new.to c.in_ok-sw.sw)
     (sw.next cells _ _ (western-nine content cells c.western-2.ensures (last-of_four c.rear.ensures h))))
     (piece-by g.L.Law.answers g.L.Law.bound fourth cells (step_ahead x side) (step_ahead y side) (next c.next_of-4.new.to c.in_ok-se.se)

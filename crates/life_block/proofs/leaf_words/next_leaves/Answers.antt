@@ -8,8 +8,8 @@ pub returns : goal.returns
 returns c cells x y h =
     let Rows : ℤ → ℤ → ℕ → Type 0 = λ row column word. HasRows cells column row word in
     ap square_of_leaves c.of.ensures ∙ joined-is (record {
-      nw = c.next_cells.ensures cells _ _ (western-rows Rows c.western.ensures (first-of_four c.front.ensures h));
-      ne = c.next_cells-2.ensures cells _ _ (eastern-rows Rows c.eastern.ensures (first-of_four c.front-2.ensures h));
+      nw = c.next_cells.ensures cells _ _ (western-rows Rows c.western.ensures (first-of_four c.north.ensures h));
+      ne = c.next_cells-2.ensures cells _ _ (eastern-rows Rows c.eastern.ensures (first-of_four c.north-2.ensures h));
       sw = c.next_cells-3.ensures cells _ _ (western-rows Rows c.western-2.ensures (last-of_four c.rear.ensures h));
       se = c.next_cells-4.ensures cells _ _ (eastern-rows Rows c.eastern-2.ensures (last-of_four c.rear-2.ensures h));
     })

@@ -38,7 +38,7 @@ returns-in_err-a-clause-reads c =
       all = tt;
       needed = λ e. inl (first.needed (err_again e));
       adds = adds-as _ first.adds (λ P s. inl s);
-      room = λ e. let tight = first.room (err_again e) in omega (arith, tight);
+      space = λ e. let tight = first.space (err_again e) in omega (arith, tight);
       keeps = first.keeps;
     })
 
@@ -53,7 +53,7 @@ returns-in_err-b-clause-reads c =
       all = tt;
       needed = λ e. inr ((read.universe, read.reads), second.needed (err_again e));
       adds = adds-then _ first.adds second.adds (λ P s. inl s) (λ P s. inr s);
-      room = λ e. let tight = second.room (err_again e) in omega (arith, few, limit, tight);
+      space = λ e. let tight = second.space (err_again e) in omega (arith, few, limit, tight);
       keeps = keeps-then first.keeps second.keeps;
     })
 
@@ -65,6 +65,6 @@ returns-clause-reads c =
       all = (λ t live of. second.keeps.stored t (first.all t live of), second.all);
       needed = λ e. absurd (cc);
       adds = adds-then _ first.adds second.adds (λ P s. inl s) (λ P s. inr s);
-      room = λ e. absurd (cc);
+      space = λ e. absurd (cc);
       keeps = keeps-then first.keeps second.keeps;
     }

@@ -5,10 +5,10 @@ use Rattle.life_quad.proofs.KeepingLemmas.{keeps-then, adds-as, adds-then}
 use Rattle.life_canon.proofs.CallFacts.{feed-fault}
 use Rattle.std.proofs.Common.{ℕ, ◌+◌, ◌<◌, List, [], ◌++◌, length, ap, sym, ◌∙◌, subst, arith, inl, IfErr, OnOk}
 use Rattle.life_base.specs.declared.cell.TheConstants.{MAX_LEVEL}
-use Rattle.life_canon.specs.Needs.{IsNew, LacksFor, LacksForFront}
-use Rattle.life_canon.specs.Room.{AddsLines, AddsFile, HoldsFile, HoldsFront, HoldsOnly, room_for}
+use Rattle.life_canon.specs.Needs.{IsNew, LacksFor, LacksForPrefix}
+use Rattle.life_canon.specs.Space.{AddsLines, AddsFile, HoldsFile, HoldsPrefix, HoldsOnly, sufficient_for}
 use Rattle.life_canon.specs.Store.{IsRead, RefusesIn}
-use Rattle.life_canon.proofs.Adding.{fronts_hold}
+use Rattle.life_canon.proofs.Adding.{prefixes_hold}
 use Rattle.life_canon.proofs.NeedFacts.{whole-needs}
 use Rattle.life_canon.proofs.files.read.Goals as goal
 use Rattle.life_base.proofs.Results.{err_again}
@@ -38,10 +38,10 @@ returns-in_err-feed-clause-reads c =
     rw (p.1, p.2) (record {
       all = tt;
       needed = λ e. whole-needs (IsNew c.feed.new.store) c.args.bytes.now
-          (subst (λ (b : List ℕ). LacksForFront MAX_LEVEL b c.feed.new.store) none (feeds.needed (err_again e)));
+          (subst (λ (b : List ℕ). LacksForPrefix MAX_LEVEL b c.feed.new.store) none (feeds.needed (err_again e)));
       adds = adds-as _ lines (λ P s. whole-needs P c.args.bytes.now s);
-      room = λ e. subst (λ (b : List ℕ). c.args.store.now.limit < length base + room_for (length b)) none
-          (feeds.room (err_again e) base (λ t there. inl there));
+      space = λ e. subst (λ (b : List ℕ). c.args.store.now.limit < length base + sufficient_for (length b)) none
+          (feeds.space (err_again e) base (λ t there. inl there));
       keeps = feeds.keeps;
     })
 
@@ -54,17 +54,17 @@ returns-clause-reads c =
     let lines = subst (λ (b : List ℕ). AddsLines (whole_lines b) c.args.store.now c.feed.new.store) none feeds.adds in
     let file = subst (λ (b : List ℕ). AddsFile b c.feed.new.store c.finish.new.store) all ends.adds in
     let base = stored_squares c.args.store.now in
-    let front : HoldsFront base c.new-reader.result.bytes c.args.store.now = λ t there. inl there in
-    let held_front = (fronts_hold c.new-reader.result.bytes c.args.bytes.now base c.args.store.now c.feed.new.store front).0 feeds.adds in
-    let only = (fronts_hold (c.new-reader.result.bytes ++ c.args.bytes.now) [] base c.feed.new.store c.feed.new.store held_front).1 in
+    let prefix : HoldsPrefix base c.new-reader.result.bytes c.args.store.now = λ t there. inl there in
+    let held_prefix = (prefixes_hold c.new-reader.result.bytes c.args.bytes.now base c.args.store.now c.feed.new.store prefix).0 feeds.adds in
+    let only = (prefixes_hold (c.new-reader.result.bytes ++ c.args.bytes.now) [] base c.feed.new.store c.feed.new.store held_prefix).1 in
     let limit = feeds.keeps.limit in
     record {
       all = subst (λ (b : List ℕ). OnOk c.finish.result (HoldsFile b (stored_squares c.finish.new.store))) all ends.all;
       needed = λ e. subst (λ (b : List ℕ). LacksFor MAX_LEVEL b c.finish.new.store) all (ends.needed e);
       adds = adds-then _ lines file (λ P s. whole-needs P c.args.bytes.now s) (λ P a. a);
-      room = λ e.
-          let tight = ends.room e base (subst (λ (b : List ℕ). HoldsOnly base b c.feed.new.store) (sym c.in_ok-feed.ensures.bytes) only) in
-          let tight_here = subst (λ (b : List ℕ). c.feed.new.store.limit < length base + room_for (length b)) all tight in
+      space = λ e.
+          let tight = ends.space e base (subst (λ (b : List ℕ). HoldsOnly base b c.feed.new.store) (sym c.in_ok-feed.ensures.bytes) only) in
+          let tight_here = subst (λ (b : List ℕ). c.feed.new.store.limit < length base + sufficient_for (length b)) all tight in
           omega (arith, limit, tight_here);
       keeps = keeps-then feeds.keeps ends.keeps;
     }

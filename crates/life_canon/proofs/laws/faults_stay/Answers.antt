@@ -1,4 +1,4 @@
-use Rattle.life_canon.proofs.RefusedFronts as law
+use Rattle.life_canon.proofs.RefusedPrefixes as law
 use Rattle.life_canon.proofs.laws.faults_stay.Goals as goal
 
 pub returns : goal.returns

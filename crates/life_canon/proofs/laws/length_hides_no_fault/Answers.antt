@@ -1,4 +1,4 @@
-use Rattle.life_canon.proofs.RefusedFronts as law
+use Rattle.life_canon.proofs.RefusedPrefixes as law
 use Rattle.life_canon.proofs.laws.length_hides_no_fault.Goals as goal
 
 pub returns : goal.returns

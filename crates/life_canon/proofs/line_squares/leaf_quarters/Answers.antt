@@ -1,4 +1,4 @@
--- A square of four that are made one behind the other: what the five calls store, and where a refused one is missing.
+-- A square of four that are made one after the other: what the five calls store, and where a refused one is missing.
 use Rattle.std.proofs.Common.{◌∙◌, inl, inr, ap, sym, subst, arith}
 use Rattle.life_base.specs.Tree.{Tree, quad, depth}
 use Rattle.life_mc.specs.Squares.{leaf_tree}
@@ -84,5 +84,5 @@ returns-clause-can_join g c =
       ne_level = ap depth ne_4.1 ∙ sym nw;
       sw_level = ap depth sw_4.1 ∙ sym nw;
       se_level = ap depth c.in_ok-se.ensures.square ∙ sym nw;
-      room = omega (arith, nw);
+      space = omega (arith, nw);
     }

@@ -35,7 +35,7 @@ returns-in-Quad-clause-can_join g c =
       ne_level = c.quarter-ne.ensures.level ∙ sym c.quarter-nw.ensures.level;
       sw_level = c.quarter-sw.ensures.level ∙ sym c.quarter-nw.ensures.level;
       se_level = c.quarter-se.ensures.level ∙ sym c.quarter-nw.ensures.level;
-      room = omega (arith, c.quarter-nw.ensures.level, high.low, high.high);
+      space = omega (arith, c.quarter-nw.ensures.level, high.low, high.high);
     }
 
 pub returns-in-Quad-clause-grows : goal.returns-in-Quad-clause-grows

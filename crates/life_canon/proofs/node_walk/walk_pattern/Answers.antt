@@ -1,7 +1,7 @@
 use Rattle.std.proofs.Common.{ap, arith, map}
 use Rattle.std.proofs.lemmas.Result.{err_from_is_err_and}
 use Rattle.life_canon.specs.Walking.{seen_in}
-use Rattle.life_canon.proofs.WalkingFacts.{none-numbered, root-high, whole-taken, whole-broken}
+use Rattle.life_canon.proofs.WalkingFacts.{none-numbered, root-high, whole-consumed, whole-broken}
 use Rattle.life_canon.proofs.node_walk.walk_pattern.Goals as goal
 
 pub walk_square-requires-clause-square : goal.walk_square-requires-clause-square
@@ -26,7 +26,7 @@ returns-in_err-walk_square-clause-broke g c =
 
 pub returns-clause-took : goal.returns-clause-took
 returns-clause-took g c =
-    whole-taken g.L.LineSink.took g.L.LineSink.broke c.args.pattern.now.rule
+    whole-consumed g.L.LineSink.took g.L.LineSink.broke c.args.pattern.now.rule
     (g.O.Orientation.seen c.args.orientation.now (g.S.Squares.content c.args.squares.now c.args.pattern.now.root)) _ _ _
     (ap (map (seen_in (g.O.Orientation.seen c.args.orientation.now) (g.S.Squares.content c.args.squares.now))) c.requires.none)
     (g.met.L.LineSink.begins _) _

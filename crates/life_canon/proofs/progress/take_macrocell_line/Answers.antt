@@ -29,11 +29,11 @@ use Rattle.life_canon.proofs.PatternFacts.{NextSquare, next-square, not-full}
 use Rattle.life_canon.proofs.WaitingFacts.{count-of, first-square, first-squares, first-tree, kept-id, kept-joined, kept-quarters, kept-stays, line-some, lines-more, named-more, named-some, names-lines, quads-stay, waiting-some}
 use Rattle.life_canon.proofs.progress.take_macrocell_line.Goals as goal
 
--- a node line behind others, which the store and the Ids are ready for
-module _ {X : Type 0} (S : Ghosts X) (old mid : X) (text : List (List ℕ)) (line : List ℕ) {all : LinesRead} {taken : Option Line} {square : Line}
+-- a node line after others, which the store and the Ids are ready for
+module _ {X : Type 0} (S : Ghosts X) (old mid : X) (text : List (List ℕ)) (line : List ℕ) {all : LinesRead} {consumed : Option Line} {square : Line}
     {ids here : List Id} {waiting left : List Quarters} {most : ℕ} (more : all ≡ record { lines = text ++ line ∷ []; refused = false })
-    (front : Prefix (AcceptsMacrocell MAX_LEVEL) all.lines) (squares : squares_of all.lines ≡ squares_of text ++ cons_option taken [])
-    (is : taken ≡ Some square)
+    (prefix : Prefix (AcceptsMacrocell MAX_LEVEL) all.lines) (squares : squares_of all.lines ≡ squares_of text ++ cons_option consumed [])
+    (is : consumed ≡ Some square)
     (were : KeepsLines (S.knows old) (S.content old) text ids waiting)
     (keeps : (id : Id) → S.knows old id → S.knows mid id × (S.content mid id ≡ S.content old id))
     (ready : IsReadyFor S most square old mid ids waiting here left) where
@@ -47,7 +47,7 @@ module _ {X : Type 0} (S : Ghosts X) (old mid : X) (text : List (List ℕ)) (lin
   with-line = squares ∙ ap (λ (o : Option Line). lines ++ cons_option o []) is
 
   next : NextSquare text square
-  next = next-square text all.lines line square whole front with-line
+  next = next-square text all.lines line square whole prefix with-line
 
   last : IsSquare MAX_LEVEL next.rule (map level_of lines) square
   last = last-square next.rule next.generation lines square next.valid
@@ -76,7 +76,7 @@ module _ {X : Type 0} (S : Ghosts X) (old mid : X) (text : List (List ℕ)) (lin
           let same : length lines ≡ length here = omega (arith, count, empty) in
           subst (λ (n : ℕ). NamesFirst n square) same (names-lines next.rule lines square last)
 
-  -- the lines whose Ids are kept, and those behind them
+  -- the lines whose Ids are kept, and those after them
   abbrev first : List Line
   first = take (length here) lines
 
@@ -121,7 +121,7 @@ module _ {X : Type 0} (S : Ghosts X) (old mid : X) (text : List (List ℕ)) (lin
       → ((lines : List Line) (rule : Rule) → IsSquare MAX_LEVEL rule (map level_of lines) square
       → AreSquaresOf (S.knows mid) (S.content mid) lines slice → SomeOfLine P lines square)
       → SomeOfLines MAX_LEVEL P (text ++ line ∷ [])
-  needed same P some = next-needs P text all.lines line square whole front with-line (line-some P first lines square (sym tree) (of-line same some))
+  needed same P some = next-needs P text all.lines line square whole prefix with-line (line-some P first lines square (sym tree) (of-line same some))
 
   -- the squares of the lines so far that still wait, and of this line, are those of node lines
   left-named : (t : Tree) → Contains (quads_of (S.content mid) left) t → IsOfNodeLine MAX_LEVEL all.lines t
@@ -145,7 +145,7 @@ module _ {X : Type 0} (S : Ghosts X) (old mid : X) (text : List (List ℕ)) (lin
     behind = [];
     square = square;
     are = whole;
-    front = subst (Prefix (AcceptsMacrocell MAX_LEVEL)) whole front;
+    prefix = subst (Prefix (AcceptsMacrocell MAX_LEVEL)) whole prefix;
     squares = subst (λ (ls : List (List ℕ)). squares_of ls ≡ lines ++ square ∷ []) whole with-line;
     tree = e;
   }
@@ -226,7 +226,7 @@ line_quarters-requires g c =
     let ready = c.in_ok-make_ready.ensures in
     record {
       line = subst (Placed g.S.Squares c.make_ready.new.squares c.in-Some.square) (sym c.deref.ensures.value)
-          (placed g.S.Squares c.args.squares.now c.make_ready.new.squares c.args.lines.now.lines c.args.line.now call.lines call.front call.squares
+          (placed g.S.Squares c.args.squares.now c.make_ready.new.squares c.args.lines.now.lines c.args.line.now call.lines call.prefix call.squares
           c.in-Some.is c.requires.squares ready.grows.keeps.contents ready.ready);
     }
 
@@ -248,7 +248,7 @@ join-requires g c =
       ne_level = can.ne_level;
       sw_level = can.sw_level;
       se_level = can.se_level;
-      room = can.room;
+      space = can.space;
     }
 
 pub returns-in_ok-push-clause-squares : goal.returns-in_ok-push-clause-squares
@@ -257,12 +257,12 @@ returns-in_ok-push-clause-squares g c =
     let ready = c.in_ok-make_ready.ensures in
     let made = c.in_ok-quarters.ensures in
     let join = c.in_ok-id.ensures in
-    let tree = of-line g.S.Squares c.args.squares.now c.make_ready.new.squares c.args.lines.now.lines c.args.line.now call.lines call.front call.squares
+    let tree = of-line g.S.Squares c.args.squares.now c.make_ready.new.squares c.args.lines.now.lines c.args.line.now call.lines call.prefix call.squares
     c.in-Some.is c.requires.squares ready.grows.keeps.contents ready.ready c.deref.ensures.value made.square in
-    joins g.S.Squares c.args.squares.now c.make_ready.new.squares c.args.lines.now.lines c.args.line.now call.lines call.front call.squares
+    joins g.S.Squares c.args.squares.now c.make_ready.new.squares c.args.lines.now.lines c.args.line.now call.lines call.prefix call.squares
     c.in-Some.is c.requires.squares ready.grows.keeps.contents ready.ready
     (keeps-then made.grows.keeps join.keeps).contents join.known (join.square ∙ tree) c.in_ok-push.ensures.items
-    (left-none g.S.Squares c.args.squares.now c.make_ready.new.squares c.args.lines.now.lines c.args.line.now call.lines call.front call.squares
+    (left-none g.S.Squares c.args.squares.now c.make_ready.new.squares c.args.lines.now.lines c.args.line.now call.lines call.prefix call.squares
     c.in-Some.is c.requires.squares ready.grows.keeps.contents ready.ready c.if-most-eq0.true)
 
 pub returns-in_ok-push-2-clause-squares : goal.returns-in_ok-push-2-clause-squares
@@ -270,12 +270,12 @@ returns-in_ok-push-2-clause-squares g c =
     let call = c.in_ok-square.ensures in
     let ready = c.in_ok-make_ready.ensures in
     let made = c.in_ok-quarters.ensures in
-    let tree = of-line g.S.Squares c.args.squares.now c.make_ready.new.squares c.args.lines.now.lines c.args.line.now call.lines call.front call.squares
+    let tree = of-line g.S.Squares c.args.squares.now c.make_ready.new.squares c.args.lines.now.lines c.args.line.now call.lines call.prefix call.squares
     c.in-Some.is c.requires.squares ready.grows.keeps.contents ready.ready c.deref.ensures.value made.square in
-    waits g.S.Squares c.args.squares.now c.make_ready.new.squares c.args.lines.now.lines c.args.line.now call.lines call.front call.squares
+    waits g.S.Squares c.args.squares.now c.make_ready.new.squares c.args.lines.now.lines c.args.line.now call.lines call.prefix call.squares
     c.in-Some.is c.requires.squares ready.grows.keeps.contents ready.ready
     made.grows.keeps.contents made.can_join tree c.in_ok-push-2.ensures.items
-    (left-few g.S.Squares c.args.squares.now c.make_ready.new.squares c.args.lines.now.lines c.args.line.now call.lines call.front call.squares
+    (left-few g.S.Squares c.args.squares.now c.make_ready.new.squares c.args.lines.now.lines c.args.line.now call.lines call.prefix call.squares
     c.in-Some.is c.requires.squares ready.grows.keeps.contents ready.ready c.requires.most)
 
 pub returns-in_err-square-clause-stores : goal.returns-in_err-square-clause-stores
@@ -300,7 +300,7 @@ returns-in_err-quarters-clause-stores g c =
     let p = err_from_is_err_and c.from_residual-in_err-quarters.result c.from_residual-in_err-quarters.ensures.1 in
     let call = c.in_ok-square.ensures in
     let ready = c.in_ok-make_ready.ensures in
-    let some = needed g.S.Squares c.args.squares.now c.make_ready.new.squares c.args.lines.now.lines c.args.line.now call.lines call.front call.squares
+    let some = needed g.S.Squares c.args.squares.now c.make_ready.new.squares c.args.lines.now.lines c.args.line.now call.lines call.prefix call.squares
     c.in-Some.is c.requires.squares ready.grows.keeps.contents ready.ready c.deref.ensures.value in
     let grows = c.line_quarters.ensures.grows in
     rw (p.1, p.2) (record {
@@ -314,7 +314,7 @@ returns-in_err-push-2-clause-stores g c =
     let p = err_from_is_err_and c.from_residual-in_err-push-2.result c.from_residual-in_err-push-2.ensures.1 in
     let call = c.in_ok-square.ensures in
     let ready = c.in_ok-make_ready.ensures in
-    let some = needed g.S.Squares c.args.squares.now c.make_ready.new.squares c.args.lines.now.lines c.args.line.now call.lines call.front call.squares
+    let some = needed g.S.Squares c.args.squares.now c.make_ready.new.squares c.args.lines.now.lines c.args.line.now call.lines call.prefix call.squares
     c.in-Some.is c.requires.squares ready.grows.keeps.contents ready.ready c.deref.ensures.value in
     let grows = c.line_quarters.ensures.grows in
     rw (p.1, p.2) (record {
@@ -327,7 +327,7 @@ pub returns-in_ok-push-2-clause-stores : goal.returns-in_ok-push-2-clause-stores
 returns-in_ok-push-2-clause-stores g c =
     let call = c.in_ok-square.ensures in
     let ready = c.in_ok-make_ready.ensures in
-    let some = needed g.S.Squares c.args.squares.now c.make_ready.new.squares c.args.lines.now.lines c.args.line.now call.lines call.front call.squares
+    let some = needed g.S.Squares c.args.squares.now c.make_ready.new.squares c.args.lines.now.lines c.args.line.now call.lines call.prefix call.squares
     c.in-Some.is c.requires.squares ready.grows.keeps.contents ready.ready c.deref.ensures.value in
     let grows = c.line_quarters.ensures.grows in
     record {
@@ -342,11 +342,11 @@ returns-in_err-id-clause-stores g c =
     let call = c.in_ok-square.ensures in
     let ready = c.in_ok-make_ready.ensures in
     let made = c.in_ok-quarters.ensures in
-    let some = needed g.S.Squares c.args.squares.now c.make_ready.new.squares c.args.lines.now.lines c.args.line.now call.lines call.front call.squares
+    let some = needed g.S.Squares c.args.squares.now c.make_ready.new.squares c.args.lines.now.lines c.args.line.now call.lines call.prefix call.squares
     c.in-Some.is c.requires.squares ready.grows.keeps.contents ready.ready c.deref.ensures.value in
-    let tree = of-line g.S.Squares c.args.squares.now c.make_ready.new.squares c.args.lines.now.lines c.args.line.now call.lines call.front call.squares
+    let tree = of-line g.S.Squares c.args.squares.now c.make_ready.new.squares c.args.lines.now.lines c.args.line.now call.lines call.prefix call.squares
     c.in-Some.is c.requires.squares ready.grows.keeps.contents ready.ready c.deref.ensures.value made.square in
-    let this = this-needed g.S.Squares c.args.squares.now c.make_ready.new.squares c.args.lines.now.lines c.args.line.now call.lines call.front call.squares
+    let this = this-needed g.S.Squares c.args.squares.now c.make_ready.new.squares c.args.lines.now.lines c.args.line.now call.lines call.prefix call.squares
     c.in-Some.is c.requires.squares ready.grows.keeps.contents ready.ready tree in
     let grows = c.line_quarters.ensures.grows in
     let adds = adds-then _ ready.grows.adds grows.adds (waited c.args.lines.now.lines c.args.line.now c.requires.squares) some in
@@ -365,11 +365,11 @@ returns-in_err-push-clause-stores g c =
     let call = c.in_ok-square.ensures in
     let ready = c.in_ok-make_ready.ensures in
     let made = c.in_ok-quarters.ensures in
-    let some = needed g.S.Squares c.args.squares.now c.make_ready.new.squares c.args.lines.now.lines c.args.line.now call.lines call.front call.squares
+    let some = needed g.S.Squares c.args.squares.now c.make_ready.new.squares c.args.lines.now.lines c.args.line.now call.lines call.prefix call.squares
     c.in-Some.is c.requires.squares ready.grows.keeps.contents ready.ready c.deref.ensures.value in
-    let tree = of-line g.S.Squares c.args.squares.now c.make_ready.new.squares c.args.lines.now.lines c.args.line.now call.lines call.front call.squares
+    let tree = of-line g.S.Squares c.args.squares.now c.make_ready.new.squares c.args.lines.now.lines c.args.line.now call.lines call.prefix call.squares
     c.in-Some.is c.requires.squares ready.grows.keeps.contents ready.ready c.deref.ensures.value made.square in
-    let this = this-needed g.S.Squares c.args.squares.now c.make_ready.new.squares c.args.lines.now.lines c.args.line.now call.lines call.front call.squares
+    let this = this-needed g.S.Squares c.args.squares.now c.make_ready.new.squares c.args.lines.now.lines c.args.line.now call.lines call.prefix call.squares
     c.in-Some.is c.requires.squares ready.grows.keeps.contents ready.ready tree in
     let grows = c.line_quarters.ensures.grows in
     let adds = adds-then _ ready.grows.adds grows.adds (waited c.args.lines.now.lines c.args.line.now c.requires.squares) some in
@@ -386,11 +386,11 @@ returns-in_ok-push-clause-stores g c =
     let call = c.in_ok-square.ensures in
     let ready = c.in_ok-make_ready.ensures in
     let made = c.in_ok-quarters.ensures in
-    let some = needed g.S.Squares c.args.squares.now c.make_ready.new.squares c.args.lines.now.lines c.args.line.now call.lines call.front call.squares
+    let some = needed g.S.Squares c.args.squares.now c.make_ready.new.squares c.args.lines.now.lines c.args.line.now call.lines call.prefix call.squares
     c.in-Some.is c.requires.squares ready.grows.keeps.contents ready.ready c.deref.ensures.value in
-    let tree = of-line g.S.Squares c.args.squares.now c.make_ready.new.squares c.args.lines.now.lines c.args.line.now call.lines call.front call.squares
+    let tree = of-line g.S.Squares c.args.squares.now c.make_ready.new.squares c.args.lines.now.lines c.args.line.now call.lines call.prefix call.squares
     c.in-Some.is c.requires.squares ready.grows.keeps.contents ready.ready c.deref.ensures.value made.square in
-    let this = this-needed g.S.Squares c.args.squares.now c.make_ready.new.squares c.args.lines.now.lines c.args.line.now call.lines call.front call.squares
+    let this = this-needed g.S.Squares c.args.squares.now c.make_ready.new.squares c.args.lines.now.lines c.args.line.now call.lines call.prefix call.squares
     c.in-Some.is c.requires.squares ready.grows.keeps.contents ready.ready tree in
     let grows = c.line_quarters.ensures.grows in
     let adds = adds-then _ ready.grows.adds grows.adds (waited c.args.lines.now.lines c.args.line.now c.requires.squares) some in

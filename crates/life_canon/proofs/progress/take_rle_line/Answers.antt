@@ -10,7 +10,7 @@ use Rattle.life_base.specs.declared.cell.Run.{Run}
 use Rattle.life_quad.proofs.KeepingLemmas.{keeps-same, adds-none, adds-as}
 use Rattle.life_strip.specs.Given.{AreNext}
 use Rattle.life_canon.proofs.BuildFacts.{lines-next}
-use Rattle.life_canon.proofs.PatternFacts.{both-ok, not-full-rle, told-fault}
+use Rattle.life_canon.proofs.PatternFacts.{both-ok, not-full-rle, reported-fault}
 use Rattle.life_canon.specs.Needs.{SomeOfLines, SomeOfRuns}
 use Rattle.life_canon.proofs.NeedFacts.{line-runs}
 use Rattle.life_canon.proofs.progress.take_rle_line.Goals as goal
@@ -19,7 +19,7 @@ pub returns-in_err-line_into-clause-fault : goal.returns-in_err-line_into-clause
 returns-in_err-line_into-clause-fault g c =
     let p = err_from_is_err_and c.from_residual.result c.from_residual.ensures.1 in
     let kind : Kind = c.in_err-line_into.field-0.0 in
-    rw (p.1, p.2) (told-fault _ _ (BreaksRle MAX_LEVEL c.args.lines.now.lines c.args.line.now kind) c.args.lines.now.refused kind c.requires.begun
+    rw (p.1, p.2) (reported-fault _ _ (BreaksRle MAX_LEVEL c.args.lines.now.lines c.args.line.now kind) c.args.lines.now.refused kind c.requires.begun
     c.in_err-line_into.ensures.fault
     (λ e. c.in_err-line_into.ensures.spent.0 (cc)))
 

@@ -41,7 +41,7 @@ abbrev of_root : Rule → Tree → (Tree → Type 0) → Type 0
 of_root rule t P =
     (u : Universe) → u.rule ≡ rule → ((x y : ℤ) → tree_cell t x y ≡ u.cell x y) → SomeRoot MAX_LEVEL P u (depth t)
 
--- a square that is grown, and one that is trimmed behind it
+-- a square that is grown, and one that is trimmed after it
 grown : (rule : Rule) (t : Tree) (least : ℕ) → least ≡ least_level rule → IsFull t → 1 ≤ depth t → (P : Tree → Type 0) → SomeGrown P t least → of_root rule t P
 grown rule t least is full high P s = λ u same cells.
     root-grown P u t full high cells (subst (SomeGrown P t) (is ∙ ap least_level (sym same)) s)

@@ -2,11 +2,11 @@ use Rattle.std.proofs.Common.{◌≡◌, ℕ, List, ◌++◌, subst}
 use Rattle.life_base.specs.Lines.{whole_lines}
 use Rattle.life_quad.specs.Store.{Nodes}
 use Rattle.life_quad.proofs.KeepingLemmas.{adds-none}
-use Rattle.life_canon.specs.Room.{AddsLines}
+use Rattle.life_canon.specs.Space.{AddsLines}
 use Rattle.life_canon.proofs.RunFacts.{want-of}
 use Rattle.life_canon.proofs.runs.feed_piece.Goals as goal
 
--- the lines of a piece behind the same bytes
+-- the lines of a piece after the same bytes
 behind : {old new : Nodes} {was bytes : List ℕ} (piece : List ℕ) → was ≡ bytes → AddsLines (whole_lines (was ++ piece)) old new
     → AddsLines (whole_lines (bytes ++ piece)) old new
 behind {old} {new} piece e = subst (λ (b : List ℕ). AddsLines (whole_lines (b ++ piece)) old new) e
@@ -31,5 +31,5 @@ returns-in-Err-clause-adds c = λ bytes is. behind c.args.piece.now (is c.in-Non
 pub returns-in-Err-2-clause-adds : goal.returns-in-Err-2-clause-adds
 returns-in-Err-2-clause-adds c = λ bytes is. behind c.args.piece.now (is c.in-None.is) c.feed.ensures.feeds.adds
 
-pub returns-in-Err-clause-room : goal.returns-in-Err-clause-room
-returns-in-Err-clause-room c = λ e. c.in-Err.ensures.feeds.room (cc)
+pub returns-in-Err-clause-space : goal.returns-in-Err-clause-space
+returns-in-Err-clause-space c = λ e. c.in-Err.ensures.feeds.space (cc)

@@ -2,7 +2,7 @@ use Rattle.std.proofs.Common.{rules, take}
 use Rattle.std.proofs.lemmas.Result.{err_from_is_err_and}
 use Rattle.life_quad.proofs.KeepingLemmas.{keeps-then}
 use Rattle.life_canon.specs.Running.{by_length, by_want}
-use Rattle.life_canon.proofs.RunFacts.{reading-on, reading-ends, piece-adds, piece-tight, beyond-most, ended-refused, ended-open, ended-lacks, ended-adds, ended-holds, ended-tight, ended-whole, lacks-front, refused-not-full}
+use Rattle.life_canon.proofs.RunFacts.{reading-on, reading-ends, piece-adds, piece-tight, beyond-most, ended-refused, ended-open, ended-lacks, ended-adds, ended-holds, ended-tight, ended-whole, lacks-prefix, refused-not-full}
 use Rattle.life_canon.proofs.runs.read_by_pieces.Goals as goal
 use Rattle.life_base.proofs.Results.{err_again}
 
@@ -43,7 +43,7 @@ returns-then-total-most-clause-reads g c =
       reads = reading-ends _ _ _ _ _ _ _ c.loop-reader.invariant.0 c.loop-reader.invariant.3 (search rules) (search rules) tt;
     }
 
--- a piece found no room or no memory
+-- a piece found no space or no memory
 pub returns-in_err-refused-clause-reads : goal.returns-in_err-refused-clause-reads
 returns-in_err-refused-clause-reads g c =
     let p = err_from_is_err_and c.from_residual-in_err-refused.result c.from_residual-in_err-refused.ensures.1 in
@@ -55,15 +55,15 @@ returns-in_err-refused-clause-reads g c =
       fault = by_want call.want;
       reads = record {
         all = tt;
-        needed = λ e. lacks-front _ _ _ _ _ _ c.loop-reader.total c.in_ok-count.count c.args.most _ c.loop-reader.refused c.loop-reader.reader piece
+        needed = λ e. lacks-prefix _ _ _ _ _ _ c.loop-reader.total c.in_ok-count.count c.args.most _ c.loop-reader.refused c.loop-reader.reader piece
             c.loop-reader.invariant.0 c.in_ok-count.ensures.bytes.0 (search rules) (search rules) (call.needed (err_again e));
         adds = piece-adds _ _ _ _ _ _ c.loop-reader.total c.in_ok-count.count c.args.most 0 c.loop-reader.refused c.loop-reader.reader piece
             c.loop-reader.invariant.0 c.in_ok-count.ensures.bytes.0 c.feed_piece.ensures.adds;
-        room = λ e. piece-tight _ _ c.loop-reader.store _ _ _ c.loop-reader.total c.in_ok-count.count c.args.most _ c.loop-reader.refused
+        space = λ e. piece-tight _ _ c.loop-reader.store _ _ _ c.loop-reader.total c.in_ok-count.count c.args.most _ c.loop-reader.refused
             c.loop-reader.reader piece
             c.loop-reader.invariant.0 c.in_ok-count.ensures.bytes.0 (search rules) (search rules) (call.needed (err_again e)).0
-            c.loop-reader.invariant.3.limit (call.room (err_again e));
-        told = search rules;
+            c.loop-reader.invariant.3.limit (call.space (err_again e));
+        reported = search rules;
         keeps = keeps-then c.loop-reader.invariant.3 c.feed_piece.ensures.keeps;
       };
     })
@@ -99,11 +99,11 @@ returns-in-None-clause-reads g c =
             c.loop-reader.invariant.2
             c.in-None.is (call.ends.needed e);
         adds = ended-adds _ _ _ _ _ _ _ c.loop-reader.invariant.0 c.in-None.is call.ends.adds;
-        room = λ e. ended-tight _ _ c.loop-reader.store _ _ _ _ _ _ _ _ _ _ c.loop-reader.invariant.0 (search rules) (search rules)
+        space = λ e. ended-tight _ _ c.loop-reader.store _ _ _ _ _ _ _ _ _ _ c.loop-reader.invariant.0 (search rules) (search rules)
             c.in_ok-count.ensures.bytes
             c.loop-reader.invariant.2
-            c.in-None.is c.loop-reader.invariant.3.limit (call.ends.room e);
-        told = search rules;
+            c.in-None.is c.loop-reader.invariant.3.limit (call.ends.space e);
+        reported = search rules;
         keeps = keeps-then c.loop-reader.invariant.3 call.ends.keeps;
       };
     }

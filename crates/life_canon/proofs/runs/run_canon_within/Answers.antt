@@ -17,20 +17,20 @@ use Rattle.life_canon.specs.declared.pattern.Pattern.{Pattern}
 use Rattle.life_canon.proofs.CallFacts.{canonical-text}
 use Rattle.life_canon.proofs.Fits.{read-fits}
 use Rattle.life_canon.proofs.PieceFacts.{pieces-text}
-use Rattle.life_canon.proofs.Stored.{no-room, source-err, source-still, write-no-room}
+use Rattle.life_canon.proofs.Stored.{no-space, source-err, source-still, write-no-space}
 use Rattle.life_canon.proofs.runs.run_canon_within.Goals as goal
 
--- the front and the lines of the pattern that was read are its text
-wrote : (most : ℕ) (store : Nodes) (source : SourceRun) (pattern : Pattern) (IsWritten : List ℕ → Type 0) (front : List ℕ)
-    → HasRead MAX_LEVEL most store source pattern → front ≡ header_lines_text pattern.rule pattern.generation
-    → IsWritten (front ++ flat_map node_text (lines_for pattern.rule (listed_squares (content store pattern.root) (least_level pattern.rule))))
+-- the prefix and the lines of the pattern that was read are its text
+wrote : (most : ℕ) (store : Nodes) (source : SourceRun) (pattern : Pattern) (IsWritten : List ℕ → Type 0) (prefix : List ℕ)
+    → HasRead MAX_LEVEL most store source pattern → prefix ≡ header_lines_text pattern.rule pattern.generation
+    → IsWritten (prefix ++ flat_map node_text (lines_for pattern.rule (listed_squares (content store pattern.root) (least_level pattern.rule))))
     → Wrote MAX_LEVEL most source IsWritten
-wrote most store source pattern IsWritten front has is written = record {
+wrote most store source pattern IsWritten prefix has is written = record {
   bytes = has.bytes;
   text = canon_text MAX_LEVEL (universe_in store pattern);
   read = has.read;
   canonical = canonical-text has.bytes store pattern has.is _ refl;
-  written = subst IsWritten (pieces-text store pattern (read-fits has.bytes store pattern has.is) front _ is refl) written;
+  written = subst IsWritten (pieces-text store pattern (read-fits has.bytes store pattern has.is) prefix _ is refl) written;
 }
 
 -- a sink that neither failed nor stalled
@@ -77,7 +77,7 @@ returns-in_err-pattern-clause-runs g c =
       ok = tt;
       err = by_reading c.in_err-pattern.ensures.reads.fault;
       reads = source-err c.in_err-pattern.ensures.reads.reads;
-      write_told = no_failure _ _ c.requires.working.1 c.requires.working.2;
+      write_reported = no_failure _ _ c.requires.working.1 c.requires.working.2;
     })
 
 pub returns-in_err-numbers-clause-runs : goal.returns-in_err-numbers-clause-runs
@@ -87,8 +87,8 @@ returns-in_err-numbers-clause-runs g c =
     rw (p.1, p.2) (record {
       ok = tt;
       err = by_reading (by_want (inl memory));
-      reads = source-still c.in_ok-pattern.ensures.reads.reads (no-room memory);
-      write_told = no_failure _ _ c.requires.working.1 c.requires.working.2;
+      reads = source-still c.in_ok-pattern.ensures.reads.reads (no-space memory);
+      write_reported = no_failure _ _ c.requires.working.1 c.requires.working.2;
     })
 
 pub returns-in_err-deliver_squares-clause-runs : goal.returns-in_err-deliver_squares-clause-runs
@@ -98,19 +98,19 @@ returns-in_err-deliver_squares-clause-runs g c =
     rw (p.1, p.2) (record {
       ok = tt;
       err = by_writing (ap fault_of kind) (record {
-        wrote = wrote _ _ _ _ (WritesPrefix _ _) _ c.in_ok-pattern.ensures.reads.pattern c.in_ok-numbers.ensures.front c.in_err-deliver_squares.ensures.text;
+        wrote = wrote _ _ _ _ (WritesPrefix _ _) _ c.in_ok-pattern.ensures.reads.pattern c.in_ok-numbers.ensures.prefix c.in_err-deliver_squares.ensures.text;
         cause = c.in_err-deliver_squares.ensures.sink.cause;
       });
-      reads = source-still c.in_ok-pattern.ensures.reads.reads (write-no-room kind);
-      write_told = λ e. kind;
+      reads = source-still c.in_ok-pattern.ensures.reads.reads (write-no-space kind);
+      write_reported = λ e. kind;
     })
 
 pub returns-clause-runs : goal.returns-clause-runs
 returns-clause-runs g c =
     let sink = c.in_ok-deliver_squares.ensures.sink in
     record {
-      ok = wrote _ _ _ _ (Appends _ _) _ c.in_ok-pattern.ensures.reads.pattern c.in_ok-numbers.ensures.front c.in_ok-deliver_squares.ensures.text;
+      ok = wrote _ _ _ _ (Appends _ _) _ c.in_ok-pattern.ensures.reads.pattern c.in_ok-numbers.ensures.prefix c.in_ok-deliver_squares.ensures.text;
       err = tt;
       reads = source-still c.in_ok-pattern.ensures.reads.reads (λ e. absurd (cc));
-      write_told = no_failure _ _ sink.works (sink.stalled ∙ c.requires.working.2);
+      write_reported = no_failure _ _ sink.works (sink.stalled ∙ c.requires.working.2);
     }

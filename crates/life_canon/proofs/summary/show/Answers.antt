@@ -1,5 +1,5 @@
 use Rattle.std.proofs.lemmas.Result.{IfOk-weaker}
-use Rattle.life_canon.proofs.Stored.{no-room, reads-err, reads-still}
+use Rattle.life_canon.proofs.Stored.{no-space, reads-err, reads-still}
 use Rattle.life_canon.proofs.summary.show.Goals as goal
 
 pub five_lines_of-requires : goal.five_lines_of-requires
@@ -12,4 +12,4 @@ pub returns-in_err-pattern-clause-reads : goal.returns-in_err-pattern-clause-rea
 returns-in_err-pattern-clause-reads c = reads-err c.from_residual.ensures.1 c.in_err-pattern.ensures.reads
 
 pub returns-clause-reads : goal.returns-clause-reads
-returns-clause-reads c = reads-still c.in_ok-pattern.ensures.reads (no-room c.five_lines_of.ensures.memory)
+returns-clause-reads c = reads-still c.in_ok-pattern.ensures.reads (no-space c.five_lines_of.ensures.memory)

@@ -2,7 +2,7 @@ use Rattle.std.proofs.Common.{inl, inr}
 use Rattle.std.proofs.lemmas.Result.{IfOk-weaker, IfErr-weaker}
 use Rattle.life_canon.proofs.CallFacts.{canonical-text, least-text}
 use Rattle.life_canon.proofs.Fits.{read-fits}
-use Rattle.life_canon.proofs.Stored.{no-room, reads-err, reads-still}
+use Rattle.life_canon.proofs.Stored.{no-space, reads-err, reads-still}
 use Rattle.life_canon.proofs.texts.canon.Goals as goal
 
 pub text_of-requires : goal.text_of-requires
@@ -23,4 +23,4 @@ pub returns-in_err-pattern-clause-reads : goal.returns-in_err-pattern-clause-rea
 returns-in_err-pattern-clause-reads c = reads-err c.from_residual.ensures.1 c.in_err-pattern.ensures.reads
 
 pub returns-clause-reads : goal.returns-clause-reads
-returns-clause-reads c = reads-still c.in_ok-pattern.ensures.reads (no-room c.text_of.ensures.memory)
+returns-clause-reads c = reads-still c.in_ok-pattern.ensures.reads (no-space c.text_of.ensures.memory)

@@ -3,7 +3,7 @@ use Rattle.std.proofs.lemmas.Result.{err_from_is_err_and}
 use Rattle.life_mc.specs.Writing.{node_text}
 use Rattle.life_canon.specs.Listing.{lines_for, listed_squares}
 use Rattle.life_canon.specs.Universe.{least_level}
-use Rattle.life_canon.proofs.PieceFacts.{front-told}
+use Rattle.life_canon.proofs.PieceFacts.{part-reported}
 use Rattle.life_canon.proofs.writer.deliver_squares.Goals as goal
 
 pub returns-in_err-walk_pattern-clause-text : goal.returns-in_err-walk_pattern-clause-text
@@ -15,5 +15,5 @@ pub returns-clause-text : goal.returns-clause-text
 returns-clause-text g c =
     let all = lines_for c.args.pattern.now.rule
     (listed_squares (g.S.Squares.content c.args.squares.now c.args.pattern.now.root) (least_level c.args.pattern.now.rule)) in
-    front-told _ _ _ _ c.in_ok-walk_pattern.ensures.took.text (g.W.Sink.contents c.deliver.new.writer) _ c.deliver.result
+    part-reported _ _ _ _ c.in_ok-walk_pattern.ensures.took.text (g.W.Sink.contents c.deliver.new.writer) _ c.deliver.result
     (ap (λ l. l ++ flat_map node_text all) c.new-piece.ensures.text) (rw c.text.ensures at c.deliver.ensures.text)

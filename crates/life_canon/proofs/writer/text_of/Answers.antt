@@ -5,4 +5,4 @@ use Rattle.life_canon.proofs.writer.text_of.Goals as goal
 pub returns-clause-text : goal.returns-clause-text
 returns-clause-text c =
     c.in_ok-walk_pattern.ensures.took
-    ∙ pieces-text c.args.store.now c.args.pattern.now c.requires _ _ c.in_ok-front_with_room.ensures.front refl
+    ∙ pieces-text c.args.store.now c.args.pattern.now c.requires _ _ c.in_ok-prefix_with_space.ensures.prefix refl

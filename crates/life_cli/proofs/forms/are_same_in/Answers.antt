@@ -5,8 +5,8 @@ use Rattle.life_cli.proofs.forms.are_same_in.Goals as goal
 pub returns-in-Placed-clause-answer : goal.returns-in-Placed-clause-answer
 returns-in-Placed-clause-answer c =
     rw c.in-Placed.is (λ first second p q.
-    let told = c.patterns_tell_files.ensures first second c.args.store.now c.args.a.now c.args.b.now p q in
-    (λ h. told.0 (c.are_same.ensures.0 h), λ s. c.are_same.ensures.1 (told.1 s)))
+    let reported = c.patterns_tell_files.ensures first second c.args.store.now c.args.a.now c.args.b.now p q in
+    (λ h. reported.0 (c.are_same.ensures.0 h), λ s. c.are_same.ensures.1 (reported.1 s)))
 
 pub returns-in-Moved-clause-answer : goal.returns-in-Moved-clause-answer
 returns-in-Moved-clause-answer c =

@@ -7,7 +7,7 @@ pub returns-then-writes_placed_text-clause-ran : goal.returns-then-writes_placed
 returns-then-writes_placed_text-clause-ran g c =
     ran_canonical c.args.task.now _ _ _ c.run_canonical.result (c.writes_placed_text.ensures.0 c.if-writes_placed_text.true)
     (none_failed g.B.Source.failures c.args.second.now c.requires.second_reads) c.run_canonical.ensures.done c.run_canonical.ensures.canon
-    c.run_canonical.ensures.refused c.run_canonical.ensures.read_told c.run_canonical.ensures.write_told
+    c.run_canonical.ensures.refused c.run_canonical.ensures.read_reported c.run_canonical.ensures.write_reported
 
 pub returns-in_err-made-clause-ran : goal.returns-in_err-made-clause-ran
 returns-in_err-made-clause-ran g c =
@@ -24,4 +24,4 @@ returns-in_err-write_whole-clause-ran g c =
 pub returns-clause-ran : goal.returns-clause-ran
 returns-clause-ran g c =
     let written = rw c.text.ensures at c.in_ok-write_whole.ensures.ok in
-    rw c.status.ensures (ran_done c.args.task.now _ _ _ c.in_ok-made.made c.in_ok-made.ensures written c.in_ok-write_whole.ensures.told)
+    rw c.status.ensures (ran_done c.args.task.now _ _ _ c.in_ok-made.made c.in_ok-made.ensures written c.in_ok-write_whole.ensures.reported)

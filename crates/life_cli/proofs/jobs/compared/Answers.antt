@@ -65,27 +65,27 @@ returns-clause-err g c =
 unfailed : (n : ℕ) → n ≡ 0 → n ≡ 1 → ⊥
 unfailed n works failed = let bad : 0 ≡ 1 = sym works ∙ failed in absurd cc
 
-pub returns-in_err-a-clause-told : goal.returns-in_err-a-clause-told
-returns-in_err-a-clause-told g c =
+pub returns-in_err-a-clause-reported : goal.returns-in_err-a-clause-reported
+returns-in_err-a-clause-reported g c =
     let p = err_from_is_err_and c.from_residual.result c.from_residual.ensures.1 in
     rw (p.1, p.2) (λ e. elim e [
-      | inl failed ↦ c.in_err-a.ensures.told failed
+      | inl failed ↦ c.in_err-a.ensures.reported failed
       | inr failed ↦ absurd (unfailed _ c.requires.other failed)
     ])
 
-pub returns-in_err-b-clause-told : goal.returns-in_err-b-clause-told
-returns-in_err-b-clause-told g c =
+pub returns-in_err-b-clause-reported : goal.returns-in_err-b-clause-reported
+returns-in_err-b-clause-reported g c =
     let p = err_from_is_err_and c.from_residual-in_err-b.result c.from_residual-in_err-b.ensures.1 in
-    rw (p.1, p.2) (λ e. elim e [ inl failed ↦ absurd (c.in_ok-a.ensures.told failed) | inr failed ↦ c.in_err-b.ensures.told failed ])
+    rw (p.1, p.2) (λ e. elim e [ inl failed ↦ absurd (c.in_ok-a.ensures.reported failed) | inr failed ↦ c.in_err-b.ensures.reported failed ])
 
-pub returns-in_err-a-2-clause-told : goal.returns-in_err-a-2-clause-told
-returns-in_err-a-2-clause-told g c =
-    λ e. elim e [ inl failed ↦ absurd (c.in_ok-a.ensures.told failed) | inr failed ↦ absurd (c.in_ok-b.ensures.told failed) ]
+pub returns-in_err-a-2-clause-reported : goal.returns-in_err-a-2-clause-reported
+returns-in_err-a-2-clause-reported g c =
+    λ e. elim e [ inl failed ↦ absurd (c.in_ok-a.ensures.reported failed) | inr failed ↦ absurd (c.in_ok-b.ensures.reported failed) ]
 
-pub returns-in_err-b-2-clause-told : goal.returns-in_err-b-2-clause-told
-returns-in_err-b-2-clause-told g c =
-    λ e. elim e [ inl failed ↦ absurd (c.in_ok-a.ensures.told failed) | inr failed ↦ absurd (c.in_ok-b.ensures.told failed) ]
+pub returns-in_err-b-2-clause-reported : goal.returns-in_err-b-2-clause-reported
+returns-in_err-b-2-clause-reported g c =
+    λ e. elim e [ inl failed ↦ absurd (c.in_ok-a.ensures.reported failed) | inr failed ↦ absurd (c.in_ok-b.ensures.reported failed) ]
 
-pub returns-clause-told : goal.returns-clause-told
-returns-clause-told g c =
-    λ e. elim e [ inl failed ↦ absurd (c.in_ok-a.ensures.told failed) | inr failed ↦ absurd (c.in_ok-b.ensures.told failed) ]
+pub returns-clause-reported : goal.returns-clause-reported
+returns-clause-reported g c =
+    λ e. elim e [ inl failed ↦ absurd (c.in_ok-a.ensures.reported failed) | inr failed ↦ absurd (c.in_ok-b.ensures.reported failed) ]

@@ -31,7 +31,7 @@ returns g c =
           w.rle_of_source.ensures w.made_from_text-in-Convert-Rle-default.ensures.text w.made_from_text-in-Convert-Rle-default.ensures.fault)
       | in-Same-Some w ↦
           rw (w.in-Same-Some.is-0, w.result-is, w.first-is, w.second-is, w.in-Same-Some.is-1) (made_of_comparison _ _ _ w.compared.result _
-          w.compared.ensures.ok w.compared.ensures.err w.compared.ensures.told w.made_from_comparison.ensures.answer w.made_from_comparison.ensures.fault)
+          w.compared.ensures.ok w.compared.ensures.err w.compared.ensures.reported w.made_from_comparison.ensures.answer w.made_from_comparison.ensures.fault)
       | in-Show-default w ↦
           rw (w.in-Show-default.is-0, w.result-is, w.first-is, w.second-is) (made_of_text Text (λ text. text.items) (IsShownText MAX_LEVEL) (Refuses MAX_LEVEL)
           Show _ _ w.five_lines_of_source.result _ (λ x. (refl, refl)) works (λ has. has) (λ bytes text is. (refl, is))
@@ -45,7 +45,7 @@ returns g c =
           rw (w.in-StepTable-Some.is-0, w.result-is, w.first-is, w.second-is, w.in-StepTable-Some.is-1) (made_of_step Text (λ text. text.items)
           IsSteppedBy (HasNoTextByTable _ _) StepTable _ _ w.next_by_table_of.result _ (λ x. (refl, refl))
           (λ table bytes others text is stepped. (refl, (table, is, stepped))) (λ output refusal h. inl h) w.next_by_table_of.ensures.ok
-          w.next_by_table_of.ensures.err w.next_by_table_of.ensures.told
+          w.next_by_table_of.ensures.err w.next_by_table_of.ensures.reported
           w.made_from_step.ensures.text w.made_from_step.ensures.refusal)
       | in-Later-default w ↦
           rw (w.in-Later-default.is-0, w.result-is, w.first-is, w.second-is) (made_of_text Text (λ text. text.items) (IsTextLater _) (RefusesGenerations _)
@@ -55,6 +55,6 @@ returns g c =
           rw (w.in-LaterTable-Some.is-0, w.result-is, w.first-is, w.second-is, w.in-LaterTable-Some.is-1) (made_of_step Text (λ text. text.items)
           (λ table. IsSteppedTimes table _) (HasNoTextLaterByTable _ _ _) (LaterTable _) _ _ w.later_by_table_of.result _ (λ x. (refl, refl))
           (λ table bytes others text is stepped. (refl, (table, is, stepped))) (λ output refusal h. inl h) w.later_by_table_of.ensures.ok
-          w.later_by_table_of.ensures.err w.later_by_table_of.ensures.told w.made_from_step-in-LaterTable-Some.ensures.text
+          w.later_by_table_of.ensures.err w.later_by_table_of.ensures.reported w.made_from_step-in-LaterTable-Some.ensures.text
           w.made_from_step-in-LaterTable-Some.ensures.refusal)
     ]

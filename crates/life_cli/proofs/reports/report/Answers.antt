@@ -1,4 +1,4 @@
 use Rattle.life_cli.proofs.reports.report.Goals as goal
 
-pub returns-in-TwoInputs-clause-told : goal.returns-in-TwoInputs-clause-told
-returns-in-TwoInputs-clause-told g c = rw c.in-TwoInputs.is c.misuse.ensures.told
+pub returns-in-TwoInputs-clause-reported : goal.returns-in-TwoInputs-clause-reported
+returns-in-TwoInputs-clause-reported g c = rw c.in-TwoInputs.is c.misuse.ensures.reported

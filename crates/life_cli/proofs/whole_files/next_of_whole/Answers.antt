@@ -9,7 +9,7 @@ use Rattle.life_cli.proofs.whole_files.next_of_whole.Goals as goal
 pub returns-in_err-bytes : goal.returns-in_err-bytes
 returns-in_err-bytes g c =
     let p = err_from_is_err_and c.from_residual.result c.from_residual.ensures.1 in
-    rw (p.1, p.2) (unread _ IsStepped RefusesLifeStep _ _ c.in_err-bytes.ensures.err c.in_err-bytes.ensures.told)
+    rw (p.1, p.2) (unread _ IsStepped RefusesLifeStep _ _ c.in_err-bytes.ensures.err c.in_err-bytes.ensures.reported)
 
 pub returns-in-Some : goal.returns-in-Some
 returns-in-Some g c =
@@ -21,7 +21,7 @@ returns-in-Some g c =
         is = subst (λ (bytes : List ℕ). IsStepped bytes c.in-Some.text.items) c.deref.ensures.value c.in-Some.ensures;
       };
       err = tt;
-      told = λ failed. let bad : 0 ≡ 1 = sym works ∙ failed in absurd cc;
+      reported = λ failed. let bad : 0 ≡ 1 = sym works ∙ failed in absurd cc;
     }
 
 pub returns-in-None : goal.returns-in-None

@@ -3,7 +3,7 @@ use Rattle.std.proofs.lemmas.Result.{err_from_is_err_and}
 use Rattle.life_base.specs.Refusal.{fault_of}
 use Rattle.life_quad.proofs.LawLemmas.{known_squares_are_full}
 use Rattle.life_canon.specs.Store.{universe_in}
-use Rattle.life_forms.proofs.ComparingFacts.{moved-again, shifts-told}
+use Rattle.life_forms.proofs.ComparingFacts.{moved-again, shifts-reported}
 use Rattle.life_forms.proofs.PlaneFacts.{outside-blank}
 use Rattle.life_forms.proofs.compare.are_shifts.Goals as goal
 
@@ -27,7 +27,7 @@ returns-clause-answer c =
     let store = c.args.store.now in
     let u = universe_in store c.args.a.now in
     let v = universe_in store c.args.b.now in
-    shifts-told u v c.brought.new.to c.brought-2.new.to c.in_ok-first.first c.in_ok-second.second c.are_same.result
+    shifts-reported u v c.brought.new.to c.brought-2.new.to c.in_ok-first.first c.in_ok-second.second c.are_same.result
     (outside-blank _ (known_squares_are_full store c.args.a.now.root c.requires.a.known.0).1) c.in_ok-second.ensures.keeps c.in_ok-first.ensures.trimmed
     (moved-again u _ _ c.in_ok-one.ensures.moved c.in_ok-first.ensures.moved) c.in_ok-second.ensures.trimmed
     (moved-again v _ _ c.in_ok-other.ensures.moved c.in_ok-second.ensures.moved) c.are_same.ensures

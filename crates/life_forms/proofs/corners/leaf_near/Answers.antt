@@ -6,7 +6,7 @@ use Rattle.life_quad.proofs.LawLemmas.{known_squares_are_full}
 use Rattle.life_canon.specs.Store.{content}
 use Rattle.life_slide.specs.Pieces.{IsNearMiddle}
 use Rattle.life_slide.proofs.MovedLemmas.{bottom-read, left-read, right-read, top-read}
-use Rattle.life_forms.proofs.CornerFacts.{beside-columns, beside-rows, near-column, near-row}
+use Rattle.life_forms.proofs.CornerFacts.{adjacent-columns, adjacent-rows, near-column, near-row}
 use Rattle.life_forms.proofs.MovedFacts.{square-same}
 use Rattle.life_forms.proofs.PatternFacts.{root-high}
 use Rattle.life_forms.proofs.SmallCorners.{deep-root}
@@ -65,14 +65,14 @@ returns-then-not-meets c =
     let d = (goal.at.returns-then-not-meets c).After-meets in
     let t = content c.args.store.now c.args.pattern.now.root in
     let deep = deep-root c.args.store.now c.args.pattern.now c.requires.trimmed c.requires.life in
-    beside-columns t c.args.found.now c.requires.bounds deep c.args.x c.args.y (columns-apart d c.if-not-meets.true)
+    adjacent-columns t c.args.found.now c.requires.bounds deep c.args.x c.args.y (columns-apart d c.if-not-meets.true)
 
 pub returns-then-not-meets-2 : goal.returns-then-not-meets-2
 returns-then-not-meets-2 c =
     let d = (goal.at.returns-then-not-meets-2 c).After-meets-2 in
     let t = content c.args.store.now c.args.pattern.now.root in
     let deep = deep-root c.args.store.now c.args.pattern.now c.requires.trimmed c.requires.life in
-    beside-rows t c.args.found.now c.requires.bounds deep c.args.x c.args.y (rows-apart d c.if-not-meets-2.true)
+    adjacent-rows t c.args.found.now c.requires.bounds deep c.args.x c.args.y (rows-apart d c.if-not-meets-2.true)
 
 pub leaf_at-requires-clause-high : goal.leaf_at-requires-clause-high
 leaf_at-requires-clause-high c = deep-root c.args.store.now c.args.pattern.now c.requires.trimmed c.requires.life

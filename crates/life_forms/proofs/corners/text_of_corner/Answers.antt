@@ -17,7 +17,7 @@ returns-in-Four-clause-text c =
     ap is_blank_tree c.turned_leaf.ensures ∙ blank-image c.args.turn (eight c.in-Four.leaf) ∙ live in
     IfOk-weaker c.leaf_text.result _ _
     (λ text is rule generation life begins.
-    written-four rule life (life-low rule life) generation c.args.front.now text.items begins c.turned_leaf.result turned is
+    written-four rule life (life-low rule life) generation c.args.prefix.now text.items begins c.turned_leaf.result turned is
     ∙ ap (square_text rule generation) c.turned_leaf.ensures
     ∙ ap (λ (k : Corner). square_text rule generation (corner_root c.args.turn k)) (sym c.in-Four.is))
     c.leaf_text.ensures.text

@@ -13,12 +13,12 @@ returns-clause-text c rule generation life begins =
     let b = c.args.block in
     let none : map eight c.in_ok-known.known.items ≡ [] = ap (map eight) c.in_ok-known.ensures.items in
     let first = c.in_ok-nw.ensures.known ∙ ap (λ (l : List Tree). with_leaf l (eight b.nw)) none in
-    let front = c.in_ok-extend_from_slice.ensures.items ∙ ap (λ (l : List ℕ). l ++ c.args.front.now) c.in_ok-text.ensures.items in
-    let leaves = c.in_ok-append_leaves.ensures.ok ∙ (λ i. front i ++ flat_map node_text (map leaf_line (c.deref.ensures.value i))) in
+    let prefix = c.in_ok-extend_from_slice.ensures.items ∙ ap (λ (l : List ℕ). l ++ c.args.prefix.now) c.in_ok-text.ensures.items in
+    let leaves = c.in_ok-append_leaves.ensures.ok ∙ (λ i. prefix i ++ flat_map node_text (map leaf_line (c.deref.ensures.value i))) in
     let quarter = c.in_ok-append_line.ensures.ok
     ∙ ap (λ (l : List ℕ). l ++ node_text (Quad 4 c.in_ok-nw.nw c.in_ok-ne.ne c.in_ok-sw.sw c.in_ok-se.se)) leaves in
     let count = c.len.ensures ∙ sym c.deref.ensures.len ∙ ap length c.deref.ensures.value in
-    written-sixteen rule life (life-low rule life) generation c.args.front.now _ begins b.nw b.ne b.sw b.se c.numbered.new.known.items
+    written-sixteen rule life (life-low rule life) generation c.args.prefix.now _ begins b.nw b.ne b.sw b.se c.numbered.new.known.items
     c.numbered-2.new.known.items c.numbered-3.new.known.items c.numbered-4.new.known.items c.in_ok-nw.nw c.in_ok-ne.ne c.in_ok-sw.sw c.in_ok-se.se
     first c.in_ok-ne.ensures.known c.in_ok-sw.ensures.known c.in_ok-se.ensures.known c.in_ok-nw.ensures.number c.in_ok-ne.ensures.number
     c.in_ok-sw.ensures.number c.in_ok-se.ensures.number c.requires.live

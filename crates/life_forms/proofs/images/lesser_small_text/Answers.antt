@@ -11,7 +11,7 @@ returns-clause-text c =
     let u = universe_in c.args.store.now c.args.pattern.now in
     let outside = outside-blank _ (known_squares_are_full c.args.store.now c.args.pattern.now.root c.requires.trimmed.known.0).1 in
     let corner = c.requires.corner in
-    let is = c.in_ok-text.ensures.text u.rule u.generation corner.life c.requires.front in
+    let is = c.in_ok-text.ensures.text u.rule u.generation corner.life c.requires.prefix in
     lesser-of-two MAX_LEVEL u (lit≤ tt) outside c.args.columns c.args.rows _ _ (corner.text false) (corner.text true) c.args.best.items is.lesser
     c.in_ok-text.text.items is.one is.two
 

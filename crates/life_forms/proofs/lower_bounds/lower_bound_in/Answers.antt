@@ -43,5 +43,5 @@ returns-in-Ok c =
     (outside-blank t known.1) c.args.found.now
     (box-of-square t c.args.found.now c.requires.bounds) 12 (lit≤ tt) (lit≤ tt) (record { wide = middling.wide; tall = middling.tall })
     middling.far c.args.columns c.args.rows most enough (eight c.in_ok-leaf.leaf)
-    c.in_ok-leaf.ensures c.in-Ok.text.items (c.in-Ok.ensures.first u.rule u.generation life c.requires.front)
-    (c.in-Ok.ensures.second u.rule u.generation life c.requires.front)
+    c.in_ok-leaf.ensures c.in-Ok.text.items (c.in-Ok.ensures.first u.rule u.generation life c.requires.prefix)
+    (c.in-Ok.ensures.second u.rule u.generation life c.requires.prefix)

@@ -1,5 +1,5 @@
 use Rattle.std.proofs.Common.{◌∙◌, ◌+◌, ◌-◌, arith}
-use Rattle.life_mc.proofs.LineRoom.{part-put, after-block}
+use Rattle.life_mc.proofs.LineSpace.{part-put, after-block}
 use Rattle.life_mc.proofs.line_writing.copy_block.Goals as goal
 
 pub returns-clause-written : goal.returns-clause-written

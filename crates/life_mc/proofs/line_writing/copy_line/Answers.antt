@@ -1,6 +1,6 @@
 use Rattle.std.proofs.Common.{◌+◌, ◌-◌, ◌∙◌, ap, arith, drop, length-drop}
 use Rattle.std.proofs.lemmas.List.Edits.{drop-paste}
-use Rattle.life_mc.proofs.LineRoom.{rest-kept}
+use Rattle.life_mc.proofs.LineSpace.{rest-kept}
 use Rattle.life_mc.proofs.line_writing.copy_line.Goals as goal
 
 pub returns-then-count-le16-clause-behind : goal.returns-then-count-le16-clause-behind

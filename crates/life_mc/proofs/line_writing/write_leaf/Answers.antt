@@ -1,6 +1,6 @@
 use Rattle.std.proofs.Common.{◌+◌, ◌∙◌, arith}
 use Rattle.std.proofs.lemmas.Grind.{common_steps}
-use Rattle.life_mc.proofs.LineRoom.{rest-kept}
+use Rattle.life_mc.proofs.LineSpace.{rest-kept}
 use Rattle.life_mc.proofs.line_writing.write_leaf.Goals as goal
 
 pub loop-row-preserved : goal.loop-row-preserved

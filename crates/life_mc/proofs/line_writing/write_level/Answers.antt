@@ -1,6 +1,6 @@
 use Rattle.std.proofs.Common.{◌++◌, ◌∙◌, ap, arith, drop, sym}
 use Rattle.std.proofs.lemmas.Fmt.{decimal_digit}
-use Rattle.life_mc.proofs.LineRoom.{level-fits}
+use Rattle.life_mc.proofs.LineSpace.{level-fits}
 use Rattle.life_mc.proofs.line_writing.write_level.Goals as goal
 
 pub returns-then-level-lt10-clause-written : goal.returns-then-level-lt10-clause-written

@@ -1,5 +1,5 @@
 use Rattle.std.proofs.Common.{arith, ◌+◌, ◌∙◌}
-use Rattle.life_mc.proofs.LineRoom.{line-copied, rest-kept, after-line}
+use Rattle.life_mc.proofs.LineSpace.{line-copied, rest-kept, after-line}
 use Rattle.life_mc.proofs.line_writing.write_quad.Goals as goal
 
 pub returns-clause-written : goal.returns-clause-written

@@ -1,5 +1,5 @@
 use Rattle.std.proofs.Common.{drop, arith}
-use Rattle.life_mc.proofs.LineRoom.{quad-in-room, front-kept}
+use Rattle.life_mc.proofs.LineSpace.{quad-in-space, prefix-kept}
 use Rattle.life_mc.proofs.line_writing.write_quad_before.Goals as goal
 
 pub write_level-requires : goal.write_level-requires
@@ -31,7 +31,7 @@ write_level-requires c = (
 
 pub returns-clause-written : goal.returns-clause-written
 returns-clause-written c =
-    quad-in-room c.args.level c.args.nw c.args.ne c.args.sw c.args.se (drop c.args.end c.args.text.now) _ _ _ _ _ _
+    quad-in-space c.args.level c.args.nw c.args.ne c.args.sw c.args.se (drop c.args.end c.args.text.now) _ _ _ _ _ _
     c.write_level.ensures.written c.write_quarter-end-4.ensures.written c.write_quarter-end-3.ensures.written
     c.write_quarter-end-2.ensures.written c.write_quarter-end.ensures.written c.write_byte-end.ensures.written
 
@@ -41,11 +41,11 @@ returns-clause-before c =
     let third = c.write_quarter-end-3 in
     let second = c.write_quarter-end-2 in
     let first = c.write_quarter-end in
-    front-kept _ _ _ c.write_level.ensures.start.0 c.write_level.ensures.before
-    (front-kept _ _ _ fourth.ensures.start.0 fourth.ensures.before
-    (front-kept _ _ _ third.ensures.start.0 third.ensures.before
-    (front-kept _ _ _ second.ensures.start.0 second.ensures.before
-    (front-kept _ _ _ first.ensures.start.0 first.ensures.before c.write_byte-end.ensures.before))))
+    prefix-kept _ _ _ c.write_level.ensures.start.0 c.write_level.ensures.before
+    (prefix-kept _ _ _ fourth.ensures.start.0 fourth.ensures.before
+    (prefix-kept _ _ _ third.ensures.start.0 third.ensures.before
+    (prefix-kept _ _ _ second.ensures.start.0 second.ensures.before
+    (prefix-kept _ _ _ first.ensures.start.0 first.ensures.before c.write_byte-end.ensures.before))))
 
 pub returns-clause-start : goal.returns-clause-start
 returns-clause-start c = (

@@ -1,5 +1,5 @@
 use Rattle.std.proofs.Common.{arith}
-use Rattle.life_mc.proofs.LineRoom.{front-kept}
+use Rattle.life_mc.proofs.LineSpace.{prefix-kept}
 use Rattle.life_mc.proofs.line_writing.write_quarter.Goals as goal
 use Rattle.life_base.proofs.Texts.{digits_fit}
 
@@ -17,7 +17,7 @@ write_byte-requires c =
 
 pub returns-clause-before : goal.returns-clause-before
 returns-clause-before c =
-    front-kept _ _ _ (omega (arith, c.write_byte.ensures.start)) c.write_byte.ensures.before c.write_digits-start.ensures.before
+    prefix-kept _ _ _ (omega (arith, c.write_byte.ensures.start)) c.write_byte.ensures.before c.write_digits-start.ensures.before
 
 pub returns-clause-start : goal.returns-clause-start
 returns-clause-start c =

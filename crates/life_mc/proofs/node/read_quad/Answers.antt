@@ -16,7 +16,7 @@ returns-in-Some c =
     let text = trim c.args.line.now in
     let low : MAX_LEVEL ≤ 255 = omega arith in
     let read = c.in-Some.ensures ∙ ap quad_words (sym (words_trimmed c.args.line.now)) in
-    let r = quad_read MAX_LEVEL c.args.rule.now c.args.levels.now low c.requires.room text c.requires.quad q read in
+    let r = quad_read MAX_LEVEL c.args.rule.now c.args.levels.now low c.requires.space text c.requires.quad q read in
     match_map c.square_of_numbers.result c.square_of_numbers.ensures
     (λ square p. let e = ap (λ s. broken_by_square MAX_LEVEL c.args.rule.now c.args.levels.now (Some s)) (sym p.0) ∙ p.1 in
     (r.1 e ∙ ap Some (sym p.0), sym r.0 ∙ e))
@@ -25,4 +25,4 @@ returns-in-Some c =
 pub returns-in-None : goal.returns-in-None
 returns-in-None c =
     let read = c.in-None.ensures ∙ ap quad_words (sym (words_trimmed c.args.line.now)) in
-    none_read MAX_LEVEL c.args.rule.now c.args.levels.now (omega arith) c.requires.room (trim c.args.line.now) c.requires.quad read
+    none_read MAX_LEVEL c.args.rule.now c.args.levels.now (omega arith) c.requires.space (trim c.args.line.now) c.requires.quad read

@@ -5,5 +5,5 @@ use Rattle.life_mc.proofs.numbers.last_number.Given as goal
 abbrev pub invariant-loop-count : goal.invariant-loop-count
 invariant-loop-count l = record {
   written : WritesBetween l.text l.from (l.from + l.count) l.number;
-  room : 0 < l.count % 4 → l.from + l.count + 4 ≤ length l.text + l.count % 4;
+  space : 0 < l.count % 4 → l.from + l.count + 4 ≤ length l.text + l.count % 4;
 }

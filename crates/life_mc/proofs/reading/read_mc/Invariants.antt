@@ -9,7 +9,7 @@ use Rattle.life_mc.proofs.reading.read_mc.Given as goal
 abbrev pub invariant-loop-number : goal.invariant-loop-number
 invariant-loop-number l = record {
   all : map numbered l.yielded ++ l.number-iterator ≡ numbered_from 1 (lines_of l.bytes);
-  taken : l.reader.lines ≡ texts (map numbered l.yielded);
+  consumed : l.reader.lines ≡ texts (map numbered l.yielded);
   fresh : l.reader.refused ≡ false;
   unbroken : IsUnbrokenMacrocell MAX_LEVEL l.reader.lines;
   squares : l.squares.items ≡ squares_of l.reader.lines;

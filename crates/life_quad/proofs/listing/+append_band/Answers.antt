@@ -11,27 +11,27 @@ use Rattle.life_quad.proofs.PartLemmas.{within_limit}
 use Rattle.life_quad.proofs.listing.+append_band.Goals as goal
 use Rattle.life_base.proofs.Results.{error_is}
 
-pub returns-then-room-len-clause-many : goal.returns-then-room-len-clause-many
-returns-then-room-len-clause-many g t c = λ same.
+pub returns-then-free-len-clause-many : goal.returns-then-free-len-clause-many
+returns-then-free-len-clause-many g t c = λ same.
     let band = pieces (g.S.Squares.content c.args.squares.now) c.args.band.items in
     let least = band_least c.args.level c.args.row band c.requires.band in
     let squares : length band ≡ length c.args.band.items = length-map _ _ in
     let l = c.len.ensures in
     let m = c.len-2.ensures in
-    let n = c.if-room-len.true in
+    let n = c.if-free-len.true in
     omega (arith, least, squares)
 
-pub returns-then-len-room-clause-few : goal.returns-then-len-room-clause-few
-returns-then-len-room-clause-few g t c =
+pub returns-then-len-free-clause-few : goal.returns-then-len-free-clause-few
+returns-then-len-free-clause-few g t c =
     let C = g.S.Squares.content c.args.squares.now in
     let band = subst (λ n. InBand n (pieces C c.args.band.items)) c.if-level-eq2.true c.requires.band in
     let counted : c.len-then-level-eq2.result ≡ length c.args.band.items = let n = c.len-then-level-eq2.ensures in grind arith in
-    let room : c.len-then-level-eq2.result ≤ (c.args.limit - length c.args.list.now.items) / 16 =
+    let free : c.len-then-level-eq2.result ≤ (c.args.limit - length c.args.list.now.items) / 16 =
     let l = c.len.ensures in
-    let n = c.if-len-room.true in
+    let n = c.if-len-free.true in
     grind arith in
     on_ok_weaker c.append_rows.result
-    (within_limit _ C c.args.band.items _ _ c.args.limit c.args.list.now.items _ band c.deref-then-len-room.ensures.value counted room c.requires.few)
+    (within_limit _ C c.args.band.items _ _ c.args.limit c.args.list.now.items _ band c.deref-then-len-free.ensures.value counted free c.requires.few)
     c.append_rows.ensures.cells
 
 pub returns-then-is_empty-clause-cells : goal.returns-then-is_empty-clause-cells
@@ -86,8 +86,8 @@ pub returns-in_err-append_band : goal.returns-in_err-append_band
 returns-in_err-append_band g t c =
     let o = c.in_ok-north.ensures in
     let C = g.S.Squares.content c.args.squares.now in
-    let told = c.from_residual-in_err-append_band in
-    let p = error_is told.result told.ensures.1 in
+    let reported = c.from_residual-in_err-append_band in
+    let p = error_is reported.result reported.ensures.1 in
     let first : to_z w64 (of_z w64 c.args.row) ≡ c.args.row = omega (arith, ints, c.ranges.row) in
     let many = more_in_first c.args.level c.args.row _ _ C c.args.band.items _ _ _ c.if-level-eq0.false first refl c.deref-2.ensures.value o.upper o.lower
     {T = Unit {0}} (Err _) (length c.args.list.now.items) c.args.limit c.in_err-append_band.ensures.many in

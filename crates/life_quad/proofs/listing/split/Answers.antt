@@ -16,8 +16,8 @@ use Rattle.life_base.proofs.Results.{error_is}
 -- a refusal that is passed on
 refused : {e : Kind} (north south northern southern : Type 0) (r : Result Unit Kind) → IsErrAnd r (λ f. f ≡ e) → e ≡ Memory
     → record { north : OnOk r north; south : OnOk r south; northern : OnOk r northern; southern : OnOk r southern; refusals : IfErr r (λ e. e ≡ Memory) }
-refused north south northern southern r told memory =
-    let p = error_is r told in
+refused north south northern southern r reported memory =
+    let p = error_is r reported in
     record { north = rw p tt; south = rw p tt; northern = rw p tt; southern = rw p tt; refusals = rw p memory }
 
 -- what is kept in a band of the level below: a known quarter whose columns lie in the half from this one on

@@ -11,18 +11,18 @@ use Rattle.life_quad.proofs.KeepingLemmas.{keeps-same, keeps-then, still, adds-n
 use Rattle.life_quad.proofs.MakingLemmas.{joined-only, refused-only}
 use Rattle.life_quad.proofs.moves.grow.Goals as goal
 
--- a blank square and a quarter behind calls that keep the squares of a store
+-- a blank square and a quarter after calls that keep the squares of a store
 kept : {S : Type 0} {knows : S → Id → Type 0} {content : S → Id → Tree} {stored : S → List Tree} {most : S → ℕ} {old new : S} {e q : Id} {level whole : ℕ}
     → KeepsSquares knows content stored most old new → knows old e → knows old q → depth (content old e) ≡ level → level + 1 ≡ whole
     → depth (content old q) + 1 ≡ whole → whole < MAX_LEVEL
-    → record { blank : knows new e; quarter : knows new q; same : depth (content new q) ≡ depth (content new e); room : depth (content new e) < MAX_LEVEL }
+    → record { blank : knows new e; quarter : knows new q; same : depth (content new q) ≡ depth (content new e); space : depth (content new e) < MAX_LEVEL }
 kept k known_e known_q level one other high =
     let e = k.contents _ known_e in
     let q = k.contents _ known_q in
     let at = ap depth e.1 in
-    record { blank = e.0; quarter = q.0; same = omega (arith, at, ap depth q.1, level, one, other); room = omega (arith, at, level, one, high) }
+    record { blank = e.0; quarter = q.0; same = omega (arith, at, ap depth q.1, level, one, other); space = omega (arith, at, level, one, high) }
 
--- a square made of the two is the same before and behind the calls
+-- a square made of the two is the same before and after the calls
 needs_before : {S : Type 0} {knows : S → Id → Type 0} {content : S → Id → Tree} {stored : S → List Tree} {most : S → ℕ} {old new : S} {e q : Id}
     (needs : Tree → Type 0) (f : Tree → Tree → Tree) → KeepsSquares knows content stored most old new → knows old e → knows old q
     → needs (f (content new e) (content new q)) → needs (f (content old e) (content old q))
@@ -100,7 +100,7 @@ join-requires g c =
       ne_level = refl;
       sw_level = refl;
       se_level = sym side;
-      room = omega (arith, side, d.quarters.nw_level, c.requires.high);
+      space = omega (arith, side, d.quarters.nw_level, c.requires.high);
     }
 
 -- in whichever of the four places the quarter stands
@@ -121,7 +121,7 @@ join-requires-2 g c =
       ne_level = omega (arith, level, blank_level, side, d.quarters.nw_level, d.quarters.ne_level);
       sw_level = omega (arith, level, blank_level, side, d.quarters.nw_level, d.quarters.ne_level);
       se_level = omega (arith, level, blank_level, side, d.quarters.nw_level, d.quarters.ne_level);
-      room = omega (arith, level, blank_level, side, d.quarters.nw_level, d.quarters.ne_level, c.requires.high);
+      space = omega (arith, level, blank_level, side, d.quarters.nw_level, d.quarters.ne_level, c.requires.high);
     }
 
 pub join-requires-3 : goal.join-requires-3
@@ -129,7 +129,7 @@ join-requires-3 g c =
     let d = c.divide.ensures in
     let k = kept (keeps-then c.join.ensures.keeps c.join-2.ensures.keeps) c.empty-e.ensures.known d.quarters.sw
     (c.empty-e.ensures.level ∙ c.level.ensures.level) d.quarters.nw_level d.quarters.sw_level c.requires.high in
-    record { nw = k.blank; ne = k.quarter; sw = k.blank; se = k.blank; ne_level = k.same; sw_level = refl; se_level = refl; room = k.room }
+    record { nw = k.blank; ne = k.quarter; sw = k.blank; se = k.blank; ne_level = k.same; sw_level = refl; se_level = refl; space = k.space }
 
 pub join-requires-4 : goal.join-requires-4
 join-requires-4 g c =
@@ -137,7 +137,7 @@ join-requires-4 g c =
     let k = kept (keeps-then (keeps-then c.join.ensures.keeps c.join-2.ensures.keeps) c.join-3.ensures.keeps) c.empty-e.ensures.known d.quarters.se
     (c.empty-e.ensures.level ∙ c.level.ensures.level) d.quarters.nw_level d.quarters.se_level c.requires.high in
     let same = sym k.same in
-    record { nw = k.quarter; ne = k.blank; sw = k.blank; se = k.blank; ne_level = same; sw_level = same; se_level = same; room = omega (arith, same, k.room) }
+    record { nw = k.quarter; ne = k.blank; sw = k.blank; se = k.blank; ne_level = same; sw_level = same; se_level = same; space = omega (arith, same, k.space) }
 
 pub join-requires-5 : goal.join-requires-5
 join-requires-5 g c =
@@ -165,7 +165,7 @@ join-requires-5 g c =
       sw_level = omega (arith, level, ap depth sw.1, ap depth (keeps_2.contents _ blank.known).1);
       se_level =
           omega (arith, level, ap depth south_east.square, ap depth (keeps_3.contents _ d.quarters.se).1, side, d.quarters.nw_level, d.quarters.se_level);
-      room = omega (arith, level, side, d.quarters.nw_level, c.requires.high);
+      space = omega (arith, level, side, d.quarters.nw_level, c.requires.high);
     }
 
 pub returns-in_err-north_west : goal.returns-in_err-north_west

@@ -16,7 +16,7 @@ refused : {T : Type 0} {e : Kind} (least : T → Type 0) (r : Result T Kind) →
   least : IfOk r least;
   refusals : IfErr r (λ e. e ≡ Memory);
 }
-refused least r told memory = let p = error_is r told in record { least = rw p tt; refusals = rw p memory }
+refused least r reported memory = let p = error_is r reported in record { least = rw p tt; refusals = rw p memory }
 
 pub returns-in_err-west : goal.returns-in_err-west
 returns-in_err-west g c = refused _ c.from_residual.result c.from_residual.ensures.1 c.in_err-west.ensures.refusals

@@ -79,7 +79,7 @@ set_halves-returns-in_err-set_span g t c =
     let call = c.in_err-set_span.ensures in
     let n = call.needed in
     let set = SetsHalves-left _ _ c.args.half _ r.side r.one_level n.0 (g.met.S.Squares.full o c.args.right r.right) c.if-end-half.true n.1 in
-    refused _ _ c.from_residual.result c.from_residual.ensures.1 call.keeps call.refusals (λ f. call.room (ap Err f))
+    refused _ _ c.from_residual.result c.from_residual.ensures.1 call.keeps call.refusals (λ f. call.space (ap Err f))
     (n.0, g.S.Squares.content o c.args.right, set, inl n.2)
 
 pub set_halves-returns-in_err-set_span-2 : goal.set_halves-returns-in_err-set_span-2
@@ -87,10 +87,10 @@ set_halves-returns-in_err-set_span-2 g t c =
     let o = c.args.squares.now in
     let r = c.requires in
     let call = c.in_err-set_span-2.ensures in
-    let told = c.from_residual-in_err-set_span-2 in
+    let reported = c.from_residual-in_err-set_span-2 in
     let n = call.needed in
     let set = SetsHalves-right _ _ c.args.half _ r.side r.one_level n.0 (g.met.S.Squares.full o c.args.left r.left) c.if-half-span.true n.1 in
-    refused _ _ told.result told.ensures.1 call.keeps call.refusals (λ f. call.room (ap Err f))
+    refused _ _ reported.result reported.ensures.1 call.keeps call.refusals (λ f. call.space (ap Err f))
     (g.S.Squares.content o c.args.left, n.0, set, inr n.2)
 
 pub set_halves-returns-in_err-new_left : goal.set_halves-returns-in_err-new_left
@@ -98,7 +98,7 @@ set_halves-returns-in_err-new_left g t c =
     let o = c.args.squares.now in
     let r = c.requires in
     let call = c.in_err-new_left.ensures in
-    let told = c.from_residual-in_err-new_left in
+    let reported = c.from_residual-in_err-new_left in
     let n = call.needed in
     let inside : c.args.span.column < c.args.half = grind (arith, c.if-half-span.false) in
     let beyond : c.args.half < c.args.span.column + c.args.span.len = grind (arith, c.if-end-half.false) in
@@ -106,7 +106,7 @@ set_halves-returns-in_err-new_left g t c =
     let sides : 2 ^ depth (g.S.Squares.content o c.args.right) ≡ c.args.half = ap (λ d. 2 ^ d) r.one_level ∙ sym r.side in
     let other = with_span (g.S.Squares.content o c.args.right) (g.met.S.Squares.full o c.args.right r.right) (rest_of c.args.half c.args.span) small.fits
     (omega (arith, beyond)) (omega (arith, r.columns, sides)) (omega (arith, r.rows, sides)) in
-    refused _ _ told.result told.ensures.1 call.keeps call.refusals (λ f. call.room (ap Err f))
+    refused _ _ reported.result reported.ensures.1 call.keeps call.refusals (λ f. call.space (ap Err f))
     (n.0, other.0, SetsHalves-both _ _ c.args.half _ r.side r.one_level n.0 other.0 inside beyond n.1 other.1, inl n.2)
 
 pub set_halves-returns-in_err-new_right : goal.set_halves-returns-in_err-new_right
@@ -114,12 +114,12 @@ set_halves-returns-in_err-new_right g t c =
     let r = c.requires in
     let first = c.in_ok-new_left.ensures in
     let call = c.in_err-new_right.ensures in
-    let told = c.from_residual-in_err-new_right in
+    let reported = c.from_residual-in_err-new_right in
     let n = call.needed in
     let inside : c.args.span.column < c.args.half = grind (arith, c.if-half-span.false) in
     let beyond : c.args.half < c.args.span.column + c.args.span.len = grind (arith, c.if-end-half.false) in
     let set = SetsHalves-both _ _ c.args.half _ r.side r.one_level _ n.0 inside beyond first.square (rw (first.keeps.contents _ r.right).1 at n.1) in
-    refused _ _ told.result told.ensures.1 (keeps-then first.keeps call.keeps) call.refusals (λ f. call.room (ap Err f))
+    refused _ _ reported.result reported.ensures.1 (keeps-then first.keeps call.keeps) call.refusals (λ f. call.space (ap Err f))
     (_, n.0, set, inr n.2)
 
 -- ---- a square, by its halves
@@ -146,7 +146,7 @@ set_span-join-requires g t c =
       ne_level = omega (arith, a, h.square.right_level, d.quarters.nw_level, d.quarters.ne_level);
       sw_level = omega (arith, a, ap depth sw.1, d.quarters.nw_level, d.quarters.sw_level);
       se_level = omega (arith, a, ap depth se.1, d.quarters.nw_level, d.quarters.se_level);
-      room = omega (arith, a, d.quarters.nw_level, c.level-level.ensures.level, c.level-level.ensures.low);
+      space = omega (arith, a, d.quarters.nw_level, c.level-level.ensures.level, c.level-level.ensures.low);
     }
 
 pub set_span-join-requires-else-span-half : goal.set_span-join-requires-else-span-half
@@ -164,7 +164,7 @@ set_span-join-requires-else-span-half g t c =
       ne_level = omega (arith, a, ap depth ne.1, d.quarters.nw_level, d.quarters.ne_level);
       sw_level = omega (arith, a, h.square.left_level, d.quarters.nw_level, d.quarters.sw_level);
       se_level = omega (arith, a, h.square.right_level, d.quarters.nw_level, d.quarters.se_level);
-      room = omega (arith, a, d.quarters.nw_level, c.level-level.ensures.level, c.level-level.ensures.low);
+      space = omega (arith, a, d.quarters.nw_level, c.level-level.ensures.level, c.level-level.ensures.low);
     }
 
 pub set_span-returns-in_err-left : goal.set_span-returns-in_err-left
@@ -175,19 +175,19 @@ set_span-returns-in_err-left g t c =
     let full = g.met.S.Squares.full c.args.squares.now c.args.id c.requires.known in
     let set = in_north _ _ _ _ _ _ _ _ full d.square c.level-level.ensures.level d.quarters.nw_level c.half_side-half.ensures.half n.0 n.1 _ _
     c.if-span-half.true n.2 refl refl in
-    refused _ _ c.from_residual.result c.from_residual.ensures.1 call.keeps call.refusals (λ f. call.room (ap Err f))
+    refused _ _ c.from_residual.result c.from_residual.ensures.1 call.keeps call.refusals (λ f. call.space (ap Err f))
     (_, set, SomePart-north (g.S.Squares.needs_node c.set_halves.new.squares) _ _ _ _ n.3)
 
 pub set_span-returns-in_err-left-2 : goal.set_span-returns-in_err-left-2
 set_span-returns-in_err-left-2 g t c =
     let d = c.divide.ensures in
     let call = c.in_err-left-2.ensures in
-    let told = c.from_residual-in_err-left-2 in
+    let reported = c.from_residual-in_err-left-2 in
     let n = call.needed in
     let full = g.met.S.Squares.full c.args.squares.now c.args.id c.requires.known in
     let set = in_south _ _ _ _ _ _ _ _ full d.square c.level-level.ensures.level d.quarters.nw_level c.half_side-half.ensures.half _ _ n.0 n.1
     c.if-span-half.false n.2 refl refl in
-    refused _ _ told.result told.ensures.1 call.keeps call.refusals (λ f. call.room (ap Err f))
+    refused _ _ reported.result reported.ensures.1 call.keeps call.refusals (λ f. call.space (ap Err f))
     (_, set, SomePart-south (g.S.Squares.needs_node c.set_halves-else-span-half.new.squares) _ _ _ _ n.3)
 
 pub set_span-returns-in_ok-left : goal.set_span-returns-in_ok-left

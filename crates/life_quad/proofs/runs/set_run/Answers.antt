@@ -33,6 +33,6 @@ returns g c =
       square = IfOk-weaker c.set_span.result _ _ (λ r s. SetsRun-span _ _ _ _ _ c.requires.high i x y s) call.square;
       keeps = call.keeps;
       refusals = call.refusals;
-      room = call.room;
+      space = call.space;
       needed = on_err_weaker c.set_span.result (λ s. (s.0, SetsRun-span _ _ _ _ _ c.requires.high i x y s.1, s.2)) call.needed;
     }

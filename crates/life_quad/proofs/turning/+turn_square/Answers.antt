@@ -171,9 +171,9 @@ returns-in_err-set-clause-grows g t c =
     let whole = quad-turned c.args.turn C q.result (C c.args.id) q.ensures.square _ _ _ _ c.placed.ensures c.placed-2.ensures c.placed-3.ensures
     c.placed-4.ensures _ _ _ _ (((keeps-then ne.grows.keeps south).contents _ nw.known).1 ∙ nw.square) ((south.contents _ ne.known).1 ∙ ne.square)
     ((se.grows.keeps.contents _ sw.known).1 ∙ sw.square) se.square in
-    let told = error_is c.from_residual-in_err-set.result c.from_residual-in_err-set.ensures.1 in
+    let reported = error_is c.from_residual-in_err-set.result c.from_residual-in_err-set.ensures.1 in
     grows-still M (keeps-then four.keeps c.in_ok-image.ensures.keeps)
-    (adds-then M four.adds c.in_ok-image.ensures.adds (λ P a. a) (part-whole _ _ _ _ _ whole)) (rw told c.in_err-set.ensures.refusals)
+    (adds-then M four.adds c.in_ok-image.ensures.adds (λ P a. a) (part-whole _ _ _ _ _ whole)) (rw reported c.in_err-set.ensures.refusals)
 
 pub returns-clause-right : goal.returns-clause-right
 returns-clause-right g t c =

@@ -1,7 +1,7 @@
 use Rattle.std.proofs.Common.{◌∙◌, ap}
 use Rattle.life_base.specs.Text.{trim_start}
 use Rattle.life_base.proofs.LineEnds.{all_behind}
-use Rattle.life_rle.proofs.FrontDigits.{after_number-some}
+use Rattle.life_rle.proofs.PrefixDigits.{after_number-some}
 use Rattle.life_rle.proofs.header.after_number.Goals as goal
 
 pub returns : goal.returns

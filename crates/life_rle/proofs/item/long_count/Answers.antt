@@ -6,7 +6,7 @@ use Rattle.life_base.specs.declared.cell.TheConstants.{MAX_LEVEL}
 use Rattle.life_base.specs.declared.kind.Kind.{Kind}
 use Rattle.life_rle.specs.Items.{Broken, leading_digits, item_after, next_of}
 use Rattle.life_rle.specs.Reader.{digits}
-use Rattle.life_rle.proofs.DigitInFront.{NumberAt, number_at}
+use Rattle.life_rle.proofs.DigitInPrefix.{NumberAt, number_at}
 use Rattle.life_rle.proofs.item.long_count.Goals as goal
 
 pub returns-in_err-check_count : goal.returns-in_err-check_count
@@ -17,7 +17,7 @@ returns-in_err-check_count c =
     number_at MAX_LEVEL line _ c.args.at _ _ c.requires.inside c.requires.digit (all_behind line c.args.at) read.ensures.number read.ensures.count in
     let kind : Kind = c.in_err-check_count.field-0.0 in
     let answer : next_of MAX_LEVEL (drop c.args.at line) ≡ Broken kind =
-    found.told ∙ c.in_err-check_count.ensures.err (leading_digits (drop c.args.at line)) (drop (c.args.at + read.result.1) line) found.digits found.value in
+    found.reported ∙ c.in_err-check_count.ensures.err (leading_digits (drop c.args.at line)) (drop (c.args.at + read.result.1) line) found.digits found.value in
     let p = err_from_is_err_and c.from_residual.result c.from_residual.ensures.1 in
     rw (p.1, p.2) answer
 
@@ -28,7 +28,7 @@ returns-then-at-digits c =
     let found : NumberAt MAX_LEVEL line c.args.at read.result.0 read.result.1 =
     number_at MAX_LEVEL line _ c.args.at _ _ c.requires.inside c.requires.digit (all_behind line c.args.at) read.ensures.number read.ensures.count in
     let over : length line ≤ c.args.at + read.result.1 = omega (arith, c.if-at-digits.true) in
-    found.told ∙ c.in_ok-check_count.ensures.ok (leading_digits (drop c.args.at line)) (drop (c.args.at + read.result.1) line) found.digits found.value
+    found.reported ∙ c.in_ok-check_count.ensures.ok (leading_digits (drop c.args.at line)) (drop (c.args.at + read.result.1) line) found.digits found.value
     ∙ ap (item_after read.result.0) (drop_of_length-le line {i = c.args.at + read.result.1} over)
 
 pub returns : goal.returns
@@ -38,6 +38,7 @@ returns c =
     let found : NumberAt MAX_LEVEL line c.args.at read.result.0 read.result.1 =
     number_at MAX_LEVEL line _ c.args.at _ _ c.requires.inside c.requires.digit (all_behind line c.args.at) read.ensures.number read.ensures.count in (
       digits (omega (arith, found.some))
-          (found.told ∙ c.in_ok-check_count.ensures.ok (leading_digits (drop c.args.at line)) (drop (c.args.at + read.result.1) line) found.digits found.value),
+          (found.reported ∙ c.in_ok-check_count.ensures.ok (leading_digits (drop c.args.at line))
+          (drop (c.args.at + read.result.1) line) found.digits found.value),
       search rules,
     )

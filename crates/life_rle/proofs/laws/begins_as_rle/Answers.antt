@@ -1,4 +1,4 @@
-use Rattle.life_rle.proofs.FrontLaws.{begins_as_rle}
+use Rattle.life_rle.proofs.PrefixLaws.{begins_as_rle}
 use Rattle.life_rle.proofs.laws.begins_as_rle.Goals as goal
 
 pub returns : goal.returns

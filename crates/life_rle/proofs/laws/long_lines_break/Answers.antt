@@ -1,4 +1,4 @@
-use Rattle.life_rle.proofs.FrontLaws.{long_lines_break}
+use Rattle.life_rle.proofs.PrefixLaws.{long_lines_break}
 use Rattle.life_rle.proofs.laws.long_lines_break.Goals as goal
 
 pub returns : goal.returns

@@ -37,8 +37,8 @@ returns-in_err-cursor-in-Spelled-clause-fault c =
     let item = c.in-Spelled.item in
     let kind : Kind = c.in_err-cursor-in-Spelled.field-0.0 in
     let now : Cursor = c.loop-at.cursor in
-    let told : (kind ≡ Memory) ⊎ (item_fault MAX_LEVEL rule now.y now.x item ≡ Some kind) = c.in_err-cursor-in-Spelled.ensures.1 in
-    let answer : (kind ≡ Memory) ⊎ ItemsBreak MAX_LEVEL rule c.args.from line kind = elim told [
+    let reported : (kind ≡ Memory) ⊎ (item_fault MAX_LEVEL rule now.y now.x item ≡ Some kind) = c.in_err-cursor-in-Spelled.ensures.1 in
+    let answer : (kind ≡ Memory) ⊎ ItemsBreak MAX_LEVEL rule c.args.from line kind = elim reported [
       | inl m ↦ inl m
       | inr f ↦ inr (bad_item h.items item (drop c.in-Spelled.behind line) (spelled-as MAX_LEVEL line h.items _ _ h.read.spelled c.in-Spelled.ensures.2)
           h.read.sound

@@ -5,7 +5,7 @@ use Rattle.life_rle.specs.Cursor.{row_limit}
 use Rattle.life_rle.specs.Reader.{ReadsItems}
 use Rattle.life_rle.proofs.line_items.read_items.Given as goal
 
--- the items in front of the place were read, and the limit is that of the row
+-- the items before the place were read, and the limit is that of the row
 abbrev pub invariant-loop-at : goal.invariant-loop-at
 invariant-loop-at l = record {
   inside : l.at ≤ length l.line;

@@ -4,7 +4,7 @@ use Rattle.life_rle.specs.Cursor.{IsNear}
 use Rattle.life_rle.specs.ShortItems.{ReadsOn}
 use Rattle.life_rle.proofs.line_items.take_mixed_items.Given as goal
 
--- the items in front of the place were read
+-- the items before the place were read
 abbrev pub invariant-loop-here : goal.invariant-loop-here
 invariant-loop-here l = record {
   inside : l.here.at ≤ length l.line;

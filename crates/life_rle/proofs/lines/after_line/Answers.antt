@@ -57,14 +57,14 @@ returns-in-Err-clause-fault c =
     let kind : Kind = c.in-Err.kind in
     let why : (kind ≡ Memory) ⊎ (later_of line ≡ Err kind) ⊎ ((later_of line ≡ Ok Data) × ItemsBreak MAX_LEVEL rule cursor line kind) =
     c.in-Err.ensures.fault in
-    let told : Tells (phases.Items rule position) cursor line kind = elim why [
+    let reported : Tells (phases.Items rule position) cursor line kind = elim why [
       | inl m ↦ inl m
       | inr e ↦ elim e [
         | inl f ↦ inr (inr (breaks-form MAX_LEVEL rule position cursor line kind f))
         | inr b ↦ inr (inr (breaks-items MAX_LEVEL rule position cursor line kind b.0 b.1))
       ]
     ] in
-    subst (λ (p : Phase). Tells p cursor line kind) (sym c.in-Items.is) told
+    subst (λ (p : Phase). Tells p cursor line kind) (sym c.in-Items.is) reported
 
 pub returns-in_err-next : goal.returns-in_err-next
 returns-in_err-next c =
@@ -73,13 +73,13 @@ returns-in_err-next c =
     let runs : List Run = c.args.runs.now.items in
     let kind : Kind = c.in_err-next.field-0.0 in
     let was = c.replace-was.ensures.value in
-    let told : Tells c.args.phase.now cursor line kind = subst (λ (p : Phase). Tells p cursor line kind) was c.in_err-next.ensures.fault in
+    let reported : Tells c.args.phase.now cursor line kind = subst (λ (p : Phase). Tells p cursor line kind) was c.in_err-next.ensures.fault in
     let p = err_from_is_err_and c.from_residual.result c.from_residual.ensures.1 in
     rw (p.1, p.2) (record {
       advance = tt;
       going = tt;
       refused = c.replace-was.ensures.after;
-      fault = told;
+      fault = reported;
       kept = ([], sym (append-nil runs));
       unspent = tt;
       spent = λ r. let s = c.in_err-next.ensures.spent (ap is_refused was ∙ r) in let e : kind ≡ Spent = cc in ap Err e;

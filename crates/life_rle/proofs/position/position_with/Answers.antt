@@ -14,6 +14,6 @@ returns-in_err-position c =
     let all : words_of c.loop-field.rest.now ≡ word ∷ others = word-first word others (words_of c.loop-field.rest.now) c.split_word.ensures.words
     (sym c.is_empty.ensures ∙ c.if-is_empty.false) in
     let refused : c.with_field.result ≡ Err kind = search rules in
-    let told : c.from_residual.result ≡ Err kind = search rules in
-    told ∙ sym (position-stop MAX_LEVEL c.loop-field.position kind word others (sym refused ∙ c.with_field.ensures))
+    let reported : c.from_residual.result ≡ Err kind = search rules in
+    reported ∙ sym (position-stop MAX_LEVEL c.loop-field.position kind word others (sym refused ∙ c.with_field.ensures))
     ∙ sym (ap (position_with MAX_LEVEL c.loop-field.position) all) ∙ c.loop-field.invariant

@@ -26,28 +26,28 @@ returns-in_err-take_numbered-clause-fault c =
     let p = err_from_is_err_and c.from_residual.result c.from_residual.ensures.1 in
     let pairs : List (ℕ × List ℕ) = map numbered c.loop-number.yielded in
     let lines : List (List ℕ) = lines_of c.args.bytes.now in
-    let front : List (List ℕ) = c.loop-number.reader.lines in
+    let prefix : List (List ℕ) = c.loop-number.reader.lines in
     let fault : Fault = c.in_err-take_numbered.field-0.0 in
-    let told : OrMemory fault (BreaksRle MAX_LEVEL front c.in-Some.line.now fault.kind × (fault.place.line ≡ c.in-Some.number))
+    let reported : OrMemory fault (BreaksRle MAX_LEVEL prefix c.in-Some.line.now fault.kind × (fault.place.line ≡ c.in-Some.number))
     = c.in_err-take_numbered.ensures.fault in
     let all : pairs ++ (c.in-Some.number, c.in-Some.line.now) ∷ c.next.new.self
     ≡ numbered_from 1 lines =
     ap (λ (t : List (ℕ × List ℕ)). pairs ++ t) (sym c.in-Some.ensures.steps) ∙ c.loop-number.invariant.all in
-    let answer : OrMemory fault (RefusesRle MAX_LEVEL lines fault) = elim told [
+    let answer : OrMemory fault (RefusesRle MAX_LEVEL lines fault) = elim reported [
       | inl m ↦ inl m
-      | inr w ↦ inr (refused_here MAX_LEVEL lines pairs c.in-Some.number c.in-Some.line.now _ front fault all c.loop-number.invariant.taken w.0 w.1)
+      | inr w ↦ inr (refused_here MAX_LEVEL lines pairs c.in-Some.number c.in-Some.line.now _ prefix fault all c.loop-number.invariant.consumed w.0 w.1)
     ] in
     rw (p.1, p.2) answer
 
 pub returns-in_err-take_numbered-clause-kinds : goal.returns-in_err-take_numbered-clause-kinds
 returns-in_err-take_numbered-clause-kinds c =
     let p = err_from_is_err_and c.from_residual.result c.from_residual.ensures.1 in
-    let front : List (List ℕ) = c.loop-number.reader.lines in
+    let prefix : List (List ℕ) = c.loop-number.reader.lines in
     let fault : Fault = c.in_err-take_numbered.field-0.0 in
-    let told : OrMemory fault (BreaksRle MAX_LEVEL front c.in-Some.line.now fault.kind × (fault.place.line ≡ c.in-Some.number))
+    let reported : OrMemory fault (BreaksRle MAX_LEVEL prefix c.in-Some.line.now fault.kind × (fault.place.line ≡ c.in-Some.number))
     = c.in_err-take_numbered.ensures.fault in
-    let answer : OrMemory fault (is_rle_kind fault.kind ≡ true) = elim told
-    [ inl m ↦ inl m | inr w ↦ inr (Breaks-kind MAX_LEVEL front c.in-Some.line.now fault.kind w.0) ] in
+    let answer : OrMemory fault (is_rle_kind fault.kind ≡ true) = elim reported
+    [ inl m ↦ inl m | inr w ↦ inr (Breaks-kind MAX_LEVEL prefix c.in-Some.line.now fault.kind w.0) ] in
     rw (p.1, p.2) answer
 
 pub returns-in-Err-clause-kinds : goal.returns-in-Err-clause-kinds
@@ -67,19 +67,19 @@ pub returns-in-Ok-clause-file : goal.returns-in-Ok-clause-file
 returns-in-Ok-clause-file c =
     let lines : List (List ℕ) = lines_of c.args.bytes.now in
     let loop = c.loop-number.invariant in
-    let whole = whole_read lines c.loop-number.reader.lines c.loop-number.yielded _ loop.taken loop.all c.in-None.ensures.steps.0 in
-    let told = c.in-Ok.ensures.file in
-    let file : Rle = told.0 in
-    let is : IsRle MAX_LEVEL lines file = subst (λ ls. IsRle MAX_LEVEL ls file) whole told.1 in
+    let whole = whole_read lines c.loop-number.reader.lines c.loop-number.yielded _ loop.consumed loop.all c.in-None.ensures.steps.0 in
+    let reported = c.in-Ok.ensures.file in
+    let file : Rle = reported.0 in
+    let is : IsRle MAX_LEVEL lines file = subst (λ ls. IsRle MAX_LEVEL ls file) whole reported.1 in
     let runs : HasRuns MAX_LEVEL lines c.loop-number.runs.items = subst (λ ls. HasRuns MAX_LEVEL ls c.loop-number.runs.items) whole
     c.loop-number.invariant.found in (
       file,
       (files_are_plain MAX_LEVEL lines file).0 is,
       subst (λ (v : RleFile). Shows v file) (sym c.file_of.ensures) (record {
-        rule = told.2;
-        generation = ap (λ (p : Position). p.generation) told.3;
-        x = ap (λ (p : Position). p.x) told.3;
-        y = ap (λ (p : Position). p.y) told.3;
+        rule = reported.2;
+        generation = ap (λ (p : Position). p.generation) reported.3;
+        x = ap (λ (p : Position). p.x) reported.3;
+        y = ap (λ (p : Position). p.y) reported.3;
         runs = known-runs MAX_LEVEL lines file c.loop-number.runs.items is runs;
       }),
     )
@@ -88,7 +88,7 @@ pub returns-in-Err-clause-fault : goal.returns-in-Err-clause-fault
 returns-in-Err-clause-fault c =
     let lines : List (List ℕ) = lines_of c.args.bytes.now in
     let loop = c.loop-number.invariant in
-    let whole = whole_read lines c.loop-number.reader.lines c.loop-number.yielded _ loop.taken loop.all c.in-None.ensures.steps.0 in
+    let whole = whole_read lines c.loop-number.reader.lines c.loop-number.yielded _ loop.consumed loop.all c.in-None.ensures.steps.0 in
     let kind : Kind = c.in-Err.kind in
     let number : ℕ = c.saturating_add.result in
     let e : c.at.result ≡ fault_at number kind = c.at.ensures in
@@ -110,7 +110,7 @@ loop-number-init c =
     let short : length c.new-reader.result.lines ≡ 0 = ap length none in
     record {
       all = first_of (search rules, grind (arith, common_steps));
-      taken = none;
+      consumed = none;
       fresh = ap (λ (v : LinesRead). v.refused) e;
       found = no_runs MAX_LEVEL c.new-reader.result.lines c.new-runs.result.items none c.new-runs.ensures.items;
       counted = omega arith;
@@ -131,10 +131,10 @@ loop-number-preserved c =
     let more : map numbered (c.loop-number.yielded ++ one) ≡ pairs ++ here = map-append numbered c.loop-number.yielded one in
     let new : c.take_numbered.new.reader.lines ≡ old ++ line ∷ [] = ap (λ (v : LinesRead). v.lines) e in
     let long : length c.take_numbered.new.reader.lines ≡ length old + 1 = ap length new ∙ length-append old (line ∷ []) in
-    let same : length old ≡ length (texts pairs) = ap length c.loop-number.invariant.taken in
+    let same : length old ≡ length (texts pairs) = ap length c.loop-number.invariant.consumed in
     record {
       all = ap (λ (ps : List (ℕ × List ℕ)). ps ++ rest) more ∙ append_assoc pairs here rest ∙ all;
-      taken = new ∙ ap (λ ls. ls ++ line ∷ []) c.loop-number.invariant.taken ∙ sym (ap texts more ∙ map-append (λ (p : ℕ × List ℕ). p.1) pairs here);
+      consumed = new ∙ ap (λ ls. ls ++ line ∷ []) c.loop-number.invariant.consumed ∙ sym (ap texts more ∙ map-append (λ (p : ℕ × List ℕ). p.1) pairs here);
       fresh = ap (λ (v : LinesRead). v.refused) e;
       found = c.in_ok-take_numbered.ensures.runs c.loop-number.invariant.found;
       counted = omega (arith, number_at lines pairs 1 c.in-Some.number line rest (omega arith) all, length_texts pairs, long, same);

@@ -8,7 +8,7 @@ use Rattle.life_rle.proofs.reading.read_rle.Given as goal
 abbrev pub invariant-loop-number : goal.invariant-loop-number
 invariant-loop-number l = record {
   all : map numbered l.yielded ++ l.number-iterator ≡ numbered_from 1 (lines_of l.bytes);
-  taken : l.reader.lines ≡ texts (map numbered l.yielded);
+  consumed : l.reader.lines ≡ texts (map numbered l.yielded);
   fresh : l.reader.refused ≡ false;
   found : HasRuns MAX_LEVEL l.reader.lines l.runs.items;
   counted : l.last ≡ min (length l.reader.lines) (2 ^ 64 - 1);

@@ -22,8 +22,8 @@ returns-in-Err-clause-fault c =
     let lines : List (List ℕ) = c.args.reader.now.lines in
     let line : List ℕ = c.args.line.now in
     let e : c.at.result ≡ fault_at number kind = c.at.ensures in
-    let told : (kind ≡ Memory) ⊎ (kind ≡ Spent) ⊎ BreaksRle MAX_LEVEL lines line kind = c.in-Err.ensures.fault in
-    let answer : OrMemory c.at.result (BreaksRle MAX_LEVEL lines line c.at.result.kind × (c.at.result.place.line ≡ number)) = elim told [
+    let reported : (kind ≡ Memory) ⊎ (kind ≡ Spent) ⊎ BreaksRle MAX_LEVEL lines line kind = c.in-Err.ensures.fault in
+    let answer : OrMemory c.at.result (BreaksRle MAX_LEVEL lines line c.at.result.kind × (c.at.result.place.line ≡ number)) = elim reported [
       | inl m ↦ inl (e ∙ ap (fault_at number) m)
       | inr t ↦ elim t [
         | inl s ↦ (let r : c.args.reader.now.refused ≡ true = c.in-Err.ensures.spent.0 (ap Err s) in let q : c.args.reader.now.refused ≡ false = c.requires in

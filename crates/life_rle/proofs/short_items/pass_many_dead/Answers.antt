@@ -3,11 +3,11 @@ use Rattle.std.proofs.lemmas.Int.{ints}
 use Rattle.life_base.specs.declared.cell.TheConstants.{MAX_LEVEL}
 use Rattle.life_rle.specs.declared.cursor.Cursor.{Cursor}
 use Rattle.life_rle.specs.ShortItems.{RowHasSpace, ReadsOn}
-use Rattle.life_rle.proofs.ShortItems.{many-room, reads-many-dead}
+use Rattle.life_rle.proofs.ShortItems.{many-space, reads-many-dead}
 use Rattle.life_rle.proofs.short_items.pass_many_dead.Goals as goal
 
-pub returns-clause-room : goal.returns-clause-room
-returns-clause-room c =
+pub returns-clause-space : goal.returns-clause-space
+returns-clause-space c =
     let line = c.args.line.now in
     let at = c.args.here.at in
     let here = c.args.here.cursor in
@@ -16,7 +16,7 @@ returns-clause-room c =
     let inside : (here.x +ℤ pos 9437283) ≤ℤ c.args.limit = omega (arith, ints, c.if-here-limit.false) in
     let far = subst (λ limit. (here.x +ℤ pos 9437283) ≤ℤ limit) c.requires.limit inside in
     subst (λ (there : Cursor). RowHasSpace MAX_LEVEL line (at + 3) there) (sym c.cursor_after.ensures)
-    (many-room line at count (at + 3) here c.requires.room few c.requires.line far)
+    (many-space line at count (at + 3) here c.requires.space few c.requires.line far)
 
 pub returns-clause-read : goal.returns-clause-read
 returns-clause-read c rule found =
@@ -29,5 +29,5 @@ returns-clause-read c rule found =
     let inside : (here.x +ℤ pos 9437283) ≤ℤ c.args.limit = omega (arith, ints, c.if-here-limit.false) in
     let far = subst (λ limit. (here.x +ℤ pos 9437283) ≤ℤ limit) c.requires.limit inside in
     subst (λ (there : Cursor). ReadsOn MAX_LEVEL rule line at here found (at + 3) there found) (sym c.cursor_after.ensures)
-    (reads-many-dead line at count here c.requires.inside c.requires.room c.requires.line far (omega (arith, c.if-tens-lt49.false))
+    (reads-many-dead line at count here c.requires.inside c.requires.space c.requires.line far (omega (arith, c.if-tens-lt49.false))
     (omega (arith, c.if-tens-gt57.false)) (omega (arith, c.if-ones-lt48.false)) (omega (arith, c.if-ones-gt57.false)) dead value rule found)

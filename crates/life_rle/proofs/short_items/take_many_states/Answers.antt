@@ -6,7 +6,7 @@ use Rattle.life_rle.specs.declared.item.Item.TheVariants.{Cells}
 use Rattle.life_rle.specs.Cursor.{cursor_after_item}
 use Rattle.life_rle.specs.Runs.{with_run}
 use Rattle.life_rle.specs.ShortItems.{RowHasSpace, ReadsOn}
-use Rattle.life_rle.proofs.ShortItems.{any-state, reads-on, reads-short, still-room}
+use Rattle.life_rle.proofs.ShortItems.{any-state, reads-on, reads-short, still-space}
 use Rattle.life_rle.proofs.short_items.take_many_states.Goals as goal
 use Rattle.life_rle.proofs.short_items.take_many_states.Goals.{then-state-ne0, else-state-ne0}
 
@@ -41,12 +41,12 @@ loop-here-preserved c =
       inside = omega (arith, end, on, to);
       end = end;
       row = ap (λ (next : Cursor). next.y) moves ∙ kept.row;
-      room = subst (RowHasSpace MAX_LEVEL line after) (sym moves)
-          (still-room line at count state after here kept.room found.few (omega (arith, from)) (omega (arith, end, on, to)));
+      space = subst (RowHasSpace MAX_LEVEL line after) (sym moves)
+          (still-space line at count state after here kept.space found.few (omega (arith, from)) (omega (arith, end, on, to)));
       spare = omega (arith, spare, len, capacity, on, from);
       read = λ rule many. subst (λ (next : Cursor). ReadsOn MAX_LEVEL rule line c.args.from.at c.args.from.cursor c.args.runs.now.items after next
           c.if-state-ne0.lent.items) (sym moves) (reads-on rule line c.args.from.at at after c.args.from.cursor here there
           c.args.runs.now.items before c.if-state-ne0.lent.items (kept.read rule many)
-          (reads-short line at count state after here before c.if-state-ne0.lent.items kept.room found.few (omega (arith, from))
+          (reads-short line at count state after here before c.if-state-ne0.lent.items kept.space found.few (omega (arith, from))
           (omega (arith, end, on, to)) found.read pushed.0 rule (any-state rule state many found.small)));
     }

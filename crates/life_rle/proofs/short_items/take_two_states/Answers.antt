@@ -5,7 +5,7 @@ use Rattle.life_rle.specs.declared.item.Item.TheVariants.{Cells}
 use Rattle.life_rle.specs.Cursor.{cursor_after_item}
 use Rattle.life_rle.specs.Runs.{with_run}
 use Rattle.life_rle.specs.ShortItems.{RowHasSpace, ReadsOn}
-use Rattle.life_rle.proofs.ShortItems.{low-state, reads-on, reads-short, state-byte, still-room}
+use Rattle.life_rle.proofs.ShortItems.{low-state, reads-on, reads-short, state-byte, still-space}
 use Rattle.life_rle.proofs.short_items.take_two_states.Goals as goal
 use Rattle.life_rle.proofs.short_items.take_two_states.Goals.{else-loop-here-test, then-loop-here-test+then-line-last-ne111+then-next-here}
 
@@ -39,8 +39,8 @@ loop-here-preserved c =
       inside = omega (arith, end, on, to, high);
       end = end;
       row = ap (λ (next : Cursor). next.y) moves ∙ passed.row ∙ kept.row;
-      room = subst (RowHasSpace MAX_LEVEL line (last + 1)) (sym moves)
-          (still-room line middle count 1 (last + 1) halfway passed.room item.few (omega (arith, low))
+      space = subst (RowHasSpace MAX_LEVEL line (last + 1)) (sym moves)
+          (still-space line middle count 1 (last + 1) halfway passed.space item.few (omega (arith, low))
           (omega (arith, end, on, to, high)));
       spare = omega (arith, spare, len, capacity, on, from, low);
       read = λ rule. subst (λ (next : Cursor). ReadsOn MAX_LEVEL rule line c.args.from.at c.args.from.cursor c.args.runs.now.items (last + 1) next
@@ -48,15 +48,15 @@ loop-here-preserved c =
           c.args.runs.now.items before c.push_reserved.new.self.items (kept.read rule)
           (reads-on rule line at middle (last + 1) c.loop-here.here.cursor halfway there before before c.push_reserved.new.self.items
           (passed.read rule before)
-          (reads-short line middle count 1 (last + 1) halfway before c.push_reserved.new.self.items passed.room item.few (omega (arith, low))
+          (reads-short line middle count 1 (last + 1) halfway before c.push_reserved.new.self.items passed.space item.few (omega (arith, low))
           (omega (arith, end, on, to, high)) (item.spelled 1 (drop (last + 1) line) (state-byte line last 111 1 (omega (arith, end, on, to, high)) live refl))
           pushed rule (low-state rule 1 (omega arith)))));
     }
 
 pub returns-clause-near : goal.returns-clause-near
 returns-clause-near c = elim c.loop-here-test.branch [
-  | else-loop-here-test w ↦ rw w.here-is c.loop-here.invariant.room.near
-  | then-loop-here-test+then-line-last-ne111+then-next-here w ↦ rw w.here-is w.pass_dead-here.ensures.room.near
+  | else-loop-here-test w ↦ rw w.here-is c.loop-here.invariant.space.near
+  | then-loop-here-test+then-line-last-ne111+then-next-here w ↦ rw w.here-is w.pass_dead-here.ensures.space.near
 ]
 
 pub returns-clause-read : goal.returns-clause-read

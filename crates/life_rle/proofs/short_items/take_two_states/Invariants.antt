@@ -5,14 +5,14 @@ use Rattle.life_base.specs.declared.rule.Rule.{Rule}
 use Rattle.life_rle.specs.ShortItems.{RowHasSpace, ReadsOn}
 use Rattle.life_rle.proofs.short_items.take_two_states.Given as goal
 
--- the short items in front of the place were read, and at each byte up to the end there is capacity for a run
+-- the short items before the place were read, and at each byte up to the end there is capacity for a run
 abbrev pub invariant-loop-here : goal.invariant-loop-here
 invariant-loop-here l = record {
   on : l.fn.from.at ≤ l.here.at;
   inside : l.here.at ≤ length l.line;
   end : l.end ≤ length l.line - 4;
   row : l.here.cursor.y ≡ l.fn.from.cursor.y;
-  room : RowHasSpace MAX_LEVEL l.line l.here.at l.here.cursor;
+  space : RowHasSpace MAX_LEVEL l.line l.here.at l.here.cursor;
   spare : vec_len l.lent + (l.end - l.here.at) ≤ vec_capacity l.lent;
   read : (rule : Rule) → ReadsOn MAX_LEVEL rule l.line l.fn.from.at l.fn.from.cursor l.fn.runs.items l.here.at l.here.cursor l.lent.items;
 }

@@ -7,7 +7,7 @@ use Rattle.life_rle.specs.Sorted.{are_sorted_cells, is_live_cell, rises}
 use Rattle.life_rle.proofs.sorted.sorted_cells.Goals as goal
 use Rattle.life_rle.proofs.sorted.sorted_cells.Goals.{else-i-cells-via-then-i-cells+else-not-rises, else-i-cells-via-else-i-cells}
 
--- what stands behind the last cell
+-- what comes after the last cell
 abbrev none : Cell
 none = record { x = pos 0; y = pos 0; state = 0 }
 

@@ -1,5 +1,5 @@
-use Rattle.life_rle.proofs.ItemRoom.{room-byte}
+use Rattle.life_rle.proofs.ItemSpace.{space-byte}
 use Rattle.life_rle.proofs.wrapping.write_byte.Goals as goal
 
 pub returns-clause-written : goal.returns-clause-written
-returns-clause-written c = room-byte c.args.room.now c.args.byte c.told-room
+returns-clause-written c = space-byte c.args.space.now c.args.byte c.told-space

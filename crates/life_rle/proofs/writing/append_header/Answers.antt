@@ -3,7 +3,7 @@ use Rattle.std.proofs.lemmas.Result.{on_ok_weaker}
 use Rattle.life_base.specs.Rules.{rule_text}
 use Rattle.life_rle.proofs.writing.append_header.Goals as goal
 
--- seven texts, one behind the other
+-- seven texts, one after the other
 joined : (a b c d e f g old first second third fourth fifth sixth new : List ℕ)
     → first ≡ old ++ a → second ≡ first ++ b → third ≡ second ++ c → fourth ≡ third ++ d → fifth ≡ fourth ++ e → sixth ≡ fifth ++ f → new ≡ sixth ++ g
     → new ≡ old ++ (a ++ (((b ++ (c ++ d)) ++ (e ++ f)) ++ g))

@@ -82,7 +82,7 @@ slid_of_seen-returns-in-Some-clause-slid g m c cells x y h =
     IsPiece-moved cells x _ y _ _ (ahead-none x _ (none _)) (ahead-none y _ (none _))
     (subst (IsPiece cells x y) (is ∙ sym c.cell.ensures.square) h.nw)
 
--- the square whose cells are told is the one that begins there
+-- the square whose cells are reported is the one that begins there
 leaf-is : (g : Over) (m : ℕ) (c : slid_of_seen-After-small g m) (cells : ℤ → ℤ → ℕ) (x y : ℤ)
     → IsBlock (g.S.Squares.content c.args.from.now) cells (2 ^ c.args.level) x y c.args.block.now
     → four c.in-Some-leaf_cells.cells ≡ square_from cells c.args.level (step_ahead x (c.args.offset.columns % 2 ^ c.args.level))

@@ -26,7 +26,7 @@ loop-line-init c =
     let none : c.new-reader.result.lines ≡ [] = ap (λ (v : LinesRead). v.lines) e in
     record {
       all = first_of (search rules, grind (arith, common_steps));
-      taken = none;
+      consumed = none;
       fresh = ap (λ (v : LinesRead). v.refused) e;
       rule = c.new-step.ensures.rule;
       keeps = keeps-same _;
@@ -52,7 +52,7 @@ loop-line-preserved c =
     let new : c.take_line.new.reader.lines ≡ old ++ line ∷ [] = ap (λ (v : LinesRead). v.lines) e in
     record {
       all = ap (λ (ps : List (ℕ × List ℕ)). ps ++ rest) more ∙ append_assoc pairs here rest ∙ all;
-      taken = new ∙ ap (λ ls. ls ++ line ∷ []) c.loop-line.invariant.taken ∙ sym (ap texts more ∙ map-append (λ (p : ℕ × List ℕ). p.1) pairs here);
+      consumed = new ∙ ap (λ ls. ls ++ line ∷ []) c.loop-line.invariant.consumed ∙ sym (ap texts more ∙ map-append (λ (p : ℕ × List ℕ). p.1) pairs here);
       fresh = ap (λ (v : LinesRead). v.refused) e;
       rule = c.take_line.ensures.rule went ∙ c.loop-line.invariant.rule;
       keeps = keeps-then c.loop-line.invariant.keeps c.take_line.ensures.keeps;
@@ -66,13 +66,13 @@ returns-clause-next c =
     let runs : List Run = c.loop-line.step.runs in
     let square = c.in_ok-square.ensures in
     let t : Tree = content c.finish.new.squares c.in_ok-square.square in
-    let whole = whole_read (lines_of c.args.bytes.now) lines c.loop-line.yielded _ loop.taken loop.all c.in-None.ensures.steps.0 in
+    let whole = whole_read (lines_of c.args.bytes.now) lines c.loop-line.yielded _ loop.consumed loop.all c.in-None.ensures.steps.0 in
     let P : Rule × ℕ → Type 0 = λ found. (file : Rle) × IsRle MAX_LEVEL lines file × (found.0 ≡ file.rule) × (found.1 ≡ file.position.generation) in
-    let told : P (c.in_ok-found.found, c.in_ok-found.generation) = ok-of-some P _ c.end.result c.in_ok-found.ensures.value c.end.ensures.file in
+    let reported : P (c.in_ok-found.found, c.in_ok-found.generation) = ok-of-some P _ c.end.result c.in_ok-found.ensures.value c.end.ensures.file in
     let same : c.in_ok-found.found ≡ Life c.args.rule.now = c.same.ensures.0 c.if-not-same.false in
     let next = subst (λ (rule : OuterTotalistic). (x y : ℤ) → tree_cell t x y ≡ next_life rule (state_by runs) x y) loop.rule square.cells in
-    next-of-file c.args.bytes.now lines told.0 runs c.args.rule.now c.finish.new.squares c.in_ok-found.generation c.in_ok-square.square
-    whole told.1 loop.rows.are (sym told.2 ∙ same) (sym told.3) square.few square.known square.level next
+    next-of-file c.args.bytes.now lines reported.0 runs c.args.rule.now c.finish.new.squares c.in_ok-found.generation c.in_ok-square.square
+    whole reported.1 loop.rows.are (sym reported.2 ∙ same) (sym reported.3) square.few square.known square.level next
 
 pub returns-then-not-take_line-clause-keeps : goal.returns-then-not-take_line-clause-keeps
 returns-then-not-take_line-clause-keeps c = keeps-then c.loop-line.invariant.keeps c.take_line.ensures.keeps

@@ -8,7 +8,7 @@ use Rattle.life_step.proofs.by_rows.next_square.Given as goal
 abbrev pub invariant-loop-line : goal.invariant-loop-line
 invariant-loop-line l = record {
   all : map numbered l.yielded ++ l.line-iterator ≡ numbered_from 1 (lines_of l.bytes);
-  taken : l.reader.lines ≡ texts (map numbered l.yielded);
+  consumed : l.reader.lines ≡ texts (map numbered l.yielded);
   fresh : l.reader.refused ≡ false;
   rule : l.step.rule ≡ l.rule;
   keeps : Keeps l.fn.store l.store;

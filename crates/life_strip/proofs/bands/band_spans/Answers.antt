@@ -43,7 +43,7 @@ loop-block-init g c =
       adds = adds-none _ c.args.squares.now;
     }
 
--- the blocks where the rows go on lie behind the first, on the plane
+-- the blocks where the rows go on lie after the first, on the plane
 ahead : (g : Over) (c : After-rows_end-next g)
     → (c.loop-block.next ≤ c.loop-block.block) × (c.loop-block.block < c.rows_end-next.result) × (c.rows_end-next.result ≤ 2 ^ (MAX_LEVEL - 6))
 ahead g c =

@@ -7,5 +7,5 @@ abbrev pub invariant-loop-word : goal.invariant-loop-word
 invariant-loop-word l = record {
   blocks : l.all.items ≡ map block_of_word (take l.word-index l.words);
   len : vec_len l.all ≡ l.word-index;
-  room : length l.words ≤ vec_capacity l.all;
+  space : length l.words ≤ vec_capacity l.all;
 }

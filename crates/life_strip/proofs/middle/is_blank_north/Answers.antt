@@ -13,7 +13,7 @@ returns-in_default-clause-cell g c h tall =
 pub returns-then-first-ne-HALF_LEVEL-clause-cell : goal.returns-then-first-ne-HALF_LEVEL-clause-cell
 returns-then-first-ne-HALF_LEVEL-clause-cell g c h tall none =
     let e = first-is c.args.strips.now c.in-Some.first.now (sym c.first.ensures.value ∙ ap option_copied c.in-Some.is) in
-    let level = half-first c.args.strips.now c.in-Some.first.now (drop 1 c.args.strips.now) e c.requires.strips.falling c.requires.room tall in
+    let level = half-first c.args.strips.now c.in-Some.first.now (drop 1 c.args.strips.now) e c.requires.strips.falling c.requires.space tall in
     c.if-first-ne-HALF_LEVEL.true level
 
 pub has_outside-requires-clause-columns : goal.has_outside-requires-clause-columns

@@ -7,7 +7,7 @@ use Rattle.life_strip.specs.Middle.{SomeWider}
 use Rattle.life_strip.specs.Picture.{picture, IsSoundStrip}
 use Rattle.life_strip.proofs.BandPictures.{all-one}
 use Rattle.life_strip.proofs.MergeLemmas.{blank-sound, merged-cells}
-use Rattle.life_strip.proofs.MiddleLemmas.{beside-same, wider-still, wider-needs}
+use Rattle.life_strip.proofs.MiddleLemmas.{adjacent-same, wider-still, wider-needs}
 use Rattle.life_strip.proofs.PictureLemmas.{picture-blank}
 use Rattle.life_strip.proofs.middle.widen.Goals as goal
 
@@ -87,9 +87,9 @@ returns-in_err-wide-clause-grows g c =
 pub returns-clause-grows : goal.returns-clause-grows
 returns-clause-grows g c = let inv = c.loop-alloc.invariant in grows-still _ inv.keeps inv.adds tt
 
-pub returns-clause-beside : goal.returns-clause-beside
-returns-clause-beside g c =
+pub returns-clause-adjacent : goal.returns-clause-adjacent
+returns-clause-adjacent g c =
     let inv = c.loop-alloc.invariant in
     let C = g.S.Squares.content in
-    beside-same c.loop-alloc.wide.level (picture (C c.loop-alloc.squares) (c.loop-alloc.wide ∷ [])) (picture (C c.args.squares.now) (c.args.strip ∷ []))
-    inv.cells (c.is_wider.ensures.beside c.loop-alloc-test.false)
+    adjacent-same c.loop-alloc.wide.level (picture (C c.loop-alloc.squares) (c.loop-alloc.wide ∷ [])) (picture (C c.args.squares.now) (c.args.strip ∷ []))
+    inv.cells (c.is_wider.ensures.adjacent c.loop-alloc-test.false)

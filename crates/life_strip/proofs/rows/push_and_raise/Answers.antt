@@ -22,8 +22,8 @@ power k le = let most = pow_mono {i = k} {j = MAX_LEVEL} le in omega (arith, mos
 higher : (level top rows : ℕ) (xs slice : List Strip) → slice ≡ xs → level ≤ MAX_LEVEL → 2 ^ level ≤ rows → height xs + 2 ^ level + rows ≤ 2 ^ MAX_LEVEL
     → IsLowest (suc level) xs
     → ((l : ℕ) → IsLowest l slice → l ≤ MAX_LEVEL → 2 ^ l ≤ rows + 1 * 2 ^ level % 18446744073709551616 → l ≤ top) → level < top
-higher level top rows xs slice same high fits room lowest largest =
-    let low : level < MAX_LEVEL = fits_below (height xs) level (omega (arith, room, fits)) in
+higher level top rows xs slice same high fits space lowest largest =
+    let low : level < MAX_LEVEL = fits_below (height xs) level (omega (arith, space, fits)) in
     let two = twice level in
     let side = power level high in
     let le = largest (suc level) (subst (IsLowest (suc level)) (sym same) lowest) (omega (arith, low)) (omega (arith, two, side, fits)) in
@@ -108,7 +108,7 @@ overflow_sub-result g c =
     let q = c.requires in
     let level = c.args.strip.level in
     let top = c.blank_level-top in
-    let up = higher level top.result c.args.rows c.args.strips.now.items c.as_slice.result.now c.as_slice.ensures.value q.high q.fits q.room q.lowest
+    let up = higher level top.result c.args.rows c.args.strips.now.items c.as_slice.result.now c.as_slice.ensures.value q.high q.fits q.space q.lowest
     top.ensures.largest in
     let more = pow_mono {i = level} {j = top.result} (omega (arith, up)) in
     let side = power level q.high in
@@ -120,7 +120,7 @@ returns-clause-count g c =
     let q = c.requires in
     let level = c.args.strip.level in
     let top = c.blank_level-top in
-    let up = higher level top.result c.args.rows c.args.strips.now.items c.as_slice.result.now c.as_slice.ensures.value q.high q.fits q.room q.lowest
+    let up = higher level top.result c.args.rows c.args.strips.now.items c.as_slice.result.now c.as_slice.ensures.value q.high q.fits q.space q.lowest
     top.ensures.largest in
     let more = pow_mono {i = level} {j = top.result} (omega (arith, up)) in
     let side = power level q.high in
@@ -133,7 +133,7 @@ returns-clause-height g c =
     let q = c.requires in
     let level = c.args.strip.level in
     let top = c.blank_level-top in
-    let up = higher level top.result c.args.rows c.args.strips.now.items c.as_slice.result.now c.as_slice.ensures.value q.high q.fits q.room q.lowest
+    let up = higher level top.result c.args.rows c.args.strips.now.items c.as_slice.result.now c.as_slice.ensures.value q.high q.fits q.space q.lowest
     top.ensures.largest in
     let more = pow_mono {i = level} {j = top.result} (omega (arith, up)) in
     let side = power level q.high in

@@ -33,11 +33,11 @@ merge-requires g c =
     let xs = c.loop-last.strips.items in
     let first = c.take_last.new.strips.items in
     let last = c.in-Some.last in
-    let taken = c.in-Some.ensures in
+    let consumed = c.in-Some.ensures in
     record {
-      low = not-greatest xs first last c.loop-last.lowest taken.0 taken.1 (omega (arith, inv.rows, c.requires.room));
-      one_level = sym taken.1;
-      upper = all_last P first last (subst (All P) taken.0 inv.strips.sound);
+      low = not-greatest xs first last c.loop-last.lowest consumed.0 consumed.1 (omega (arith, inv.rows, c.requires.space));
+      one_level = sym consumed.1;
+      upper = all_last P first last (subst (All P) consumed.0 inv.strips.sound);
       lower = inv.strip;
     }
 
@@ -77,7 +77,7 @@ loop-last-preserved g c =
       adds = adds-then _ inv.adds r.grows.adds (λ Q n. n)
           (λ Q n. SomeSquare-same (omega (arith, inv.rows)) inv.cells
           (merged-needs xs first last lowest items same (K now) (C now) (g.met.S.Squares.full now) inv.strips inv.strip
-          (omega (arith, inv.rows, c.requires.room)) Q n));
+          (omega (arith, inv.rows, c.requires.space)) Q n));
     }
 
 pub returns-in_err-lowest-clause-grows : goal.returns-in_err-lowest-clause-grows
@@ -88,12 +88,12 @@ returns-in_err-lowest-clause-grows g c =
     let inv = c.loop-last.invariant in
     let xs = c.args.strips.now.items in
     let strip = c.args.strip in
-    let taken = c.in-Some.ensures in
+    let consumed = c.in-Some.ensures in
     let M = λ (P : Tree → Type 0). SomeSquare P (height xs + 2 ^ strip.level) (picture (C c.args.squares.now) (xs ++ strip ∷ [])) in
     grows-err M (grows-behind M inv.keeps inv.adds c.in_err-lowest.ensures.grows
     (λ Q n. SomeSquare-same (omega (arith, inv.rows)) inv.cells
-    (merged-needs c.loop-last.strips.items c.take_last.new.strips.items c.in-Some.last c.loop-last.lowest taken.0 taken.1 (K now) (C now)
-    (g.met.S.Squares.full now) inv.strips inv.strip (omega (arith, inv.rows, c.requires.room)) Q n)))
+    (merged-needs c.loop-last.strips.items c.take_last.new.strips.items c.in-Some.last c.loop-last.lowest consumed.0 consumed.1 (K now) (C now)
+    (g.met.S.Squares.full now) inv.strips inv.strip (omega (arith, inv.rows, c.requires.space)) Q n)))
     c.from_residual.ensures.1 (λ P n. n)
 
 pub returns-in_err-push-clause-grows : goal.returns-in_err-push-clause-grows

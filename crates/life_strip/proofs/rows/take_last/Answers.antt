@@ -6,13 +6,13 @@ use Rattle.life_strip.specs.Picture.{IsNotLast}
 use Rattle.life_strip.proofs.rows.take_last.Goals as goal
 
 -- the last strip is taken, and it has its level
-taken : (xs ys : List Strip) (level : ℕ) (last : Strip) (o : Option Strip) → xs ≡ ys ++ option_to_list o → (0 < length xs → IsSome o)
+consumed : (xs ys : List Strip) (level : ℕ) (last : Strip) (o : Option Strip) → xs ≡ ys ++ option_to_list o → (0 < length xs → IsSome o)
     → slice_get xs (length xs - 1) ≡ Some last → last.level ≡ level
     → MatchOption o ((ys ≡ xs) × IsNotLast level xs) (λ s. (xs ≡ ys ++ s ∷ []) × (s.level ≡ level))
-taken xs ys level last None items some there same =
+consumed xs ys level last None items some there same =
     let none : IsSome {T = Strip} None = some (let within = slice_get_within xs (length xs - 1) last there in omega (arith, within)) in
     absurd cc
-taken xs ys level last (Some s) items some there same =
+consumed xs ys level last (Some s) items some there same =
     let n : length xs ≡ length ys + 1 = ap length items ∙ length-append ys (s ∷ []) in
     let k : length xs - 1 ≡ length ys = omega (arith, n) in
     let at = ap (λ z. get_or z (length xs - 1) s) items ∙ ap (λ i. get_or (ys ++ s ∷ []) i s) k ∙ get_or-append_seam ys s [] s in
@@ -32,7 +32,7 @@ returns-then-last-level c =
 pub returns : goal.returns
 returns c =
     let ok = c.args.strips.now.ok.0 in
-    taken c.args.strips.now.items c.pop.new.self.items c.args.level c.in-Some.last.now c.pop.result c.pop.ensures.items
+    consumed c.args.strips.now.items c.pop.new.self.items c.args.level c.in-Some.last.now c.pop.result c.pop.ensures.items
     (λ some. c.pop.ensures.variant.1 (omega (arith, some, ok)))
     (subst (λ z. slice_get z (length z - 1) ≡ Some c.in-Some.last.now) c.deref.ensures.value (sym c.last.ensures.value ∙ ap option_copied c.in-Some.is))
     c.if-last-level.false

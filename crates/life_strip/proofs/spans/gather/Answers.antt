@@ -7,7 +7,7 @@ use Rattle.life_quad.specs.Moves.{CanJoin, quad_of}
 use Rattle.life_strip.specs.declared.spans.Span.{Span}
 use Rattle.life_strip.specs.Strip.{ArePieces, IsStripPiece, quad_at}
 use Rattle.life_strip.proofs.SpanLemmas.{before_columns, from-first, quad-blank}
-use Rattle.life_strip.proofs.PlaceLemmas.{IsFront, front, at-later, quad-goes}
+use Rattle.life_strip.proofs.PlaceLemmas.{IsFilePrefix, prefix, at-later, quad-goes}
 use Rattle.life_strip.proofs.PairLemmas.{IsNextSquare, goes_on, split, pieces-push}
 use Rattle.life_strip.proofs.spans.gather.Given.{Over}
 use Rattle.life_strip.proofs.spans.gather.Goals as goal
@@ -15,11 +15,11 @@ use Rattle.life_strip.proofs.spans.gather.Goals.{After-min-end, After-max-column
 
 -- the first column where a strip has a span again
 begun : (g : Over) (c : After-min-end g)
-    → IsFront c.loop-first.north c.loop-first.south c.loop-first.column c.loop-first.first (2 ^ (MAX_LEVEL - suc c.args.level))
+    → IsFilePrefix c.loop-first.north c.loop-first.south c.loop-first.column c.loop-first.first (2 ^ (MAX_LEVEL - suc c.args.level))
 begun g c =
     let r = c.requires in
     let inv = c.loop-first.invariant in
-    front c.args.level c.args.upper.now c.args.lower.now r.low r.upper_within r.lower_within c.loop-first.column c.loop-first.north c.loop-first.south
+    prefix c.args.level c.args.upper.now c.args.lower.now r.low r.upper_within r.lower_within c.loop-first.column c.loop-first.north c.loop-first.south
     inv.north inv.south c.loop-first.first inv.upper inv.lower inv.one inv.other c.loop-first-test.true
 
 pub quarters_at-four-requires : goal.quarters_at-four-requires
@@ -51,7 +51,7 @@ quarters_at-four-requires g c =
     }
 
 next-square : (g : Over) (c : After-max-column g)
-    → IsFront c.loop-first.north c.loop-first.south c.loop-first.column c.loop-first.first (2 ^ (MAX_LEVEL - suc c.args.level))
+    → IsFilePrefix c.loop-first.north c.loop-first.south c.loop-first.column c.loop-first.first (2 ^ (MAX_LEVEL - suc c.args.level))
     → record {
       north : IsNextSquare c.loop-first.north c.loop-first.first c.min-end.result c.max-column.result (2 ^ (MAX_LEVEL - suc c.args.level));
       south : IsNextSquare c.loop-first.south c.loop-first.first c.min-end.result c.max-column.result (2 ^ (MAX_LEVEL - suc c.args.level));

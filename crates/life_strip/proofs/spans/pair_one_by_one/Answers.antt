@@ -8,7 +8,7 @@ use Rattle.life_strip.specs.declared.spans.TheConstants.{NEVER}
 use Rattle.life_strip.specs.Strip.{FilledTo, quad_at}
 use Rattle.life_strip.specs.Needed.{SomeColumn}
 use Rattle.life_strip.proofs.SpanLemmas.{before_columns, depth-square_at, filled-skip, filled-more, filled-all, extended-push, from-first, quad-blank, quad-keeps, strip-keeps}
-use Rattle.life_strip.proofs.PlaceLemmas.{IsFront, front, at-later, at-over, quad-goes}
+use Rattle.life_strip.proofs.PlaceLemmas.{IsFilePrefix, prefix, at-later, at-over, quad-goes}
 use Rattle.life_strip.proofs.PairLemmas.{at-first, IsNextSquare, goes_on, split, one-column}
 use Rattle.life_strip.proofs.spans.pair_one_by_one.Given.{Over}
 use Rattle.life_strip.proofs.spans.pair_one_by_one.Goals as goal
@@ -22,11 +22,11 @@ place_at-south-requires g c = at-first c.args.level c.args.lower.now c.requires.
 
 -- the first column where a strip has a span again
 begun : (g : Over) (c : After-min-end g)
-    → IsFront c.loop-first.north c.loop-first.south c.loop-first.column c.loop-first.first (2 ^ (MAX_LEVEL - suc c.args.level))
+    → IsFilePrefix c.loop-first.north c.loop-first.south c.loop-first.column c.loop-first.first (2 ^ (MAX_LEVEL - suc c.args.level))
 begun g c =
     let r = c.requires in
     let inv = c.loop-first.invariant in
-    front c.args.level c.args.upper.now c.args.lower.now r.low r.upper_within r.lower_within c.loop-first.column c.loop-first.north c.loop-first.south
+    prefix c.args.level c.args.upper.now c.args.lower.now r.low r.upper_within r.lower_within c.loop-first.column c.loop-first.north c.loop-first.south
     inv.north inv.south c.loop-first.first inv.upper inv.lower inv.one inv.other c.loop-first-test.true
 
 -- the square there, as it was before
@@ -84,7 +84,7 @@ join_at-requires g c =
     }
 
 next-square : (g : Over) (c : After-max-column g)
-    → IsFront c.loop-first.north c.loop-first.south c.loop-first.column c.loop-first.first (2 ^ (MAX_LEVEL - suc c.args.level))
+    → IsFilePrefix c.loop-first.north c.loop-first.south c.loop-first.column c.loop-first.first (2 ^ (MAX_LEVEL - suc c.args.level))
     → record {
       north : IsNextSquare c.loop-first.north c.loop-first.first c.min-end.result c.max-column.result (2 ^ (MAX_LEVEL - suc c.args.level));
       south : IsNextSquare c.loop-first.south c.loop-first.first c.min-end.result c.max-column.result (2 ^ (MAX_LEVEL - suc c.args.level));

@@ -43,7 +43,7 @@ module _ (K : Id → Type 0) (C : Id → Tree) (level : ℕ) (upper lower : List
         ne_level = q ∙ sym p;
         sw_level = r ∙ sym p;
         se_level = t ∙ sym p;
-        room = omega (arith, p, low);
+        space = omega (arith, p, low);
       }
 
 -- a strip goes on to the eastern column

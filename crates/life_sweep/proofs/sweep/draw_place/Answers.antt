@@ -19,7 +19,7 @@ returns-then-state-eq0-clause-put g c zero = record {
   answer = subst (λ v. g.L.Law.answers c.args.law.now v (Becomes c.in_ok-state.state)) c.around.ensures c.in_ok-state.ensures.next;
   kept = λ k. zero ∙ sym c.if-state-eq0.true;
   stays = λ e. e;
-  told = λ e. inl e;
+  reported = λ e. inl e;
 }
 
 pub returns-then-not-is_on_plane-clause-ready : goal.returns-then-not-is_on_plane-clause-ready
@@ -53,7 +53,7 @@ returns-clause-put g c zero =
       answer = subst (λ v. g.L.Law.answers c.args.law.now v (Becomes c.in_ok-state.state)) c.around.ensures c.in_ok-state.ensures.next;
       kept = λ k. ap (λ z. state_by all z c.args.y) ex ∙ ap (λ z. state_by all (kept c.args.window.now.x) z) ey ∙ c.in_ok-draw.ensures.here;
       stays = λ e. e;
-      told = λ e. inl e;
+      reported = λ e. inl e;
     }
 
 pub returns-then-not-is_on_plane-clause-put : goal.returns-then-not-is_on_plane-clause-put
@@ -68,7 +68,7 @@ returns-then-not-is_on_plane-clause-put g c zero =
       answer = subst (λ v. g.L.Law.answers c.args.law.now v (Becomes c.in_ok-state.state)) c.around.ensures c.in_ok-state.ensures.next;
       kept = λ k. elim k [ inl e ↦ absurd (true≢false e) | inr on ↦ absurd (outside on) ];
       stays = λ e. absurd (true≢false e);
-      told = λ e. inr (outside, c.if-state-eq0.false);
+      reported = λ e. inr (outside, c.if-state-eq0.false);
     }
 
 pub returns-in_err-state-clause-refusals : goal.returns-in_err-state-clause-refusals

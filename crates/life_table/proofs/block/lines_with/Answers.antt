@@ -13,17 +13,17 @@ loop-k-preserved c =
     let i = c.loop-k.k in
     let lines = c.args.lines.now in
     let inside : i < length lines = c.loop-k-test.true in
-    let room : i < 64 = omega (arith, inside, c.requires.room) in
+    let space : i < 64 = omega (arith, inside, c.requires.space) in
     let Has = λ (d : Transition) (k : ℕ). entry_at (get_or lines k d).inputs c.args.p ≡ c.args.entry in
     let read = λ (d : Transition). ap (λ es. entry_at es c.args.p) c.as_slice.ensures
     ∙ ap (λ (l : Transition). entry_at l.inputs c.args.p) (get_or_read lines i c.index-lines-k.result inside c.index-lines-k.is d) in
     elim c.if-is_same.branch [
       | then-is_same w ↦ record {
-        only = λ k d h below. one_more_found c.loop-k.found i (λ j. j < length lines → Has d j) room
+        only = λ k d h below. one_more_found c.loop-k.found i (λ j. j < length lines → Has d j) space
             (λ here. sym (read d) ∙ c.is_same.ensures.0 w.if-is_same.true)
             (λ j g. c.loop-k.invariant.only j d g) k (subst (λ n. bit_at n k ≡ 1) w.found-is h) below;
         all = λ k d below same. subst (λ n. bit_at n k ≡ 1) (sym w.found-is)
-            (one_more_kept c.loop-k.found i (Has d) room (λ j before. c.loop-k.invariant.all j d before) k below same);
+            (one_more_kept c.loop-k.found i (Has d) space (λ j before. c.loop-k.invariant.all j d before) k below same);
       }
       | else-is_same w ↦ record {
         only = λ k d h. c.loop-k.invariant.only k d (subst (λ n. bit_at n k ≡ 1) w.found-is h);

@@ -6,8 +6,8 @@ use Rattle.life_base.proofs.Basics.{true_false}
 
 pub returns-then-not-may_take_all : goal.returns-then-not-may_take_all
 returns-then-not-may_take_all c = λ s g.
-    let told = takes_all c.args.site.now c.args.line.now c.requires.site c.requires.line c.as_slice-inputs.result.now c.as_slice-inputs.ensures s g in
-    true_false c.may_take_all.result (c.may_take_all.ensures told.0 told.1) c.if-not-may_take_all.true
+    let reported = takes_all c.args.site.now c.args.line.now c.requires.site c.requires.line c.as_slice-inputs.result.now c.as_slice-inputs.ensures s g in
+    true_false c.may_take_all.result (c.may_take_all.ensures reported.0 reported.1) c.if-not-may_take_all.true
 
 pub returns-in_default : goal.returns-in_default
 returns-in_default c =

@@ -1,7 +1,7 @@
 use Rattle.std.proofs.Common.{◌≡◌, ◌<◌, true, false, refl, sym, ◌∙◌, subst, arith, length, drop}
 use Rattle.life_table.specs.Taking.{AreFailed}
 use Rattle.life_table.proofs.Grouping.{no_group}
-use Rattle.life_table.proofs.Searching.{at_end, IsNone, none_more, taken_completes, taken_fails, untaken_fails, no_place, failed_more}
+use Rattle.life_table.proofs.Searching.{at_end, IsNone, none_more, consumed_completes, consumed_fails, untaken_fails, no_place, failed_more}
 use Rattle.life_table.proofs.complete.+completes.Goals as goal
 use Rattle.life_table.proofs.complete.+completes.Goals.{in-Some+else-completes, in_default}
 
@@ -16,7 +16,7 @@ returns-then-failed-free-clause-completes t c
 pub returns-then-completes-clause-completes : goal.returns-then-completes-clause-completes
 returns-then-completes-clause-completes t c =
     let below : c.args.k < length c.args.groups.now = omega (arith, c.if-k-groups.false, c.requires.k) in (
-      λ _. taken_completes c.args.vars.now c.args.groups.now c.args.states.now c.args.free c.args.k no_group below c.requires.search.are_groups
+      λ _. consumed_completes c.args.vars.now c.args.groups.now c.args.states.now c.args.free c.args.k no_group below c.requires.search.are_groups
           c.loop-place.place c.in-Some.rest c.in-Some.ensures.some
           (c.completes.ensures.completes.0 c.if-completes.true),
       λ _. refl,
@@ -28,7 +28,7 @@ loop-place-preserved t c =
     elim c.match-with_place.branch [
       | in-Some+else-completes w ↦ record {
         none = none_more c.args.vars.now (drop c.args.k c.args.groups.now) c.args.states.now c.args.free c.loop-place.place c.loop-place.invariant.none
-            (λ _. taken_fails c.args.vars.now c.args.groups.now c.args.states.now c.args.free c.args.k no_group below c.requires.search.are_groups
+            (λ _. consumed_fails c.args.vars.now c.args.groups.now c.args.states.now c.args.free c.args.k no_group below c.requires.search.are_groups
             c.loop-place.place w.in-Some.rest w.in-Some.ensures.some
             (λ h. let e : true ≡ false = sym (w.completes.ensures.completes.1 h) ∙ w.if-completes.false in absurd (let z : ⊥ = cc in z)));
         failed = subst (AreFailed c.args.vars.now c.args.groups.now c.args.states.now) (sym w.failed-is) w.completes.ensures.failed;

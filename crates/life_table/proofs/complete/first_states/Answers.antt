@@ -2,7 +2,7 @@ use Rattle.std.proofs.Common.{◌≡◌, ◌+◌, true, false, refl, sym, ◌∙
 use Rattle.life_table.specs.Found.{IsFoundOf}
 use Rattle.life_table.specs.Taking.{AreFailed}
 use Rattle.life_table.proofs.Grouping.{no_group}
-use Rattle.life_table.proofs.Searching.{none_failed, IsFoundBy, tell_more, tell_skip, tell_two, tell_all, taken_with, taken_fails, untaken_fails}
+use Rattle.life_table.proofs.Searching.{none_failed, IsFoundBy, tell_more, tell_skip, tell_two, tell_all, consumed_with, consumed_fails, untaken_fails}
 use Rattle.life_table.proofs.complete.first_states.Goals as goal
 use Rattle.life_table.proofs.complete.first_states.Goals.{in-Some+then-completes+in_default-found, in-Some+else-completes, in_default}
 
@@ -17,7 +17,7 @@ returns-in-Two c =
     tell_two c.args.vars.now c.args.groups.now c.args.states.now c.args.free (c.loop-place.place + 1) c.with_state-found.result c.in-Two.is
     (tell_more c.args.vars.now c.args.groups.now c.args.states.now c.args.free c.loop-place.place c.loop-place.found c.with_state-found.result
     c.loop-place.invariant.tells c.in-Some.ensures.some.is_free
-    (taken_with c.args.vars.now c.args.groups.now c.args.states.now c.args.free 0 no_group c.requires.some c.requires.search.are_groups c.loop-place.place
+    (consumed_with c.args.vars.now c.args.groups.now c.args.states.now c.args.free 0 no_group c.requires.some c.requires.search.are_groups c.loop-place.place
     c.in-Some.rest c.in-Some.ensures.some
     (c.completes.ensures.completes.0 c.if-completes.true))
     c.with_state-found.ensures)
@@ -29,7 +29,7 @@ loop-place-preserved c =
         tells = subst (IsFoundOf (IsFoundBy c.args.vars.now c.args.groups.now c.args.states.now c.args.free (c.loop-place.place + 1))) (sym w.found-is)
             (tell_more c.args.vars.now c.args.groups.now c.args.states.now c.args.free c.loop-place.place c.loop-place.found w.with_state-found.result
             c.loop-place.invariant.tells w.in-Some.ensures.some.is_free
-            (taken_with c.args.vars.now c.args.groups.now c.args.states.now c.args.free 0 no_group c.requires.some c.requires.search.are_groups
+            (consumed_with c.args.vars.now c.args.groups.now c.args.states.now c.args.free 0 no_group c.requires.some c.requires.search.are_groups
             c.loop-place.place w.in-Some.rest w.in-Some.ensures.some
             (w.completes.ensures.completes.0 w.if-completes.true))
             w.with_state-found.ensures);
@@ -38,7 +38,7 @@ loop-place-preserved c =
       | in-Some+else-completes w ↦ record {
         tells = subst (IsFoundOf (IsFoundBy c.args.vars.now c.args.groups.now c.args.states.now c.args.free (c.loop-place.place + 1))) (sym w.found-is)
             (tell_skip c.args.vars.now c.args.groups.now c.args.states.now c.args.free c.loop-place.place c.loop-place.found c.loop-place.invariant.tells
-            (λ _. taken_fails c.args.vars.now c.args.groups.now c.args.states.now c.args.free 0 no_group c.requires.some c.requires.search.are_groups
+            (λ _. consumed_fails c.args.vars.now c.args.groups.now c.args.states.now c.args.free 0 no_group c.requires.some c.requires.search.are_groups
             c.loop-place.place w.in-Some.rest w.in-Some.ensures.some
             (λ h. let e : true ≡ false = sym (w.completes.ensures.completes.1 h) ∙ w.if-completes.false in absurd (let z : ⊥ = cc in z))));
         failed = subst (AreFailed c.args.vars.now c.args.groups.now c.args.states.now) (sym w.failed-is) w.completes.ensures.failed;

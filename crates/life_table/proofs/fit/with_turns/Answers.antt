@@ -46,9 +46,9 @@ loop-k-preserved c =
           subst (λ f. Adds (SomeGives vars line (first_turns c.args.reflect cells step (k + 1))) c.args.found f) (sym w.found-is)
           (more c.loop-k.found (adds_none (GivesAs vars line turned)
           (λ s g. w.if-fits-r-eq1.false (shr_and_one c.turns_that_may_fit-fits.result (k * step)
-          ∙ c.turns_that_may_fit-fits.ensures (k * step) (omega (arith, inside, c.requires.site.room))
+          ∙ c.turns_that_may_fit-fits.ensures (k * step) (omega (arith, inside, c.requires.site.space))
           (turn_directive vars g.choice g.is_choice first rest (slice_index cells 0) others c.args.site.now.seen.now c.args.reflect (k * step)
-          (rest_are c.args.site.now line c.requires.site c.requires.line seen c.as_slice-inputs.ensures) same (omega (arith, size, c.requires.site.room))
+          (rest_are c.args.site.now line c.requires.site c.requires.line seen c.as_slice-inputs.ensures) same (omega (arith, size, c.requires.site.space))
           (omega (arith, size, inside)) c.requires.site.seen
           (sym (ap (map (state_of g.choice)) parts) ∙ g.inputs))))
           c.loop-k.found))

@@ -42,7 +42,7 @@ loop-k-preserved c =
     let lines = c.args.lines.now in
     let k = c.loop-k.k in
     let Silent = GivesNothing c.args.symmetry vars (centre_of c.args.site.now) (others_of c.args.site.now) in
-    let room : k < 64 = omega (arith, c.loop-k-test.true, c.min-k-end.ensures) in
+    let space : k < 64 = omega (arith, c.loop-k-test.true, c.min-k-end.ensures) in
     let inside : c.args.from + k < length lines = omega (arith, c.loop-k-test.true, c.min-k-end.ensures) in
     let e : c.args.from + k + 1 ≡ c.args.from + (k + 1) = omega arith in
     subst (λ (n : ℕ). All Silent (take n lines)) e
@@ -52,7 +52,7 @@ loop-k-preserved c =
           c.loop-k.invariant w.in-Nothing.ensures
       | else-may-k-eq1 w ↦ λ i d below.
           All-more Silent lines (c.args.from + k) d inside c.loop-k.invariant
-          (λ s g. w.if-may-k-eq1.false (shr_and_one c.args.may k ∙ c.requires.may k d room inside s g)) i d below
+          (λ s g. w.if-may-k-eq1.false (shr_and_one c.args.may k ∙ c.requires.may k d space inside s g)) i d below
     ])
 
 pub returns : goal.returns

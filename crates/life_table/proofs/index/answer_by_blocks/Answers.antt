@@ -9,7 +9,7 @@ use Rattle.life_table.proofs.index.answer_by_blocks.Goals as goal
 use Rattle.life_table.proofs.index.answer_by_blocks.Goals.{then-b-blocks, else-b-blocks}
 
 pub answer_among-requires-clause-may : goal.answer_among-requires-clause-may
-answer_among-requires-clause-may c = λ k d room inside s g.
+answer_among-requires-clause-may c = λ k d space inside s g.
     let b = c.loop-b.b in
     let site = c.args.site.now in
     let lines = c.args.lines.now in
@@ -17,9 +17,9 @@ answer_among-requires-clause-may c = λ k d room inside s g.
       | then-b-blocks w ↦ subst (λ n. bit_at n k ≡ 1) (sym w.may-is)
           (let empty : Block = record { sets = []; apart = []; twice = [] } in
           may_give_of c.args.symmetry site.vars.now (get_or lines (64 * b + k) d) (centre_of site) (others_of site) (get_or c.args.blocks.now b empty) k
-          w.of_block-may.result (c.requires.blocks b empty w.if-b-blocks.true k d room inside) (c.requires.lines (64 * b + k) d inside).inputs
-          (λ v h fit. w.of_block-may.ensures k v room (c.query_of-query.ensures.asks v h) fit) s g)
-      | else-b-blocks w ↦ subst (λ n. bit_at n k ≡ 1) (sym w.may-is) (bit_at_ones 64 k room)
+          w.of_block-may.result (c.requires.blocks b empty w.if-b-blocks.true k d space inside) (c.requires.lines (64 * b + k) d inside).inputs
+          (λ v h fit. w.of_block-may.ensures k v space (c.query_of-query.ensures.asks v h) fit) s g)
+      | else-b-blocks w ↦ subst (λ n. bit_at n k ≡ 1) (sym w.may-is) (bit_at_ones 64 k space)
     ]
 
 pub loop-b-preserved : goal.loop-b-preserved

@@ -20,7 +20,7 @@ answer_by_blocks-requires-clause-site c =
     let size : length c.as_slice-cells.result.now ≡ neighbour_count table.neighborhood + 1 = ap length c.as_slice-cells.ensures ∙ c.requires.neighbours in
     record {
       some = omega (arith, few.0, size);
-      room = omega (arith, few.1, size);
+      space = omega (arith, few.1, size);
       choosable = rw c.as_slice-vars.ensures (choosable table.n_states table.vars table.sound.variables);
       seen = subst (λ others. IsSeen c.as_slice-vars.result.now others c.of_lines-seen.result) (rest_of c.as_slice-cells.result.now) c.of_lines-seen.ensures;
     }

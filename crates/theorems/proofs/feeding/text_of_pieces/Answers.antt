@@ -27,11 +27,11 @@ returns-in_err-feed-clause-refused c =
     let i = c.loop-piece.piece-index in
     let pieces = c.args.pieces.now in
     let p = err_from_is_err_and c.from_residual.result c.from_residual.ensures.1 in
-    let front : c.loop-piece.reader.bytes ++ c.deref.result.now ≡ all_bytes (take (i + 1) pieces) =
+    let prefix : c.loop-piece.reader.bytes ++ c.deref.result.now ≡ all_bytes (take (i + 1) pieces) =
     ap (λ (t : List ℕ). t ++ c.deref.result.now) c.loop-piece.invariant.0
     ∙ ap (λ (t : List ℕ). all_bytes (take i pieces) ++ t) (c.deref.ensures.value ∙ ap (λ v. v.items) c.piece-item.is)
     ∙ sym (joined_more pieces i c.piece-item.result c.loop-piece-test.true) in
-    let answer = refused_so_far c.faults_stay.ensures pieces (i + 1) _ _ _ front (c.in_err-feed.ensures.fault c.loop-piece.invariant.1) in
+    let answer = refused_so_far c.faults_stay.ensures pieces (i + 1) _ _ _ prefix (c.in_err-feed.ensures.fault c.loop-piece.invariant.1) in
     rw (p.1, p.2) answer
 
 pub returns-in_err-pattern-clause-refused : goal.returns-in_err-pattern-clause-refused

@@ -7,7 +7,7 @@ use Rattle.file_keys.proofs.duplicates.runs.write_duplicates.Goals as goal
 pub returns-in-Err-clause-ran : goal.returns-in-Err-clause-ran
 returns-in-Err-clause-ran g c =
     let lacks = c.in-Err.ensures.err in
-    without_list lacks.0 c.in-Err.kind lacks.1 lacks.2 c.refuse.ensures.told c.refuse.ensures.status refl
+    without_list lacks.0 c.in-Err.kind lacks.1 lacks.2 c.refuse.ensures.reported c.refuse.ensures.status refl
 
 pub returns-in-Ok-write_groups-clause-ran : goal.returns-in-Ok-write_groups-clause-ran
 returns-in-Ok-write_groups-clause-ran g c =
@@ -38,4 +38,4 @@ returns-clause-ran g c =
     (gathers_both _ _ _ _ _ _ _ _ c.args.plan.now.zero _ c.as_slice-2.result.now _ _ _ _ _ _ _ _ _
     c.take_words.ensures.form c.take_words.ensures.gathers c.take_list.ensures.gathers)
     _ _ _ _ c.in-Err-write_groups.ensures.text c.in-Err-write_groups.ensures.sink.kind c.in-Err-write_groups.ensures.sink.cause
-    c.break_off.ensures.told c.break_off.ensures.silent c.break_off.ensures.status
+    c.break_off.ensures.reported c.break_off.ensures.silent c.break_off.ensures.status

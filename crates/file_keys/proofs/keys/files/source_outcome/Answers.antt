@@ -17,7 +17,7 @@ pub key_of-requires : goal.key_of-requires
 key_of-requires g c = unfailed _ _ (g.met.R.Source.at_most_one c.args.source.now) c.failed.ensures c.if-failed.false
 
 pub returns-in-Ok : goal.returns-in-Ok
-returns-in-Ok g c = outcome_of_key _ _ _ _ c.in-Ok.ensures.ok c.in-Ok.ensures.told
+returns-in-Ok g c = outcome_of_key _ _ _ _ c.in-Ok.ensures.ok c.in-Ok.ensures.reported
 
 pub returns-in-Err : goal.returns-in-Err
-returns-in-Err g c = outcome_of_fault c.refusals_have_kinds.ensures _ _ _ _ c.in-Err.ensures.err c.foreign_on-foreign.ensures c.in-Err.ensures.told
+returns-in-Err g c = outcome_of_fault c.refusals_have_kinds.ensures _ _ _ _ c.in-Err.ensures.err c.foreign_on-foreign.ensures c.in-Err.ensures.reported

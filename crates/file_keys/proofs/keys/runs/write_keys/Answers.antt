@@ -6,7 +6,7 @@ use Rattle.file_keys.proofs.keys.runs.write_keys.Goals as goal
 pub returns-in-Err-clause-ran : goal.returns-in-Err-clause-ran
 returns-in-Err-clause-ran g c =
     let lacks = c.in-Err.ensures.err in
-    without_list lacks.0 c.in-Err.kind lacks.1 lacks.2 c.refuse.ensures.told c.refuse.ensures.status refl
+    without_list lacks.0 c.in-Err.kind lacks.1 lacks.2 c.refuse.ensures.reported c.refuse.ensures.status refl
 
 pub returns-in-Ok-take_all-clause-ran : goal.returns-in-Ok-take_all-clause-ran
 returns-in-Ok-take_all-clause-ran g c =
@@ -29,4 +29,4 @@ returns-clause-ran g c =
     g.E.Sink.stalled c.args.plan.now c.args.opener c.list.new.self.opener c.take_all.new.self.files.opener c.in-Ok.list.items _ _ _ _ _ _ _ _ _ _ _ _ _
     c.in-Ok.ensures.ok c.list.ensures.form (names_same _ _ _ _ _ _ refl c.as_slice.ensures.value c.as_slice-2.ensures.value)
     (c.new.ensures.style ∙ c.by.ensures) c.new.ensures.tells took.2 c.in-Err-take_all.ensures.sink.kind c.in-Err-take_all.ensures.sink.cause
-    c.break_off.ensures.told c.break_off.ensures.silent c.break_off.ensures.status
+    c.break_off.ensures.reported c.break_off.ensures.silent c.break_off.ensures.status

@@ -13,6 +13,6 @@ returns-in_err-self-clause-broke g c =
 
 pub returns-clause-took : goal.returns-clause-took
 returns-clause-took g c start lines took = record {
-  text = piece-takes _ _ _ _ lines took.text _ _ c.args.line.now c.in_ok-self.ensures.front;
+  text = piece-takes _ _ _ _ lines took.text _ _ c.args.line.now c.in_ok-self.ensures.part;
   stalled = c.in_ok-self.ensures.sink.stalled ∙ took.stalled;
 }

@@ -29,13 +29,13 @@ use Rattle.life_canon.specs.Files.{Says, as_rle, as_macrocell, is_macrocell}
 use Rattle.life_canon.specs.Filling.{AreSquaresOf}
 use Rattle.life_canon.specs.Needs.{SomeRoot, SomeAtEnd, SomeOfLines, SomeOfMacrocell, grown_times, of_plane, of_root, level_of_root}
 use Rattle.life_canon.specs.Store.{IsKnown, content}
-use Rattle.life_canon.specs.Taking.{IsEnd, IsOpen, StandsFor, taken_lines}
+use Rattle.life_canon.specs.Taking.{IsEnd, IsOpen, StandsFor, consumed_lines}
 use Rattle.life_canon.specs.Waiting.{KeepsLines}
 use Rattle.life_canon.specs.Universe.{least_level, rle_universe, macrocell_universe}
 use Rattle.life_canon.specs.declared.progress.Progress.{Progress}
 use Rattle.life_canon.specs.declared.progress.Progress.TheVariants as progress
 use Rattle.life_canon.proofs.PatternFacts.{undecided-lacks, end-kind, file-cells}
-use Rattle.life_canon.proofs.FrontFacts.{end-lines, end-says, top-level, macrocell-level}
+use Rattle.life_canon.proofs.PrefixFacts.{end-lines, end-says, top-level, macrocell-level}
 use Rattle.life_canon.proofs.Holding.{macrocell-holds, ok-both, rle-holds}
 use Rattle.life_canon.proofs.Middles.{ends-with-cell, root-lower, same-about}
 use Rattle.life_canon.proofs.Standing.{squares-stay}
@@ -45,38 +45,38 @@ use Rattle.life_base.proofs.Results.{err_again}
 
 -- what the end of an RLE file with these runs gives
 record RleEnd (p : Progress) (runs : List Run) (file : Rle) : Type 1 where
-  says : Says MAX_LEVEL (taken_lines p) (rle_universe file)
-  format : is_macrocell (taken_lines p) ≡ false
+  says : Says MAX_LEVEL (consumed_lines p) (rle_universe file)
+  format : is_macrocell (consumed_lines p) ≡ false
   cells : (x y : ℤ) → state_by runs x y ≡ (rle_universe file).cell x y
-  plane : (P : Tree → Type 0) → SomeAboutMiddle P (state_by runs) → SomeAtEnd MAX_LEVEL P (taken_lines p)
+  plane : (P : Tree → Type 0) → SomeAboutMiddle P (state_by runs) → SomeAtEnd MAX_LEVEL P (consumed_lines p)
   root : {level : ℕ} → 3 ≤ level → level ≤ MAX_LEVEL → (P : Tree → Type 0) → SomeRoot MAX_LEVEL P (rle_universe file) level
-      → SomeAtEnd MAX_LEVEL P (taken_lines p)
+      → SomeAtEnd MAX_LEVEL P (consumed_lines p)
 
 rle-end : (store : Nodes) {p : Progress} {reader : LinesRead} {builder : Building} {runs : Vec Run} → p ≡ progress.Rle reader builder runs → IsOpen p
     → StandsFor (IsKnown store) (content store) p → (file : Rle) → IsRle MAX_LEVEL reader.lines file → RleEnd p builder.runs file
 rle-end store {p} {reader} {builder} is begun stands file are =
     let u = rle_universe file in
-    let whole : Says MAX_LEVEL (taken_lines p) u = subst (λ (ls : List (List ℕ)). Says MAX_LEVEL ls u) (sym (ap taken_lines is)) (as_rle file are) in
-    let format = ap is_macrocell (ap taken_lines is) ∙ (subst IsOpen is begun).format in
+    let whole : Says MAX_LEVEL (consumed_lines p) u = subst (λ (ls : List (List ℕ)). Says MAX_LEVEL ls u) (sym (ap consumed_lines is)) (as_rle file are) in
+    let format = ap is_macrocell (ap consumed_lines is) ∙ (subst IsOpen is begun).format in
     let same = file-cells reader.lines builder.runs file (subst (StandsFor (IsKnown store) (content store)) is stands).are are in
     record {
       says = whole;
       format = format;
       cells = same;
       plane = λ P s. of_plane u whole format (same-about (state_by builder.runs) u.cell same s);
-      root = λ low high P s. of_root u whole (subst (SomeRoot MAX_LEVEL P u) (sym (top-level (taken_lines p) format)) (root-lower P u _ low high s));
+      root = λ low high P s. of_root u whole (subst (SomeRoot MAX_LEVEL P u) (sym (top-level (consumed_lines p) format)) (root-lower P u _ low high s));
     }
 
 -- what the end of a macrocell file gives whose squares these Ids name
 record MacrocellEnd (store : Nodes) (p : Progress) (ids : List Id) (file : Macrocell) : Type 1 where
   valid : IsValidMacrocell MAX_LEVEL file
   there : AreSquaresOf (IsKnown store) (content store) file.lines ids
-  says : Says MAX_LEVEL (taken_lines p) (macrocell_universe file)
+  says : Says MAX_LEVEL (consumed_lines p) (macrocell_universe file)
   ends : (bytes : List ℕ) (ended : ℕ) → IsEnd bytes ended p → (is_macrocell (lines_of bytes) ≡ true) × AreMacrocell MAX_LEVEL (lines_of bytes) file
   last : {level : ℕ} → level ≡ max 1 (root_level file.lines) → (bytes : List ℕ) (ended : ℕ) → IsEnd bytes ended p
       → level ≡ level_of_root MAX_LEVEL (lines_of bytes)
   root : {level : ℕ} → level ≡ max 1 (root_level file.lines) → (P : Tree → Type 0) → SomeRoot MAX_LEVEL P (macrocell_universe file) level
-      → SomeAtEnd MAX_LEVEL P (taken_lines p)
+      → SomeAtEnd MAX_LEVEL P (consumed_lines p)
 
 macrocell-end : (store : Nodes) {p : Progress} {reader : LinesRead} {ids : Vec Id} {waiting : Vec Quarters} {here : List Id}
     → p ≡ progress.Macrocell reader ids waiting → IsOpen p → AreSquaresOf (IsKnown store) (content store) (squares_of reader.lines) here → (file : Macrocell)
@@ -85,9 +85,10 @@ macrocell-end : (store : Nodes) {p : Progress} {reader : LinesRead} {ids : Vec I
 macrocell-end store {p} {reader} {ids} {waiting} {here} is begun squares file found =
     let u = macrocell_universe file in
     let are = (grammars_agree MAX_LEVEL reader.lines file).0 found in
-    let whole : Says MAX_LEVEL (taken_lines p) u = subst (λ (ls : List (List ℕ)). Says MAX_LEVEL ls u) (sym (ap taken_lines is)) (as_macrocell file are) in
+    let whole : Says MAX_LEVEL (consumed_lines p) u =
+    subst (λ (ls : List (List ℕ)). Says MAX_LEVEL ls u) (sym (ap consumed_lines is)) (as_macrocell file are) in
     let level = ap (λ (ls : List Line). max 1 (root_level ls)) are.squares
-    ∙ sym (ap (level_of_root MAX_LEVEL) (ap taken_lines is) ∙ macrocell-level reader.lines (subst IsOpen is begun).format) in
+    ∙ sym (ap (level_of_root MAX_LEVEL) (ap consumed_lines is) ∙ macrocell-level reader.lines (subst IsOpen is begun).format) in
     record {
       valid = lines_are_valid MAX_LEVEL reader.lines file are;
       there = rw are.squares squares;
@@ -96,7 +97,7 @@ macrocell-end store {p} {reader} {ids} {waiting} {here} is begun squares file fo
           let same = lines bytes ended (subst (IsEnd bytes ended) is e) in
           (ap is_macrocell same ∙ (subst IsOpen is begun).format, subst (λ (ls : List (List ℕ)). AreMacrocell MAX_LEVEL ls file) (sym same) are);
       last = λ e bytes ended end.
-          e ∙ level ∙ ap (level_of_root MAX_LEVEL) (ap taken_lines is ∙ sym (lines bytes ended (subst (IsEnd bytes ended) is end)));
+          e ∙ level ∙ ap (level_of_root MAX_LEVEL) (ap consumed_lines is ∙ sym (lines bytes ended (subst (IsEnd bytes ended) is end)));
       root = λ e P s. of_root u whole (subst (SomeRoot MAX_LEVEL P u) (e ∙ level) s);
     }
   where
@@ -115,10 +116,10 @@ joined-squares old new lines {ids} {waiting = waiting} kept keeps joined are kno
 -- and a square of theirs is one of the file
 waited-some : (store : Nodes) {p : Progress} {reader : LinesRead} {ids : Vec Id} {waiting : Vec Quarters} → p ≡ progress.Macrocell reader ids waiting → IsOpen p
     → StandsFor (IsKnown store) (content store) p → (P : Tree → Type 0) → SomeOf P (quads_of (content store) waiting.items)
-    → SomeAtEnd MAX_LEVEL P (taken_lines p) ⊎ SomeOfMacrocell MAX_LEVEL P (taken_lines p)
+    → SomeAtEnd MAX_LEVEL P (consumed_lines p) ⊎ SomeOfMacrocell MAX_LEVEL P (consumed_lines p)
 waited-some store {p} {reader} {ids} {waiting} is begun stands P s = inr (
-  ap is_macrocell (ap taken_lines is) ∙ (subst IsOpen is begun).format,
-  subst (SomeOfLines MAX_LEVEL P) (sym (ap taken_lines is))
+  ap is_macrocell (ap consumed_lines is) ∙ (subst IsOpen is begun).format,
+  subst (SomeOfLines MAX_LEVEL P) (sym (ap consumed_lines is))
       (waiting-some reader.lines ids.items waiting.items (subst (StandsFor (IsKnown store) (content store)) is stands) P s),
 )
 
@@ -139,7 +140,8 @@ returns-in_err-rule-in-Rle-clause-fault c =
     let kind : Kind = c.in_err-rule-in-Rle.field-0.0 in
     let begun = subst IsOpen c.in-Rle.is c.requires.begun in
     let e = c.in_err-rule-in-Rle.ensures in
-    rw (p.1, p.2) (inr (end-kind c.args.self c.in-Rle.lines.lines c.in-Rle.lines.refused kind (ap taken_lines c.in-Rle.is) begun.format begun.unrefused e.only
+    rw (p.1, p.2) (inr (end-kind c.args.self c.in-Rle.lines.lines c.in-Rle.lines.refused kind
+    (ap consumed_lines c.in-Rle.is) begun.format begun.unrefused e.only
     (λ n. (e.missing begun.unrefused).0 (cc)) (λ s. e.spent.0 (cc))))
 
 pub finish_about_middle-requires-clause-cell : goal.finish_about_middle-requires-clause-cell

@@ -7,10 +7,10 @@ use Rattle.life_canon.specs.Files.{Breaks}
 use Rattle.life_canon.specs.Store.{IsKnown, Keeps, content}
 use Rattle.life_quad.specs.Keeping.{IsShortageKind}
 use Rattle.life_quad.specs.Store.{Nodes, stored_squares}
-use Rattle.life_canon.specs.Taking.{StandsFor, IsReadyToTake, taken_lines}
+use Rattle.life_canon.specs.Taking.{StandsFor, IsReadyToTake, consumed_lines}
 use Rattle.life_canon.proofs.PatternFacts.{rle-fault}
 use Rattle.life_canon.specs.Needs.{IsNew, SomeOfLines}
-use Rattle.life_canon.specs.Room.{AddsLines}
+use Rattle.life_canon.specs.Space.{AddsLines}
 use Rattle.life_canon.proofs.progress.Progress.take_line.Goals as goal
 
 pub take_rle_line-requires-clause-built : goal.take_rle_line-requires-clause-built
@@ -24,7 +24,7 @@ take_macrocell_line-requires-clause-squares c =
 pub returns-in-Rle-clause-fault : goal.returns-in-Rle-clause-fault
 returns-in-Rle-clause-fault c =
     let ready = subst (IsReadyToTake c.args.line.now) c.in-Rle.is c.begin.ensures.ready in
-    let lines : taken_lines c.args.self.now ≡ c.in-Rle.lines.lines = sym c.begin.ensures.lines ∙ ap taken_lines c.in-Rle.is in
+    let lines : consumed_lines c.args.self.now ≡ c.in-Rle.lines.lines = sym c.begin.ensures.lines ∙ ap consumed_lines c.in-Rle.is in
     subst (λ (ls : List (List ℕ)). IfErr c.take_rle_line.result
     (λ kind. IsShortageKind (stored_squares c.take_rle_line.new.squares) c.take_rle_line.new.squares.limit kind ⊎ Breaks MAX_LEVEL ls c.args.line.now kind))
     (sym lines)
@@ -39,9 +39,9 @@ stores-of line e needed adds keeps = rw e (record { needed = needed; adds = adds
 pub returns-in-Rle-clause-stores : goal.returns-in-Rle-clause-stores
 returns-in-Rle-clause-stores c =
     let call = c.take_rle_line.ensures.stores in
-    stores-of c.args.line.now (sym c.begin.ensures.lines ∙ ap taken_lines c.in-Rle.is) call.needed call.adds call.keeps
+    stores-of c.args.line.now (sym c.begin.ensures.lines ∙ ap consumed_lines c.in-Rle.is) call.needed call.adds call.keeps
 
 pub returns-in-Macrocell-clause-stores : goal.returns-in-Macrocell-clause-stores
 returns-in-Macrocell-clause-stores c =
     let call = c.take_macrocell_line.ensures.stores in
-    stores-of c.args.line.now (sym c.begin.ensures.lines ∙ ap taken_lines c.in-Macrocell.is) call.needed call.adds call.keeps
+    stores-of c.args.line.now (sym c.begin.ensures.lines ∙ ap consumed_lines c.in-Macrocell.is) call.needed call.adds call.keeps

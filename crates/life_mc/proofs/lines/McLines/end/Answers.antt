@@ -7,7 +7,7 @@ use Rattle.life_mc.specs.Grammar.{IsPlainMacrocell}
 use Rattle.life_mc.specs.Macrocell.{Macrocell}
 use Rattle.life_base.specs.Lines.{LinesRead}
 use Rattle.life_mc.specs.Standing.{Standing, StandsAfter}
-use Rattle.life_mc.proofs.LinesTaken.{file_said}
+use Rattle.life_mc.proofs.LinesConsumed.{file_said}
 use Rattle.life_mc.proofs.lines.McLines.end.Goals as goal
 
 abbrev IsEnd : List (List ℕ) → Rule × ℕ → Type 0

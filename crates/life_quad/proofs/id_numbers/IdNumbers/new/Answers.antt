@@ -2,8 +2,8 @@ use Rattle.std.proofs.Common.{◌≡◌, ◌+◌, ◌-◌, length, rules, arith}
 use Rattle.life_quad.proofs.CallLemmas.{from_first}
 use Rattle.life_quad.proofs.id_numbers.IdNumbers.new.Goals as goal
 
-pub returns-clause-room : goal.returns-clause-room
-returns-clause-room c = λ id known high shown.
+pub returns-clause-space : goal.returns-clause-space
+returns-clause-space c = λ id known high shown.
     let first = c.first_of-first.ensures in
     let from = from_first c.args.store.now c.args.level id known high shown in
     let below = known.named.below in

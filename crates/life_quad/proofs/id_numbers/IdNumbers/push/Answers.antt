@@ -22,12 +22,12 @@ invariant_of-self c =
     let absent : ¬ Contains ids c.args.id = subst (λ (v : NumberedIds). ¬ Contains v.ids c.args.id) (sym c.self.view_is) c.requires in
     let index = c.index_from-index.result in
     let at = c.index_from-index.ensures in
-    let room : index < length numbers = let l = c.len.ensures in let k = c.self.inside.numbers.ok in omega (arith, l, k, c.if-index-len.false) in
+    let space : index < length numbers = let l = c.len.ensures in let k = c.self.inside.numbers.ok in omega (arith, l, k, c.if-index-len.false) in
     let number : c.self.inside.count + 1 ≡ length ids + 1 = ap (λ n. n + 1) c.self.invariant.1 in
     let more : map id_of c.then-self-inside.result.ids ≡ ids ++ c.args.id ∷ [] = ids_more c.self.inside.log.ids c.then-self-inside.result.ids c.args.id
     c.then-self-inside.ensures in
     let placed = one_listed c.self.inside.first ids numbers (value_of_id c.self.inside.pages) c.args.id index (c.self.inside.count + 1) c.self.invariant.0
-    absent at.from at.before c.self.invariant.2 room number in (
+    absent at.from at.before c.self.invariant.2 space number in (
       rw more placed,
       number ∙ sym (ap length more ∙ length-append ids (c.args.id ∷ [])),
       subst (λ n. n < 4294967296) (sym (length-set numbers index (c.self.inside.count + 1))) c.self.invariant.2,

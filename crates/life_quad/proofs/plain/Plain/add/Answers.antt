@@ -12,8 +12,8 @@ invariant_of-self-2 c =
     let node = subst (λ v. IsNode v.log (squares v.nodes) (length v.nodes) c.args.node) (sym c.self.view_is) c.requires.node in
     let e = c.in_ok-push.ensures.items in
     let l = c.len-index.ensures in
-    let limit = c.in_default.ensures.room.0 in
-    let few = c.in_default.ensures.room.1 in
+    let limit = c.in_default.ensures.space.0 in
+    let few = c.in_default.ensures.space.1 in
     let longer = ap length e ∙ length-append s.nodes (c.args.node ∷ []) in
     let level : c.args.level ≡ depth (node_square (squares s.nodes) c.args.node) = subst (λ v. c.args.level ≡ depth (node_square (squares v.nodes) c.args.node))
     (sym c.self.view_is) c.requires.level in
@@ -32,6 +32,6 @@ returns-clause-sound c =
     let node = subst (λ v. IsNode v.log (squares v.nodes) (length v.nodes) c.args.node) (sym c.self.view_is) c.requires.node in
     let e = c.in_ok-push.ensures.items in
     let l = c.len-index.ensures in
-    let few = c.in_default.ensures.room.1 in
+    let few = c.in_default.ensures.space.1 in
     subst (λ z. IsSoundStore (record { nodes = z; log = []; limit = s.limit })) (sym e)
     (IsSound-push s c.args.node c.self.invariant.0 node (omega (arith, l, few)))

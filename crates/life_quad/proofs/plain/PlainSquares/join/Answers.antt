@@ -6,7 +6,7 @@ use Rattle.life_quad.proofs.StoreLemmas.{length-squares, squares-push}
 use Rattle.life_base.specs.Tree.{depth, blank}
 use Rattle.life_quad.proofs.KeepingLemmas.{adds-one}
 use Rattle.life_quad.proofs.GrowLemmas.{with_node}
-use Rattle.life_quad.proofs.CallLemmas.{node_of, is_blank-joined, blank_joined, IsNode-joined, keeps_added, knows_last, square_of-added, IsWantKind-left, room_left}
+use Rattle.life_quad.proofs.CallLemmas.{node_of, is_blank-joined, blank_joined, IsNode-joined, keeps_added, knows_last, square_of-added, IsWantKind-left, space_left}
 use Rattle.life_quad.proofs.plain.PlainSquares.join.Goals as goal
 
 pub returns-then-are_blank-clause-square : goal.returns-then-are_blank-clause-square
@@ -35,7 +35,7 @@ IsNode-there : (c : goal.After-add) → IsNode c.args.self.now.log (squares c.ar
     (node_of c.args.nw c.args.ne c.args.sw c.args.se)
 IsNode-there c =
     let r = c.requires in
-    IsNode-joined _ _ _ _ _ r.nw r.ne r.sw r.se r.ne_level r.sw_level r.se_level r.room (sym c.are_blank.ensures ∙ c.if-are_blank.false)
+    IsNode-joined _ _ _ _ _ r.nw r.ne r.sw r.se r.ne_level r.sw_level r.se_level r.space (sym c.are_blank.ensures ∙ c.if-are_blank.false)
 
 stored : (c : goal.After-add) → OnOk c.add.result (c.add.new.self ≡ with_node c.args.self.now (node_of c.args.nw c.args.ne c.args.sw c.args.se))
 stored c = subst (λ n. OnOk c.add.result (c.add.new.self ≡ with_node c.args.self.now n)) c.of.ensures c.add.ensures.stored
@@ -44,7 +44,7 @@ pub add-requires : goal.add-requires
 add-requires c = record {
   node = let r = c.requires in
       subst (IsNode _ _ _) (sym c.of.ensures)
-      (IsNode-joined _ _ _ _ _ r.nw r.ne r.sw r.se r.ne_level r.sw_level r.se_level r.room (sym c.are_blank.ensures ∙ c.if-are_blank.false));
+      (IsNode-joined _ _ _ _ _ r.nw r.ne r.sw r.se r.ne_level r.sw_level r.se_level r.space (sym c.are_blank.ensures ∙ c.if-are_blank.false));
   level = let e = c.level-level.ensures.level in let d = ap (λ n. depth (node_square (squares c.args.self.now.nodes) n)) c.of.ensures in omega arith;
 }
 
@@ -72,10 +72,10 @@ returns-clause-full c =
 pub returns-clause-refusals : goal.returns-clause-refusals
 returns-clause-refusals c = IsWantKind-left c.add.result _ _ c.add.ensures.refusals c.add.ensures.full c.add.ensures.unchanged
 
-pub returns-clause-room : goal.returns-clause-room
-returns-clause-room c =
+pub returns-clause-space : goal.returns-clause-space
+returns-clause-space c =
     let full = c.add.ensures.full in
-    room_left c.add.result _ _ c.add.ensures.within full c.add.ensures.unchanged
+    space_left c.add.result _ _ c.add.ensures.within full c.add.ensures.unchanged
 
 pub returns-clause-needed : goal.returns-clause-needed
 returns-clause-needed c = on_err_weaker c.add.result (λ same. (IsNode-there c).not_blank) c.add.ensures.unchanged

@@ -7,7 +7,7 @@ use Rattle.life_base.specs.Tree.{depth}
 use Rattle.life_quad.specs.Store.{Nodes, squares, levels_of, node_square, id_of, IsNode, IsSoundStore, IsShared, AnswersJoin}
 use Rattle.life_quad.specs.contracts.shared.Shared.{the_view}
 use Rattle.life_quad.proofs.GrowLemmas.{with_both}
-use Rattle.life_quad.proofs.CallLemmas.{HasRoom, absent_node, node_there, node_added, sound_added, answers_refused, answers_memory, HasSeen-node, position_node, not_there, inserted, found}
+use Rattle.life_quad.proofs.CallLemmas.{HasSpace, absent_node, node_there, node_added, sound_added, answers_refused, answers_memory, HasSeen-node, position_node, not_there, inserted, found}
 use Rattle.life_quad.proofs.shared.Shared.intern.Goals as goal
 
 pub returns-in_default-get_index_of : goal.returns-in_default-get_index_of
@@ -19,7 +19,7 @@ returns-in_default-get_index_of c =
     let same : c.len-nodes.result + c.self.inside.small ≡ length s.log = ap (λ n. n + c.self.inside.small) c.len-nodes.ensures.len ∙ sym inv.3 in
     subst (λ v. AnswersJoin v v (node_square (squares v.nodes) c.args.node) (Err c.in-Some.kind)) c.self.view_is
     (answers_refused s s (node_square (squares s.nodes) c.args.node) c.in-Some.kind _ refl inv.1
-    (absent_node s c.args.node inv.0 inv.1 node c.requires.large missing) c.in-Some.ensures.room same c.in-Some.ensures.full)
+    (absent_node s c.args.node inv.0 inv.1 node c.requires.large missing) c.in-Some.ensures.space same c.in-Some.ensures.full)
 
 pub returns-in-Some : goal.returns-in-Some
 returns-in-Some c =
@@ -37,14 +37,14 @@ returns-in_err-i c =
     let node = subst (λ v. IsNode v.log (squares v.nodes) (length v.nodes) c.args.node) (sym c.self.view_is) c.requires.sound in
     let missing : ¬ Contains s.nodes c.args.node = not_there s.nodes c.args.node c.in_err-i.ensures.absent in
     let kept = c.in_err-i.ensures.err in
-    let told = c.from_residual.ensures in
+    let reported = c.from_residual.ensures in
     let len = c.len-nodes.ensures.len in
     let more = inv.3 in
-    let room = c.in_default.ensures.room.0 in
+    let space = c.in_default.ensures.space.0 in
     subst (λ v. AnswersJoin v new (node_square (squares v.nodes) c.args.node) c.from_residual.result) c.self.view_is
     (answers_memory s new (node_square (squares s.nodes) c.args.node) c.from_residual.result (λ i. record { nodes = kept i; log = s.log; limit = s.limit })
     inv.1
-    (absent_node s c.args.node inv.0 inv.1 node c.requires.large missing) (omega (arith, len, more, room)) _ (λ k e. e) told.0 told.1)
+    (absent_node s c.args.node inv.0 inv.1 node c.requires.large missing) (omega (arith, len, more, space)) _ (λ k e. e) reported.0 reported.1)
 
 -- the node that was added last, which is taken back where memory for its level is refused
 dropped : (c : goal.After-drop_last) → (¬ Contains c.self.inside.nodes.keys c.args.node) × (c.drop_last.new.nodes.keys ≡ c.self.inside.nodes.keys)
@@ -77,10 +77,10 @@ returns-then-is_err c =
     let node = subst (λ v. IsNode v.log (squares v.nodes) (length v.nodes) c.args.node) (sym c.self.view_is) c.requires.sound in
     let len = c.len-nodes.ensures.len in
     let more = inv.3 in
-    let room = c.in_default.ensures.room.0 in
+    let space = c.in_default.ensures.space.0 in
     subst (λ v. AnswersJoin v new (node_square (squares v.nodes) c.args.node) (Err Memory)) c.self.view_is
     (answers_memory s new (node_square (squares s.nodes) c.args.node) (Err Memory) (λ i. record { nodes = d.1 i; log = s.log; limit = s.limit }) inv.1
-    (absent_node s c.args.node inv.0 inv.1 node c.requires.large d.0) (omega (arith, len, more, room)) (λ k. k ≡ Memory) (λ k e. e) refl refl)
+    (absent_node s c.args.node inv.0 inv.1 node c.requires.large d.0) (omega (arith, len, more, space)) (λ k. k ≡ Memory) (λ k e. e) refl refl)
 
 abbrev old : goal.After-self-1 → Nodes
 old c = the_view c.self.inside
@@ -88,9 +88,9 @@ old c = the_view c.self.inside
 abbrev new : goal.After-self-1 → Nodes
 new c = record { nodes = c.insert_full.new.self.keys; log = c.then-self-inside.result.ids; limit = c.self.inside.limit }
 
--- the node is new and the last one, and there was room for it
+-- the node is new and the last one, and there was space for it
 added : (c : goal.After-self-1)
-    → IsNode (old c).log (squares (old c).nodes) (length (old c).nodes) c.args.node × (¬ Contains (old c).nodes c.args.node) × HasRoom (old c)
+    → IsNode (old c).log (squares (old c).nodes) (length (old c).nodes) c.args.node × (¬ Contains (old c).nodes c.args.node) × HasSpace (old c)
     × (new c ≡ with_both (old c) c.args.node) × (c.in_ok-i.i ≡ length (old c).nodes)
 added c =
     let s = old c in
@@ -102,10 +102,10 @@ added c =
     let node = subst (λ v. IsNode v.log (squares v.nodes) (length v.nodes) c.args.node) (sym c.self.view_is) c.requires.sound in
     let len = c.len-nodes.ensures.len in
     let more = c.self.invariant.3 in
-    let limit = c.in_default.ensures.room.0 in
-    let few = c.in_default.ensures.room.1 in
-    let room : HasRoom s = record { limit = omega (arith, len, more, limit); few = omega (arith, len, few) } in
-    (node, is.0, room, (λ j. record { nodes = is.1 j; log = last j; limit = s.limit }), is.2)
+    let limit = c.in_default.ensures.space.0 in
+    let few = c.in_default.ensures.space.1 in
+    let space : HasSpace s = record { limit = omega (arith, len, more, limit); few = omega (arith, len, few) } in
+    (node, is.0, space, (λ j. record { nodes = is.1 j; log = last j; limit = s.limit }), is.2)
 
 pub invariant_of-self-then-is_new : goal.invariant_of-self-then-is_new
 invariant_of-self-then-is_new c =

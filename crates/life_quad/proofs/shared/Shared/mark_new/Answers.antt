@@ -27,7 +27,7 @@ returns-in_err-set c =
     let inv = c.self.invariant in
     let small = subst (λ v. IsSmall v.log (squares v.nodes) c.args.number) (sym v) c.requires.small in
     let absent = subst (λ (v : Nodes). ¬ Contains v.log c.args.number) (sym c.self.view_is) c.requires.new in
-    let told = c.from_residual.ensures in
+    let reported = c.from_residual.ensures in
     let kind = c.in_err-set.ensures.kind in
     let more = c.self.invariant.3 in
     let most = c.self.invariant.1.len in
@@ -35,7 +35,7 @@ returns-in_err-set c =
     let len = c.len.ensures.len in
     subst (λ v. AnswersJoin v s (small_square c.args.number) c.from_residual.result) v
     (answers_memory s s (small_square c.args.number) c.from_residual.result refl inv.1 (absent_small s c.args.number inv.0 inv.1 small absent)
-    (omega (arith, len, more, most, below)) _ (λ k e. e ∙ kind) told.0 told.1)
+    (omega (arith, len, more, most, below)) _ (λ k e. e ∙ kind) reported.0 reported.1)
 
 pub invariant_of-self : goal.invariant_of-self
 invariant_of-self c =
@@ -53,7 +53,7 @@ old c = the_view c.self.inside
 abbrev new : goal.After-self-2-1 → Nodes
 new c = record { nodes = c.self.inside.nodes.keys; log = c.then-self-inside.result.ids; limit = c.self.inside.limit }
 
--- the square is new, and there was room for it
+-- the square is new, and there was space for it
 added : (c : goal.After-self-2-1)
     → IsSmall (old c).log (squares (old c).nodes) c.args.number × (¬ Contains (old c).log c.args.number)
     × (length (old c).log < (old c).limit) × (new c ≡ with_id (old c) c.args.number)

@@ -42,7 +42,7 @@ pub mark-requires : goal.mark-requires
 mark-requires c =
     let r = c.requires in
     let s = c.args.self.now in
-    let node = IsNode-joined _ _ _ _ _ r.nw.0 r.ne.0 r.sw.0 r.se.0 r.ne_level r.sw_level r.se_level r.room (sym c.are_blank.ensures ∙ c.if-are_blank.false) in
+    let node = IsNode-joined _ _ _ _ _ r.nw.0 r.ne.0 r.sw.0 r.se.0 r.ne_level r.sw_level r.se_level r.space (sym c.are_blank.ensures ∙ c.if-are_blank.false) in
     let number = sym c.small_number.ensures ∙ c.in-Some.is in
     let range = small_range c.args.nw.0 c.args.ne.0 c.args.sw.0 c.args.se.0 c.in-Some.number number in
     record { small = IsSmall-joined s _ c.in-Some.number number node; first = range.0; last = range.1 }
@@ -64,7 +64,7 @@ intern-requires c =
     let r = c.requires in
     record {
       sound = subst (IsNode _ _ _) (sym c.of.ensures)
-          (IsNode-joined _ _ _ _ _ r.nw.0 r.ne.0 r.sw.0 r.se.0 r.ne_level r.sw_level r.se_level r.room (sym c.are_blank.ensures ∙ c.if-are_blank.false));
+          (IsNode-joined _ _ _ _ _ r.nw.0 r.ne.0 r.sw.0 r.se.0 r.ne_level r.sw_level r.se_level r.space (sym c.are_blank.ensures ∙ c.if-are_blank.false));
       large = ap small_number_of c.of.ensures ∙ sym c.small_number.ensures ∙ c.in_default.is;
       level = let e = c.level-level.ensures.level in let d = ap (λ n. depth (node_square (squares c.args.self.now.nodes) n)) c.of.ensures in omega arith;
     }

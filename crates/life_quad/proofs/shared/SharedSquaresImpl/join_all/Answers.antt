@@ -29,7 +29,7 @@ join-requires c =
       ne_level = can.ne_level;
       sw_level = can.sw_level;
       se_level = can.se_level;
-      room = can.room;
+      space = can.space;
     }
 
 pub returns-in_err-squares : goal.returns-in_err-squares

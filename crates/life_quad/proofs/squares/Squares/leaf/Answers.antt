@@ -1,4 +1,4 @@
--- A square of four that are made one behind the other: what the five calls make.
+-- A square of four that are made one after the other: what the five calls make.
 use Rattle.std.proofs.Common.{inl, inr, subst}
 use Rattle.life_base.specs.Tree.{Tree, quad}
 use Rattle.life_quad.specs.Refused.{SomePart}
@@ -15,26 +15,26 @@ returns-in_err-nw g c =
 
 pub returns-in_err-ne : goal.returns-in_err-ne
 returns-in_err-ne g c =
-    let told = c.from_residual-in_err-ne in
+    let reported = c.from_residual-in_err-ne in
     let nw = c.in_ok-nw.ensures in
-    refused-behind _ told.result told.ensures.1 nw.keeps (adds-as _ nw.adds (λ P p. inr (inl p))) c.in_err-ne.ensures
+    refused-behind _ reported.result reported.ensures.1 nw.keeps (adds-as _ nw.adds (λ P p. inr (inl p))) c.in_err-ne.ensures
     (λ P p. inr (inr (inl p)))
 
 pub returns-in_err-sw : goal.returns-in_err-sw
 returns-in_err-sw g c =
-    let told = c.from_residual-in_err-sw in
+    let reported = c.from_residual-in_err-sw in
     let nw = c.in_ok-nw.ensures in
     let ne = c.in_ok-ne.ensures in
-    refused-behind _ told.result told.ensures.1 (keeps-then nw.keeps ne.keeps) (adds_2 c.args.cells nw.adds ne.adds) c.in_err-sw.ensures
+    refused-behind _ reported.result reported.ensures.1 (keeps-then nw.keeps ne.keeps) (adds_2 c.args.cells nw.adds ne.adds) c.in_err-sw.ensures
     (λ P p. inr (inr (inr (inl p))))
 
 pub returns-in_err-se : goal.returns-in_err-se
 returns-in_err-se g c =
-    let told = c.from_residual-in_err-se in
+    let reported = c.from_residual-in_err-se in
     let nw = c.in_ok-nw.ensures in
     let ne = c.in_ok-ne.ensures in
     let sw = c.in_ok-sw.ensures in
-    refused-behind _ told.result told.ensures.1 (keeps-then (keeps-then nw.keeps ne.keeps) sw.keeps) (adds_3 c.args.cells nw.adds ne.adds sw.adds)
+    refused-behind _ reported.result reported.ensures.1 (keeps-then (keeps-then nw.keeps ne.keeps) sw.keeps) (adds_3 c.args.cells nw.adds ne.adds sw.adds)
     c.in_err-se.ensures (λ P p. inr (inr (inr (inr p))))
 
 pub returns : goal.returns

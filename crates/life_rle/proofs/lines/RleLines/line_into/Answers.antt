@@ -15,20 +15,20 @@ use Rattle.life_rle.proofs.LineKinds.{Breaks-placed}
 use Rattle.life_rle.proofs.Stands.{StandsAt-Prefix, marked-is_over}
 use Rattle.life_rle.proofs.lines.RleLines.line_into.Goals as goal
 
--- a line was refused for want of memory, or behind another one, or it breaks a rule
-abbrev Told : Phase → Kind → Type 0 → Type 0
-Told phase kind Broken = (kind ≡ Memory) ⊎ ((kind ≡ Spent) × (is_refused phase ≡ true)) ⊎ Broken
+-- a line was refused for lack of memory, or after another one, or it breaks a rule
+abbrev Reported : Phase → Kind → Type 0 → Type 0
+Reported phase kind Broken = (kind ≡ Memory) ⊎ ((kind ≡ Spent) × (is_refused phase ≡ true)) ⊎ Broken
 
--- what a refused line breaks, told of the lines that the reader has taken
+-- what a refused line breaks, reported of the lines that the reader has taken
 refused-for : (phase : Phase) (cursor : Cursor) (lines : List (List ℕ)) (line : List ℕ) (kind : Kind) → StandsAt MAX_LEVEL phase cursor lines
-    → Told phase kind ((before : List (List ℕ)) → StandsAt MAX_LEVEL phase cursor before → BreaksRle MAX_LEVEL before line kind)
-    → Told phase kind (BreaksRle MAX_LEVEL lines line kind)
+    → Reported phase kind ((before : List (List ℕ)) → StandsAt MAX_LEVEL phase cursor before → BreaksRle MAX_LEVEL before line kind)
+    → Reported phase kind (BreaksRle MAX_LEVEL lines line kind)
 refused-for phase cursor lines line kind h (inl m) = inl m
 refused-for phase cursor lines line kind h (inr (inl s)) = inr (inl s)
 refused-for phase cursor lines line kind h (inr (inr f)) = inr (inr (f lines h))
 
-pub returns-clause-front : goal.returns-clause-front
-returns-clause-front c =
+pub returns-clause-prefix : goal.returns-clause-prefix
+returns-clause-prefix c =
     let inside = c.self.inside in
     let next = c.after_line.new in
     subst (Prefix (IsSomeRle MAX_LEVEL)) (sym c.then-self-inside.ensures)
@@ -53,10 +53,10 @@ returns-in_err-after_line-clause-fault c =
     let inside = c.self.inside in
     let line = c.args.line.now in
     let kind : Kind = c.in_err-after_line.field-0.0 in
-    let told =
+    let reported =
     refused-for inside.phase inside.cursor inside.log.lines line kind c.self.invariant c.in_err-after_line.ensures.fault in
     let answer : (kind ≡ Memory) ⊎ (kind ≡ Spent) ⊎ BreaksRle MAX_LEVEL c.args.self.now.lines line kind =
-    elim told [
+    elim reported [
       | inl m ↦ inl m
       | inr e ↦ elim e [ inl s ↦ inr (inl s.0) | inr b ↦ inr (inr (subst (λ (v : LinesRead). BreaksRle MAX_LEVEL v.lines line kind) c.self.view_is b)) ]
     ] in
@@ -68,11 +68,11 @@ returns-in_err-after_line-clause-spent c =
     let inside = c.self.inside in
     let kind : Kind = c.in_err-after_line.field-0.0 in
     let phase : Phase = inside.phase in
-    let told =
+    let reported =
     refused-for phase inside.cursor inside.log.lines c.args.line.now kind c.self.invariant c.in_err-after_line.ensures.fault in
     let refused : is_refused phase ≡ c.args.self.now.refused = ap (λ (v : LinesRead). v.refused) c.self.view_is in
     let spent : kind ≡ Spent → c.args.self.now.refused ≡ true = λ e.
-    elim told [
+    elim reported [
       | inl m ↦ absurd (other kind m e)
       | inr t ↦ elim t [ inl s ↦ sym refused ∙ s.1 | inr b ↦ absurd (placed kind e (Breaks-placed MAX_LEVEL inside.log.lines c.args.line.now kind b)) ]
     ] in
@@ -88,7 +88,7 @@ returns-in_err-after_line-clause-spent c =
     placed : (kind : Kind) → kind ≡ Spent → is_placeless kind ≡ false → ⊥
     placed kind e p = let t : true ≡ false = ap is_placeless (sym e) ∙ p in cc
 
--- behind the mark
+-- after the mark
 free : (phase : Phase) (cursor : Cursor) (lines : List (List ℕ)) (self : LinesRead) (P : Type 0) → StandsAt MAX_LEVEL phase cursor lines
     → self ≡ record { lines = lines; refused = is_refused phase } → (is_over phase ≡ true → P) → self.refused ≡ false
     → ((file : Rle) × IsMarked MAX_LEVEL self.lines file) → P

@@ -28,13 +28,13 @@ loop-cell-preserved c =
     let rest = drop (i + 1) cells in
     let step = at_drop_more (λ xs. xs) cells i _ c.loop-cell-test.true in
     let follow = subst (Follow rule left (column_after_run run) run.y) step c.loop-cell.invariant.follow in
-    let taken = c.in_ok-run.ensures.cell in
+    let consumed = c.in_ok-run.ensures.cell in
     record {
-      sound = taken.sound;
+      sound = consumed.sound;
       follow =
-          subst (λ (x : ℤ). Follow rule left x next.y rest) (sym taken.place.1)
-          (subst (λ (y : ℤ). Follow rule left (cell.x +ℤ pos 1) y rest) (sym taken.place.2) follow.2);
-      text = taken.text rest ∙ ap (pen_text rule pen) (sym step) ∙ c.loop-cell.invariant.text;
+          subst (λ (x : ℤ). Follow rule left x next.y rest) (sym consumed.place.1)
+          (subst (λ (y : ℤ). Follow rule left (cell.x +ℤ pos 1) y rest) (sym consumed.place.2) follow.2);
+      text = consumed.text rest ∙ ap (pen_text rule pen) (sym step) ∙ c.loop-cell.invariant.text;
     }
 
 pub returns-clause-text : goal.returns-clause-text

@@ -21,7 +21,7 @@ pub returns-then-gap-eq0-clause-run : goal.returns-then-gap-eq0-clause-run
 returns-then-gap-eq0-clause-run c = λ state letter.
     no-gap c.args.rule.now c.args.count state c.args.self.now c.put_short.new.self c.args.gap c.if-gap-eq0.true
     (Puts-short c.args.rule.now (Cells c.args.count state) c.args.self.now c.put_short.new.self c.args.count c.args.letter refl letter c.requires.digit
-    (omega (arith, c.requires.room)) c.in_ok-put_short.ensures.used c.in_ok-put_short.ensures.text)
+    (omega (arith, c.requires.space)) c.in_ok-put_short.ensures.used c.in_ok-put_short.ensures.text)
 
 pub returns-clause-run : goal.returns-clause-run
 returns-clause-run c = λ state letter.
@@ -32,11 +32,11 @@ returns-clause-run c = λ state letter.
     let count = c.args.count in
     let gap = c.args.gap in
     let r = c.requires in
-    let first = Puts-short rule (Cells count state) old middle count c.args.letter refl letter r.digit (omega (arith, r.room))
+    let first = Puts-short rule (Cells count state) old middle count c.args.letter refl letter r.digit (omega (arith, r.space))
     c.in_ok-put_short.ensures.used c.in_ok-put_short.ensures.text in
-    let room : middle.used + 2 ≤ 70 = omega (arith, r.room, c.in_ok-put_short.ensures.most) in
+    let space : middle.used + 2 ≤ 70 = omega (arith, r.space, c.in_ok-put_short.ensures.most) in
     on-ok-both c.put_short-2.result
     (λ used text. Puts-then rule (Cells count state ∷ []) (with_gap gap []) old middle new first
     (some-gap rule middle new gap c.if-gap-eq0.false
-    (Puts-short rule (Cells gap 0) middle new gap c.dead_letter.result refl c.dead_letter.ensures r.gap_digit room used text)))
+    (Puts-short rule (Cells gap 0) middle new gap c.dead_letter.result refl c.dead_letter.ensures r.gap_digit space used text)))
     c.put_short-2.ensures.used c.put_short-2.ensures.text

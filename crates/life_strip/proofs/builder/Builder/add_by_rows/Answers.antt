@@ -12,7 +12,7 @@ use Rattle.life_strip.proofs.builder.Builder.add_by_rows.Goals as goal
 abbrev none : Run
 none = record { x = pos 0; y = pos 0; len = 0; state = 0 }
 
--- the runs before the first that is left, that one, and those behind it
+-- the runs before the first that is left, that one, and those after it
 split : (all so_far runs : List Run) → 0 < length runs → so_far ++ runs ≡ all → so_far ++ get_or runs 0 none ∷ drop 1 runs ≡ all
 split all so_far runs h e = ap (λ z. so_far ++ z) (sym (drop-cons runs 0 none h)) ∙ e
 

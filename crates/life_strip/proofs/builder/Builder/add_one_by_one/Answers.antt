@@ -12,7 +12,7 @@ use Rattle.life_strip.proofs.builder.Builder.add_one_by_one.Goals as goal
 abbrev none : Run
 none = record { x = pos 0; y = pos 0; len = 0; state = 0 }
 
--- the runs before one, that one, and those behind it
+-- the runs before one, that one, and those after it
 split : (all so_far runs : List Run) (i : ℕ) → i < length runs → so_far ++ drop i runs ≡ all → so_far ++ get_or runs i none ∷ drop (suc i) runs ≡ all
 split all so_far runs i h e = ap (λ z. so_far ++ z) (sym (drop-cons runs i none h)) ∙ e
 

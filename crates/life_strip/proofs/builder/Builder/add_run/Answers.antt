@@ -34,7 +34,7 @@ returns-clause-filling g c =
     let next = subst (λ (b : Building). IsNextRunStart b.runs c.args.run.x c.args.run.y) (sym c.self.view_is) c.requires.next in
     let h = c.in_ok-add_run.ensures in
     subst (λ (runs : List Run). IsFilling K' C' (record { runs = runs; kept = c.add_run.new.self })) (sym c.then-self-inside.ensures)
-    (filling-push K' C' c.add_run.new.self (cell_so_far C inside.kept) inside.runs c.args.run fill.order next fill.cells h.filled h.cells h.below h.beside)
+    (filling-push K' C' c.add_run.new.self (cell_so_far C inside.kept) inside.runs c.args.run fill.order next fill.cells h.filled h.cells h.below h.adjacent)
 
 pub returns-clause-next : goal.returns-clause-next
 returns-clause-next g c i j h =

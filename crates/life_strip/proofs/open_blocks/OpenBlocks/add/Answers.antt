@@ -49,7 +49,7 @@ returns-then-from-len-le64-clause-sound c =
     record {
       blocks = (adds (goal.at.returns-then-from-len-le64-clause-sound c).After-bits_of_columns a.0 (sym a.1)).blocks;
       west = r.sound.west;
-      room = r.sound.room;
+      space = r.sound.space;
     }
 
 pub returns-then-from-len-le64-clause-adds : goal.returns-then-from-len-le64-clause-adds

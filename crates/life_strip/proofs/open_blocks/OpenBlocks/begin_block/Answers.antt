@@ -20,7 +20,7 @@ pub returns-clause-sound : goal.returns-clause-sound
 returns-clause-sound c = record {
   blocks = (adds (goal.at.returns-clause-sound c).After-coordinate-self).blocks;
   west = let at = c.coordinate-self.ensures in let start = c.block_of-self.ensures.start in omega (arith, ints, at, start, c.requires.within);
-  room = let len = c.push_reserved.ensures.len in let capacity = c.push_reserved.ensures.capacity in omega (arith, len, capacity, c.if-len-capacity.false);
+  space = let len = c.push_reserved.ensures.len in let capacity = c.push_reserved.ensures.capacity in omega (arith, len, capacity, c.if-len-capacity.false);
 }
 
 pub returns-clause-adds : goal.returns-clause-adds

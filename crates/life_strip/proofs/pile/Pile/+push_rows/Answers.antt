@@ -44,7 +44,7 @@ push_rows-requires g t c κs within =
     let init = c.pop.new.self.items in
     let n = ap length items ∙ length-append init (c.in-Some.last ∷ []) in
     let rows = all_init P init c.in-Some.last (subst (All P) items c.requires.rows) in
-    (search rules, (search rules, (c.requires.strips, (rows, omega (arith, n, c.requires.room)))))
+    (search rules, (search rules, (c.requires.strips, (rows, omega (arith, n, c.requires.space)))))
 
 pub into_strip-requires : goal.into_strip-requires
 into_strip-requires g t c =
@@ -52,11 +52,11 @@ into_strip-requires g t c =
     kept c.in_ok-push_rows.ensures.grows.keeps c.in-Some.last
     (all_last P c.pop.new.self.items c.in-Some.last (subst (All P) c.in-Some.ensures.items c.requires.rows))
 
-pub push_strip-requires-clause-room : goal.push_strip-requires-clause-room
-push_strip-requires-clause-room g t c =
+pub push_strip-requires-clause-space : goal.push_strip-requires-clause-space
+push_strip-requires-clause-space g t c =
     let n = ap length c.in-Some.ensures.items ∙ length-append c.pop.new.self.items (c.in-Some.last ∷ []) in
     let one : 2 ^ c.in_ok-strip.strip.level ≡ 1 = ap (λ k. 2 ^ k) c.in_ok-strip.ensures.level in
-    omega (arith, n, one, c.requires.room, c.in_ok-push_rows.ensures.closed.height)
+    omega (arith, n, one, c.requires.space, c.in_ok-push_rows.ensures.closed.height)
 
 pub push_strip-requires-clause-lowest : goal.push_strip-requires-clause-lowest
 push_strip-requires-clause-lowest g t c k d lt = omega (arith, c.in_ok-strip.ensures.level)

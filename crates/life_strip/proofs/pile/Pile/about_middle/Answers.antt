@@ -16,8 +16,8 @@ ok-by : {T : Type 0} {P Q : T → Type 0} (r : Result T Kind) → IfOk r P → (
 ok-by (Ok x) p f = f x p
 ok-by (Err e) p f = tt
 
-pub end_row-requires-clause-room : goal.end_row-requires-clause-room
-end_row-requires-clause-room g c =
+pub end_row-requires-clause-space : goal.end_row-requires-clause-space
+end_row-requires-clause-space g c =
     let l = c.row_level-level.ensures in
     let p = pow_mono {i = c.row_level-level.result} {j = MAX_LEVEL - 1} (omega (arith, l.high)) in
     let b = c.rows_below.ensures in
@@ -104,7 +104,7 @@ returns-clause-square g c =
     let top = c.in_ok-wide.wide.level in
     let low = w.low in
     ok-by c.join_middle.result c.join_middle.ensures.square (λ id is.
-    middle-of level top c.args.rows (picture C (s ∷ [])) f _ l.low (omega (arith, e, low)) w.high l.enough l.least whole.cells w.beside
+    middle-of level top c.args.rows (picture C (s ∷ [])) f _ l.low (omega (arith, e, low)) w.high l.enough l.least whole.cells w.adjacent
     (λ m from to. w.needed m (omega (arith, from, e)) to)
     (about-same top _ f _ (λ i j. w.picture i j ∙ whole.cells i j) is))
 
@@ -132,6 +132,6 @@ returns-clause-grows g c =
     (λ P n. wider-of-middle P level c.args.rows (picture C (s ∷ [])) f l.low l.least whole.cells (subst (λ k. SomeWider P k (picture C (s ∷ []))) e n)))
     c.join_middle.ensures.grows
     (λ P n. square-of-middle P c.args.rows f n.0
-    (middle-of level top c.args.rows (picture C (s ∷ [])) f n.0 l.low (omega (arith, e, low)) w.high l.enough l.least whole.cells w.beside
+    (middle-of level top c.args.rows (picture C (s ∷ [])) f n.0 l.low (omega (arith, e, low)) w.high l.enough l.least whole.cells w.adjacent
     (λ m from to. w.needed m (omega (arith, from, e)) to)
     (about-same top _ f n.0 (λ i j. w.picture i j ∙ whole.cells i j) n.1)) n.2)

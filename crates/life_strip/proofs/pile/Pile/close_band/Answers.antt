@@ -70,10 +70,10 @@ returns-in_default-clause-closed g c =
 pub push_strip-requires-clause-strips : goal.push_strip-requires-clause-strips
 push_strip-requires-clause-strips g c = stack-kept c.in_ok-strip.ensures.grows.keeps c.args.self.now.strips.items c.requires.strips
 
-pub push_strip-requires-clause-room : goal.push_strip-requires-clause-room
-push_strip-requires-clause-room g c =
+pub push_strip-requires-clause-space : goal.push_strip-requires-clause-space
+push_strip-requires-clause-space g c =
     let h = band-height _ c.in-Some.strip c.in-Some.is c.in_ok-strip.ensures.level in
-    omega (arith, h, c.requires.whole, c.requires.room)
+    omega (arith, h, c.requires.whole, c.requires.space)
 
 pub returns-clause-closed : goal.returns-clause-closed
 returns-clause-closed g c =

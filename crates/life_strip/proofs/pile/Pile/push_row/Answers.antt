@@ -51,10 +51,10 @@ close_band-requires-clause-whole g c =
     let n = ap length c.in_ok-push.ensures.items ∙ length-append c.args.self.now.band.items (c.args.row ∷ []) in
     omega (arith, n, c.len.ensures, c.if-len-lt4.false, c.requires.pile.few)
 
-pub close_band-requires-clause-room : goal.close_band-requires-clause-room
-close_band-requires-clause-room g c =
+pub close_band-requires-clause-space : goal.close_band-requires-clause-space
+close_band-requires-clause-space g c =
     let n = ap length c.in_ok-push.ensures.items ∙ length-append c.args.self.now.band.items (c.args.row ∷ []) in
-    omega (arith, n, c.requires.room)
+    omega (arith, n, c.requires.space)
 
 pub returns-clause-pile : goal.returns-clause-pile
 returns-clause-pile g c =

@@ -176,7 +176,7 @@ push_and_raise-requires g c =
       lowest = lowest-init first last fall (suc last.level) refl;
       high = omega (arith, same, c.blank_level-level.ensures.most);
       fits = omega (arith, side, c.blank_level-level.ensures.fits);
-      room = omega (arith, h, inv.rows, c.requires.room);
+      space = omega (arith, h, inv.rows, c.requires.space);
     }
 
 pub loop-rest-smaller-in-Some : goal.loop-rest-smaller-in-Some

@@ -10,9 +10,9 @@ is_blank_north-requires-clause-strips g c =
     subst (AreStacked (g.S.Squares.knows c.args.squares.now) (g.S.Squares.content c.args.squares.now)) (sym c.as_slice.ensures.value)
     c.requires.pile.strips
 
-pub is_blank_north-requires-clause-room : goal.is_blank_north-requires-clause-room
-is_blank_north-requires-clause-room g c =
-    let e = ap height c.as_slice.ensures.value in let r = c.requires.room in omega (arith, e, r)
+pub is_blank_north-requires-clause-space : goal.is_blank_north-requires-clause-space
+is_blank_north-requires-clause-space g c =
+    let e = ap height c.as_slice.ensures.value in let r = c.requires.space in omega (arith, e, r)
 
 pub returns-then-not-is_blank_north-clause-cell : goal.returns-then-not-is_blank_north-clause-cell
 returns-then-not-is_blank_north-clause-cell g c h tall none =
@@ -30,8 +30,8 @@ remove-northern-requires g c =
     let ok = c.args.self.now.strips.ok.0 in
     omega (arith, n, ok)
 
-pub returns-clause-taken : goal.returns-clause-taken
-returns-clause-taken g c t =
+pub returns-clause-consumed : goal.returns-clause-consumed
+returns-clause-consumed g c t =
     let C = g.S.Squares.content c.args.squares.now in
     let h = subst (IsBlankNorth C) c.as_slice.ensures.value (c.is_blank_north.ensures.blank c.if-not-is_blank_north.false) in
     record {

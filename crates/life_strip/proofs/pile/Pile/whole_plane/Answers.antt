@@ -13,8 +13,8 @@ end_row-requires-clause-pile g c = c.requires.pile
 pub end_row-requires-clause-row : goal.end_row-requires-clause-row
 end_row-requires-clause-row g c = c.requires.row
 
-pub end_row-requires-clause-room : goal.end_row-requires-clause-room
-end_row-requires-clause-room g c = omega (arith, c.requires.whole)
+pub end_row-requires-clause-space : goal.end_row-requires-clause-space
+end_row-requires-clause-space g c = omega (arith, c.requires.whole)
 
 pub whole-requires-clause-strips : goal.whole-requires-clause-strips
 whole-requires-clause-strips g c =

@@ -9,7 +9,7 @@ use Rattle.life_strip.specs.Given.{half_plane}
 use Rattle.life_strip.specs.Needed.{SomeSquare}
 use Rattle.life_strip.specs.Pile.{pile_height, pile_state_with}
 use Rattle.life_strip.specs.Plane.{state_so_far}
-use Rattle.life_strip.proofs.PlaneLemmas.{column_of_run, row_of_run, next_ends, below_run, beside_run, AddsRun-span}
+use Rattle.life_strip.proofs.PlaneLemmas.{column_of_run, row_of_run, next_ends, below_run, adjacent_run, AddsRun-span}
 use Rattle.life_strip.proofs.RowLemmas.{with-filled}
 use Rattle.life_strip.proofs.plane.Plane.add_run.Goals as goal
 
@@ -67,14 +67,15 @@ returns-clause-below g c =
     c.in_ok-go_to_row.ensures.begun.rows below)
     c.add.ensures.fills
 
-pub returns-clause-beside : goal.returns-clause-beside
-returns-clause-beside g c =
+pub returns-clause-adjacent : goal.returns-clause-adjacent
+returns-clause-adjacent g c =
     let ex = column_of_run c.args.run c.offset-column.result c.requires.inside c.requires.positive c.offset-column.ensures in
     let ey = row_of_run c.args.run c.offset-row.result c.requires.inside c.offset-row.ensures in
     on_ok_weaker c.add.result
-    (λ fills i beside. beside_run (record c.go_to_row.new.self { pile = record c.go_to_row.new.self.pile { spare = c.add.new.spare }; row = c.add.new.self })
+    (λ fills i adjacent. adjacent_run
+    (record c.go_to_row.new.self { pile = record c.go_to_row.new.self.pile { spare = c.add.new.spare }; row = c.add.new.self })
     c.args.run.x c.args.run.y i c.offset-column.result
-    c.offset-row.result c.args.run.len ex ey c.in_ok-go_to_row.ensures.begun.rows fills.before beside)
+    c.offset-row.result c.args.run.len ex ey c.in_ok-go_to_row.ensures.begun.rows fills.before adjacent)
     c.add.ensures.fills
 
 -- the row of a run, counted from the edge of the plane

@@ -22,8 +22,8 @@ pub end_row-requires-clause-row : goal.end_row-requires-clause-row
 end_row-requires-clause-row g c =
     subst (IsRow (g.S.Squares.knows c.args.squares.now) (g.S.Squares.content c.args.squares.now)) (sym c.replace-begun.ensures.value) c.requires.filled.row
 
-pub end_row-requires-clause-room : goal.end_row-requires-clause-room
-end_row-requires-clause-room g c = omega (arith, c.requires.filled.rows, c.requires.later, c.requires.inside)
+pub end_row-requires-clause-space : goal.end_row-requires-clause-space
+end_row-requires-clause-space g c = omega (arith, c.requires.filled.rows, c.requires.later, c.requires.inside)
 
 -- no cell is in an empty row
 none-before : (row : Row) (n : ℕ) → row.blocks.items ≡ [] → row.spans.items ≡ [] → IsRowBefore n row

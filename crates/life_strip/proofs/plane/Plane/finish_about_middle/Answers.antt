@@ -12,7 +12,7 @@ use Rattle.life_strip.specs.Needed.{SomeSquare}
 use Rattle.life_strip.specs.Pile.{pile_height, pile_state, pile_state_with}
 use Rattle.life_strip.specs.Plane.{IsFilled, cell_so_far, state_so_far}
 use Rattle.life_strip.proofs.MiddlePlanes.{blank-north, cells-of-middle, least-high, level-of-middle, needs-of-middle, whole-cells, whole-level, whole-needs}
-use Rattle.life_strip.proofs.MiddleTaken.{southern-of, taken-height, taken-pile, with-beyond}
+use Rattle.life_strip.proofs.MiddleConsumed.{southern-of, consumed-height, consumed-pile, with-beyond}
 use Rattle.life_strip.proofs.RowLemmas.{with-above}
 use Rattle.life_strip.proofs.plane.Plane.finish_about_middle.Goals as goal
 
@@ -45,13 +45,13 @@ also-north knows content p filled tall cell lower three lt south x y =
 
 pub about_middle-requires-clause-pile : goal.about_middle-requires-clause-pile
 about_middle-requires-clause-pile g c =
-    taken-pile (g.S.Squares.content c.args.squares.now) c.args.self.pile c.take_northern_half.new.self
-    (c.take_northern_half.ensures.taken c.if-not-take_northern_half.false) (g.S.Squares.knows c.args.squares.now) c.requires.filled.pile
+    consumed-pile (g.S.Squares.content c.args.squares.now) c.args.self.pile c.take_northern_half.new.self
+    (c.take_northern_half.ensures.consumed c.if-not-take_northern_half.false) (g.S.Squares.knows c.args.squares.now) c.requires.filled.pile
 
 pub about_middle-requires-clause-height : goal.about_middle-requires-clause-height
 about_middle-requires-clause-height g c =
-    let t = taken-height (g.S.Squares.content c.args.squares.now) c.args.self.pile c.take_northern_half.new.self
-    (c.take_northern_half.ensures.taken c.if-not-take_northern_half.false) in
+    let t = consumed-height (g.S.Squares.content c.args.squares.now) c.args.self.pile c.take_northern_half.new.self
+    (c.take_northern_half.ensures.consumed c.if-not-take_northern_half.false) in
     let h = c.requires.filled.rows in
     omega (arith, t, h)
 
@@ -106,7 +106,7 @@ returns-clause-level g c =
     let f = state_so_far C self in
     let h = pile_state_with C new self.row in
     let r = self.rows - half_plane in
-    let s = southern-of C self.pile new self.row self.rows (c.take_northern_half.ensures.taken c.if-not-take_northern_half.false) c.requires.filled.rows
+    let s = southern-of C self.pile new self.row self.rows (c.take_northern_half.ensures.consumed c.if-not-take_northern_half.false) c.requires.filled.rows
     c.if-rows-lt-HALF.false c.requires.filled.most c.requires.cell in
     ok-by c.about_middle.result c.about_middle.ensures.square (λ id is. level-of-middle f h r s.north s.south s.beyond s.last s.few _ is)
 
@@ -118,7 +118,7 @@ returns-clause-cells g c =
     let f = state_so_far C self in
     let h = pile_state_with C new self.row in
     let r = self.rows - half_plane in
-    let s = southern-of C self.pile new self.row self.rows (c.take_northern_half.ensures.taken c.if-not-take_northern_half.false) c.requires.filled.rows
+    let s = southern-of C self.pile new self.row self.rows (c.take_northern_half.ensures.consumed c.if-not-take_northern_half.false) c.requires.filled.rows
     c.if-rows-lt-HALF.false c.requires.filled.most c.requires.cell in
     ok-by c.about_middle.result c.about_middle.ensures.square (λ id is. cells-of-middle f h r s.north s.south s.beyond s.last s.few _ is)
 
@@ -130,6 +130,6 @@ returns-clause-grows g c =
     let f = state_so_far C self in
     let h = pile_state_with C new self.row in
     let r = self.rows - half_plane in
-    let s = southern-of C self.pile new self.row self.rows (c.take_northern_half.ensures.taken c.if-not-take_northern_half.false) c.requires.filled.rows
+    let s = southern-of C self.pile new self.row self.rows (c.take_northern_half.ensures.consumed c.if-not-take_northern_half.false) c.requires.filled.rows
     c.if-rows-lt-HALF.false c.requires.filled.most c.requires.cell in
     grows-as _ c.about_middle.ensures.grows (needs-of-middle f h r s.north s.south s.beyond s.last s.few)

@@ -24,8 +24,8 @@ divided c =
       row = c.row_length.ensures.row;
       rest = c.row_length.ensures.rest;
     } in
-    let front = subst (λ z. IsSplitAtRow (to_z w64 (of_z w64 (x +ℤ pos 1))) rest z (drop n rest)) (sym c.split_at.ensures.front) split in
-    let both = subst (λ z. IsSplitAtRow (to_z w64 (of_z w64 (x +ℤ pos 1))) rest c.split_at.result.0.now z) (sym c.split_at.ensures.back) front in
+    let prefix = subst (λ z. IsSplitAtRow (to_z w64 (of_z w64 (x +ℤ pos 1))) rest z (drop n rest)) (sym c.split_at.ensures.front) split in
+    let both = subst (λ z. IsSplitAtRow (to_z w64 (of_z w64 (x +ℤ pos 1))) rest c.split_at.result.0.now z) (sym c.split_at.ensures.back) prefix in
     subst (λ z. IsSplitAtRow z rest c.split_at.result.0.now c.split_at.result.1.now) arg both
 
 abbrev new : goal.After-rest-2-1 → Band

@@ -67,7 +67,7 @@ returns-then-is_continued_by-clause-next g c column row h =
     longer-next runs (kept run.x) (kept run.y) run.len run.state c.args.x (sym (ap (λ z. z +ℤ pos run.len) on.column) ∙ on.more.1) column row
     (subst (λ z. IsAfterRun (one_cell c.args.x z run.state) column row) (sym on.more.0 ∙ on.row) h)
 
--- the cell's place is one of numbers of 64 bits, and behind the runs that were given
+-- the cell's place is one of numbers of 64 bits, and after the runs that were given
 x-kept : (g : Over) (c : goal.After-self-2-1 g) → c.args.x ≡ kept c.args.x
 x-kept g c = omega (arith, ints, c.ranges.x)
 

@@ -56,4 +56,4 @@ returns-clause-smaller c e =
     let place : IsNextPlace w x = subst (λ z. IsNextPlace w z) same c.in-Some.ensures.place in
     let arg : to_z w64 (of_z w64 (x +ℤ pos 1)) ≡ one_after x = omega (arith, ints, c.in-Some.ensures.within.0, c.in-Some.ensures.within.1) in
     fewer-steps x w c.take_column-self.result c.take_column-self.new.self place c.take_column-self.ensures.fewer
-    (λ s. c.take_column-self.ensures.taken (subst (λ z. SomeStartsAt z w.rows) (sym arg) s))
+    (λ s. c.take_column-self.ensures.consumed (subst (λ z. SomeStartsAt z w.rows) (sym arg) s))

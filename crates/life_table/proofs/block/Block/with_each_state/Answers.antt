@@ -13,10 +13,10 @@ with_inputs_among-rest-requires-clause-few c =
     omega (arith, most, times)
 
 pub loop-i-preserved : goal.loop-i-preserved
-loop-i-preserved c = λ k v room order may h.
+loop-i-preserved c = λ k v space order may h.
     let i = c.loop-i.i in
     let others = c.args.others.now in
     let same = counts_same (is_among (slice_index c.args.counts.now.states i ∷ [])) others v order in
     let times = c.requires.counts.times i c.loop-i-test.true in
-    and_both c.loop-i.rest c.with_inputs_among-rest.result k (c.loop-i.invariant k v room order may h)
-    (c.with_inputs_among-rest.ensures k v room (order_length others v order) may (omega (arith, same, times)))
+    and_both c.loop-i.rest c.with_inputs_among-rest.result k (c.loop-i.invariant k v space order may h)
+    (c.with_inputs_among-rest.ensures k v space (order_length others v order) may (omega (arith, same, times)))

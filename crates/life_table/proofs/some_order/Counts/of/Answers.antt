@@ -15,18 +15,18 @@ loop-i-preserved c =
     let before = c.loop-i.invariant in
     elim c.if-not-contains.branch [
       | then-not-contains w ↦
-          let room : count < length states = omega (arith, before.few, before.size, c.loop-i-test.true, c.requires) in
-          let space : count < length times = omega (arith, room, before.size, before.places) in
+          let place_fits : count < length states = omega (arith, before.few, before.size, c.loop-i-test.true, c.requires) in
+          let space : count < length times = omega (arith, place_fits, before.size, before.places) in
           let n = w.count_among.result in
           record {
             few = omega (arith, w.count-is, before.few);
             each = λ s h.
                 subst (λ (m : ℕ). is_among (take m c.if-not-contains.states) s ≡ true) (sym w.count-is)
                 (subst (λ (xs : List ℕ). is_among (take (count + 1) xs) s ≡ true) (sym w.states-is)
-                (among_pushed others states i count c.loop-i-test.true before.each room s h));
+                (among_pushed others states i count c.loop-i-test.true before.each place_fits s h));
             counted = λ j below.
                 ap (λ (xs : List ℕ). slice_index xs j) w.times-is
-                ∙ counted_more others states times count y n room space w.count_among.ensures before.counted j (omega (arith, below, w.count-is))
+                ∙ counted_more others states times count y n place_fits space w.count_among.ensures before.counted j (omega (arith, below, w.count-is))
                 ∙ ap (λ (xs : List ℕ). count_by (is_among (slice_index xs j ∷ [])) others) (sym w.states-is);
             size = ap length w.states-is ∙ length-set states count y ∙ before.size;
             places = ap length w.times-is ∙ length-set times count n ∙ before.places;

@@ -16,7 +16,7 @@ given_by-requires-clause-site c =
     ap length c.as_slice-cells.ensures ∙ c.requires.neighbours in
     record {
       some = omega (arith, few.0, size);
-      room = omega (arith, few.1, size);
+      space = omega (arith, few.1, size);
       choosable = rw c.as_slice-vars.ensures (choosable c.args.self.now.n_states c.args.self.now.vars c.args.self.now.sound.variables);
       seen = subst (λ others. IsSeen c.as_slice-vars.result.now others c.new-seen.result) (rest_of c.as_slice-cells.result.now) c.new-seen.ensures;
     }

@@ -19,7 +19,7 @@ pub loop-rest-preserved-then-not-is_empty : goal.loop-rest-preserved-then-not-is
 loop-rest-preserved-then-not-is_empty g c = record {
   can = record {
     callable = c.listed_outcome-outcome.ensures.callable;
-    hears = hears_on _ _ _ _ _ _ _ _ c.put.ensures.2.told;
+    hears = hears_on _ _ _ _ _ _ _ _ c.put.ensures.2.reported;
   };
   ends = c.loop-rest.invariant.ends;
   form = c.listed_outcome-outcome.ensures.form ∙ c.loop-rest.invariant.form;

@@ -14,7 +14,7 @@ loop-word-preserved g c =
     record {
       can = record {
         callable = c.outcome-outcome.ensures.callable;
-        hears = hears_on _ _ _ _ _ _ _ _ c.put.ensures.2.told;
+        hears = hears_on _ _ _ _ _ _ _ _ c.put.ensures.2.reported;
       };
       form = c.outcome-outcome.ensures.form ∙ c.loop-word.invariant.form;
       gathers = gathers_next _ _ _ _ _ _ _ _ _ _ _ _ _ _ _ _ _ _ _ _ _ _ _

@@ -12,7 +12,7 @@ pub take_list-requires : goal.take_list-requires
 take_list-requires g c = record {
   callable = c.in_ok-take_words.ensures.callable;
   works = c.in_ok-take_words.ensures.sink.works;
-  hears = hears_on _ _ _ _ _ _ _ _ c.in_ok-take_words.ensures.took.2.writes.told;
+  hears = hears_on _ _ _ _ _ _ _ _ c.in_ok-take_words.ensures.took.2.writes.reported;
 }
 
 pub returns-in_err-take_words-clause-took : goal.returns-in_err-take_words-clause-took

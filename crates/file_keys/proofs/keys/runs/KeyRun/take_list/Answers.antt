@@ -24,7 +24,7 @@ loop-rest-preserved-in-Continue-1 g c = record {
   can = record {
     callable = c.listed_outcome-outcome.ensures.callable;
     works = c.in_ok-put.ensures.sink.works;
-    hears = hears_on _ _ _ _ _ _ _ _ c.in_ok-put.ensures.taken.2.told;
+    hears = hears_on _ _ _ _ _ _ _ _ c.in_ok-put.ensures.processed.2.reported;
   };
   stalled = c.in_ok-put.ensures.sink.stalled ∙ c.loop-rest.invariant.stalled;
   style = c.in_ok-put.ensures.style ∙ c.loop-rest.invariant.style;
@@ -33,7 +33,7 @@ loop-rest-preserved-in-Continue-1 g c = record {
   took = takes_next _ _ _ _ _ _ _ _ _ _ _ _ _ _ _ _ _ _ _ _ _ _ _ _ _ _ _ _
       c.loop-rest.invariant.form c.loop-rest.invariant.style
       (names_next _ _ c.loop-rest.rest.now c.first_name.result.0.now c.first_name.result.1.now c.loop-rest.invariant.ends c.first_name.ensures.first
-      (search rules)) refl c.loop-rest.invariant.took c.listed_outcome-outcome.ensures.takes c.in_ok-put.ensures.taken;
+      (search rules)) refl c.loop-rest.invariant.took c.listed_outcome-outcome.ensures.takes c.in_ok-put.ensures.processed;
 }
 
 pub returns-in_err-put-clause-took : goal.returns-in_err-put-clause-took
@@ -45,7 +45,7 @@ returns-in_err-put-clause-took g c =
       takes_err _ _ _ _ _ _ _ _ _ _ _ _ _ _ _ _ _ _ _ _ (takes_next _ _ _ _ _ _ _ _ _ _ _ _ _ _ _ _ _ _ _ _ _ _ _ _ _ _ _ _
           c.loop-rest.invariant.form c.loop-rest.invariant.style
           (names_next _ _ c.loop-rest.rest.now c.first_name.result.0.now c.first_name.result.1.now c.loop-rest.invariant.ends c.first_name.ensures.first
-          (search rules)) refl c.loop-rest.invariant.took c.listed_outcome-outcome.ensures.takes c.in_err-put.ensures.taken),
+          (search rules)) refl c.loop-rest.invariant.took c.listed_outcome-outcome.ensures.takes c.in_err-put.ensures.processed),
     )
 
 pub returns-in_err-put-clause-sink : goal.returns-in_err-put-clause-sink

@@ -17,7 +17,7 @@ returns-in_err-put-clause-took g c =
       takes_err _ _ _ _ _ _ _ _ _ _ _ _ _ _ _ _ _ _ _ _ (takes_next _ _ _ _ _ _ _ _ _ _ _ _ _ _ _ _ _ _ _ _ _ _ _ _ _ _ _ _
           c.loop-word.invariant.form c.loop-word.invariant.style
           (words_next c.args.words.now c.loop-word.word-index _ c.loop-word-test.true) c.as_bytes.ensures.value c.loop-word.invariant.took
-          (by_call c.origin_of.result comes.0 c.origin_of.ensures comes.1 comes.2) c.in_err-put.ensures.taken),
+          (by_call c.origin_of.result comes.0 c.origin_of.ensures comes.1 comes.2) c.in_err-put.ensures.processed),
     )
 
 pub loop-word-preserved : goal.loop-word-preserved
@@ -27,7 +27,7 @@ loop-word-preserved g c =
       can = record {
         callable = c.outcome-outcome.ensures.callable;
         works = c.in_ok-put.ensures.sink.works;
-        hears = hears_on _ _ _ _ _ _ _ _ c.in_ok-put.ensures.taken.2.told;
+        hears = hears_on _ _ _ _ _ _ _ _ c.in_ok-put.ensures.processed.2.reported;
       };
       stalled = c.in_ok-put.ensures.sink.stalled ∙ c.loop-word.invariant.stalled;
       style = c.in_ok-put.ensures.style ∙ c.loop-word.invariant.style;
@@ -35,5 +35,5 @@ loop-word-preserved g c =
       took = takes_next _ _ _ _ _ _ _ _ _ _ _ _ _ _ _ _ _ _ _ _ _ _ _ _ _ _ _ _
           c.loop-word.invariant.form c.loop-word.invariant.style
           (words_next c.args.words.now c.loop-word.word-index _ c.loop-word-test.true) c.as_bytes.ensures.value c.loop-word.invariant.took
-          (by_call c.origin_of.result comes.0 c.origin_of.ensures comes.1 comes.2) c.in_ok-put.ensures.taken;
+          (by_call c.origin_of.result comes.0 c.origin_of.ensures comes.1 comes.2) c.in_ok-put.ensures.processed;
     }

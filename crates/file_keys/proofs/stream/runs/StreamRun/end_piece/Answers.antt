@@ -5,10 +5,10 @@ use Rattle.file_keys.proofs.stream.runs.StreamRun.end_piece.Goals as goal
 
 pub returns-clause-entry : goal.returns-clause-entry
 returns-clause-entry g c = λ piece holds.
-    let taken = c.taken-outcome.ensures piece holds in
+    let processed = c.processed-outcome.ensures piece holds in
     entry_of _ _ _ _ _ _ _ _ _ _ c.put_warned.result c.args.self.now.form _ piece _ _ _ (c.as_bytes-name.ensures.value ∙ c.format.ensures.text)
-    taken.0 taken.1 c.put_warned.ensures.entry
+    processed.0 processed.1 c.put_warned.ensures.entry
 
 pub returns-clause-can : goal.returns-clause-can
 returns-clause-can g c =
-    goes_on _ c.put_warned.result _ _ c.put_warned.ensures.sink.works (hears_on _ _ _ _ _ _ _ _ c.put_warned.ensures.entry.writes.told)
+    goes_on _ c.put_warned.result _ _ c.put_warned.ensures.sink.works (hears_on _ _ _ _ _ _ _ _ c.put_warned.ensures.entry.writes.reported)

@@ -29,12 +29,12 @@ loop-at-preserved g c =
       stalled = c.in_ok-end_piece.ensures.sink.stalled ∙ before.stalled;
       within = within_next c.loop-at.rest.now c.in-Some.at _ _ _ found.0.high c.in_ok-end_piece.ensures.count before.within;
       took = λ begun holds.
-          let (front, left, own, split, took) = before.took begun holds in (
-            front ++ (take c.in-Some.at c.loop-at.rest.now ++ 0 ∷ []),
+          let (prefix, left, own, split, took) = before.took begun holds in (
+            prefix ++ (take c.in-Some.at c.loop-at.rest.now ++ 0 ∷ []),
             [],
             c.in_ok-end_piece.ensures.begun,
-            split_next c.args.chunk.now front c.loop-at.rest.now c.in-Some.at split nul.1,
-            pieces_next _ _ _ _ c.args.self.now.form _ _ _ _ begun front left (take c.in-Some.at c.loop-at.rest.now) _ _ _ _ _ _ _ _ _ _ _
+            split_next c.args.chunk.now prefix c.loop-at.rest.now c.in-Some.at split nul.1,
+            pieces_next _ _ _ _ c.args.self.now.form _ _ _ _ begun prefix left (take c.in-Some.at c.loop-at.rest.now) _ _ _ _ _ _ _ _ _ _ _
                 before.form c.in_ok-end_piece.ensures.count refl before.style own.no_end nul.0 took
                 (c.in_ok-end_piece.ensures.entry (left ++ take c.in-Some.at c.loop-at.rest.now) (c.add.ensures left own)),
           );
@@ -47,13 +47,13 @@ returns-in_err-end_piece-clause-took g c =
     let nul = nul_at c.loop-at.rest.now c.in-Some.at found.0.high found.0.before found.1 in
     let before = c.loop-at.invariant in
     rw p.1 (λ begun holds.
-    let (front, left, own, split, took) = before.took begun holds in
-    let next = pieces_next _ _ _ _ c.args.self.now.form _ _ _ _ begun front left (take c.in-Some.at c.loop-at.rest.now) _ _ _ _ _ _ _ _ _ _ _
+    let (prefix, left, own, split, took) = before.took begun holds in
+    let next = pieces_next _ _ _ _ c.args.self.now.form _ _ _ _ begun prefix left (take c.in-Some.at c.loop-at.rest.now) _ _ _ _ _ _ _ _ _ _ _
     before.form c.in_err-end_piece.ensures.count refl before.style own.no_end nul.0 took
     (c.in_err-end_piece.ensures.entry (left ++ take c.in-Some.at c.loop-at.rest.now) (c.add.ensures left own)) in (
       _,
       tt,
-      pieces_all _ _ _ _ _ _ _ begun _ [] _ c.args.chunk.now _ _ _ _ _ _ _ (split_next c.args.chunk.now front c.loop-at.rest.now c.in-Some.at split nul.1)
+      pieces_all _ _ _ _ _ _ _ begun _ [] _ c.args.chunk.now _ _ _ _ _ _ _ (split_next c.args.chunk.now prefix c.loop-at.rest.now c.in-Some.at split nul.1)
           (pieces_err _ _ _ _ _ _ _ begun _ [] _ _ _ _ _ _ _ _ next),
     ))
 
@@ -76,8 +76,8 @@ add-requires-2 g c =
 
 pub returns-clause-took : goal.returns-clause-took
 returns-clause-took g c = λ begun holds.
-    let (front, left, own, split, took) = c.loop-at.invariant.took begun holds in (
+    let (prefix, left, own, split, took) = c.loop-at.invariant.took begun holds in (
       left ++ c.loop-at.rest.now,
       c.add-2.ensures left own,
-      pieces_all _ _ _ _ _ _ _ begun front left _ c.args.chunk.now _ _ _ _ _ _ _ split took,
+      pieces_all _ _ _ _ _ _ _ begun prefix left _ c.args.chunk.now _ _ _ _ _ _ _ split took,
     )

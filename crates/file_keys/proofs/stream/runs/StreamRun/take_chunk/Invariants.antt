@@ -9,8 +9,8 @@ invariant-loop-at g l = record {
   style : l.self.outputs.style ≡ l.initial.self.outputs.style;
   stalled : g.W.Sink.stalled l.out ≡ g.W.Sink.stalled l.initial.out;
   within : l.self.count + length l.rest ≤ l.initial.self.count + length l.chunk;
-  took : (begun : List ℕ) → HoldsPiece l.initial.self.piece begun → (front left : List ℕ) × HoldsPiece l.self.piece left × (l.chunk ≡ front ++ l.rest)
-      × TakesPieces g.W.Sink.contents g.E.Sink.contents g.E.Sink.failures g.E.Sink.stalled l.initial.self.form l.initial.self.count l.self.count begun front
+  took : (begun : List ℕ) → HoldsPiece l.initial.self.piece begun → (prefix left : List ℕ) × HoldsPiece l.self.piece left × (l.chunk ≡ prefix ++ l.rest)
+      × TakesPieces g.W.Sink.contents g.E.Sink.contents g.E.Sink.failures g.E.Sink.stalled l.initial.self.form l.initial.self.count l.self.count begun prefix
       left l.initial.out l.out l.initial.err l.err l.initial.self.outputs l.self.outputs (Ok tt);
 }
 

@@ -1,6 +1,0 @@
-use Rattle.life_base.specs.declared.cell.TheConstants.{MAX_LEVEL}
-use Rattle.life_mc.proofs.FormatLaws as law
-use Rattle.life_mc.proofs.laws.fronts_are_files.Goals as goal
-
-pub returns : goal.returns
-returns c = law.fronts_are_files MAX_LEVEL

@@ -1,0 +1,6 @@
+use Rattle.life_base.specs.declared.cell.TheConstants.{MAX_LEVEL}
+use Rattle.life_mc.proofs.FormatLaws as law
+use Rattle.life_mc.proofs.laws.prefixes_are_unbroken.Goals as goal
+
+pub returns : goal.returns
+returns c = law.prefixes_are_unbroken MAX_LEVEL
