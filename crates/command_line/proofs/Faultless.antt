@@ -451,7 +451,7 @@ canon_whole words none =
 
 show_whole : (words : List Text) → IsWholeAt words (leaf show_line)
 show_whole words none =
-    let all : ArePlain (leaf show_line).rules = (inl (refl, omega arith), (inr (inl (refl, omega arith)), (inr (inr refl), tt))) in
+    let all : ArePlain (leaf show_line).rules = (inl (refl, omega arith), (inl (refl, omega arith), (inr (inl (refl, omega arith)), (inr (inr refl), tt)))) in
     inl (Show, refl, one_there words (leaf show_line) all none _ (codes "FILE") refl)
 
 step_whole : (words : List Text) → IsWholeAt words (leaf step_line)

@@ -6,13 +6,13 @@ use Rattle.clap.proofs.WalkLemmas.{raw_values-rows}
 use Rattle.clap.specs.declared.error.Error.{Error}
 use Rattle.clap.specs.declared.error.kind.ErrorKind.{ErrorKind}
 use Rattle.clap.specs.declared.error.kind.ErrorKind.TheVariants.{InvalidSubcommand, InvalidValue}
-use Rattle.command_line.specs.Plans.{AreOfAnyFiles, Explains, ExplainsPlan, HasSecond, HoldsForm, HoldsGenerations, HoldsMatches, IfWork, IsKeysPlanOf, IsRequestOf, IsStreamPlanOf, IsFoundAmong, IsTaskPlanOf, NamesGenerations, NamesInputTwice, NamesOtherForm, RefusesAs, RefusesWord, TakesAnyFiles, HasNoJob, command_of, form_word, values_of}
+use Rattle.command_line.specs.Plans.{AreOfAnyFiles, Explains, ExplainsPlan, HasSecond, HoldsForm, HoldsGenerations, HoldsMatches, HoldsPeriod, IfWork, IsKeysPlanOf, IsRequestOf, IsStreamPlanOf, IsFoundAmong, IsTaskPlanOf, NamesGenerations, NamesInputTwice, NamesOtherForm, NamesPeriod, RefusesAs, RefusesWord, TakesAnyFiles, HasNoJob, command_of, form_word, values_of}
 use Rattle.command_line.specs.declared.plans.Form.{Form}
 use Rattle.command_line.specs.declared.plans.Form.TheVariants.{Placed}
 use Rattle.command_line.specs.declared.plans.KeysPlan.{KeysPlan}
 use Rattle.command_line.specs.declared.plans.StreamPlan.{StreamPlan}
 use Rattle.command_line.specs.declared.plans.Task.{Task}
-use Rattle.command_line.specs.declared.plans.Task.TheVariants.{Canon, Convert, Same, Show, Step, StepTable, Later, LaterTable}
+use Rattle.command_line.specs.declared.plans.Task.TheVariants.{Canon, Convert, Same, Show, ShowPeriod, Step, StepTable, Later, LaterTable}
 use Rattle.command_line.specs.declared.plans.TaskPlan.{TaskPlan}
 use Rattle.command_line.specs.declared.plans.Request.{Request}
 use Rattle.command_line.specs.declared.plans.Request.TheVariants.{Work, Keys, Stream, Duplicates}
@@ -28,7 +28,8 @@ files_of_task : (task : Task) (rows : List Row) (p : TaskPlan) → HoldsMatches 
 files_of_task (Canon form) rows p ((file, none), is) = (λ some. absurd (has_none p.second none some), λ bad. absurd bad)
 files_of_task (Convert target) rows p ((file, none), to) = (λ some. absurd (has_none p.second none some), λ bad. absurd bad)
 files_of_task (Same form) rows p ((first, second, some), is) = (λ there. tt, λ has. some)
-files_of_task Show rows p (file, none) = (λ some. absurd (has_none p.second none some), λ bad. absurd bad)
+files_of_task Show rows p ((file, none), period) = (λ some. absurd (has_none p.second none some), λ bad. absurd bad)
+files_of_task (ShowPeriod most) rows p ((file, none), period) = (λ some. absurd (has_none p.second none some), λ bad. absurd bad)
 files_of_task Step rows p ((file, none), table, one) = (λ some. absurd (has_none p.second none some), λ bad. absurd bad)
 files_of_task StepTable rows p ((first, second, some), one) = (λ there. tt, λ has. some)
 files_of_task (Later n) rows p ((file, none), table, many) = (λ some. absurd (has_none p.second none some), λ bad. absurd bad)
@@ -90,19 +91,24 @@ form_found rows form (inr is) other = (form, other, is)
 number_found : (rows : List Row) (n : ℕ) → HoldsGenerations rows (Some n) → IsFoundAmong (codes "generations") rows
 number_found rows n (word, there, number) = subst (λ (found : Option Text). IsSome found) (sym there) refl
 
+-- a greatest period is one that was found
+period_found : (rows : List Row) (n : ℕ) → HoldsPeriod rows (Some n) → IsFoundAmong (codes "period") rows
+period_found rows n (word, there, number, some) = subst (λ (found : Option Text). IsSome found) (sym there) refl
+
 no_job_named : (task : Task) (m : Text × List Row) (p : TaskPlan) → m.0 ≡ command_of task → HoldsMatches task m.1 p → HasNoJob task
-    → NamesOtherForm (Some m) ⊎ NamesGenerations (Some m)
+    → NamesOtherForm (Some m) ⊎ (NamesGenerations (Some m) ⊎ NamesPeriod (Some m))
 no_job_named (Canon form) m p is (file, held) other = inl (inl is, form_found m.1 form held other)
 no_job_named (Convert target) m p is held other = absurd other
 no_job_named (Same form) m p is (files, held) other = inl (inr is, form_found m.1 form held other)
 no_job_named Show m p is held other = absurd other
+no_job_named (ShowPeriod most) m p is (file, period) other = inr (inr (is, period_found m.1 most period))
 no_job_named Step m p is held other = absurd other
 no_job_named StepTable m p is held other = absurd other
-no_job_named (Later n) m p is (file, table, number) other = inr (is, number_found m.1 n number)
-no_job_named (LaterTable n) m p is (files, number) other = inr (is, number_found m.1 n number)
+no_job_named (Later n) m p is (file, table, number) other = inr (inl (is, number_found m.1 n number))
+no_job_named (LaterTable n) m p is (files, number) other = inr (inl (is, number_found m.1 n number))
 
 no_job_of_plan : (matches : Option (Text × List Row)) (p : TaskPlan) → IsTaskPlanOf matches p → HasNoJob p.task
-    → NamesOtherForm matches ⊎ NamesGenerations matches
+    → NamesOtherForm matches ⊎ (NamesGenerations matches ⊎ NamesPeriod matches)
 no_job_of_plan None p is other = absurd is
 no_job_of_plan (Some m) p is other = no_job_named p.task m p is.0 is.1 other
 

@@ -1,5 +1,5 @@
 -- What the matches of a task's command are, why it is refused, and what its plan holds.
-use Rattle.std.proofs.Common.{◌≡◌, ◌≢◌, ◌⊎◌, ◌∙◌, true, false, codes, refl, [], List, Option, Some, None, ℕ, unwrap_or, option_map, Result, IfOk, IfErr, OnOk, Ok, Err, ap, ap₂, sym, subst, inl, inr}
+use Rattle.std.proofs.Common.{◌≡◌, ◌≢◌, ◌⊎◌, ◌∙◌, true, false, codes, refl, [], List, Option, Some, None, ℕ, arith, unwrap_or, option_map, Result, IfOk, IfErr, OnOk, Ok, Err, ap, ap₂, sym, subst, inl, inr}
 use Rattle.std.proofs.lemmas.Bool.{false≢true}
 use Rattle.std.proofs.lemmas.Result.{IfOk-weaker, IfErr-weaker}
 use Rattle.std.specs.Str.{bytes_eq}
@@ -8,11 +8,11 @@ use Rattle.clap.specs.Words.{Row, Text, first_of, found_of, rows_of, subcommand_
 use Rattle.clap.specs.declared.parser.matches.ArgMatches.{ArgMatches}
 use Rattle.clap.specs.declared.parser.matches.ArgMatches.TheViews.{out-ArgMatches, out-SubCommand}
 use Rattle.std.specs.Box.{box_value}
-use Rattle.command_line.specs.Plans.{AreOfTask, AreWhole, Explains, HasNoForm, HasNoFormat, HasNoNumber, HasOneFile, HasRequired, HoldsFiles, HoldsFlag, HoldsForm, HoldsGenerations, HoldsMatches, IsFoundAmong, IsTaskPlanOf, LacksFiles, NamesInputTwice, NamesNoFiles, NamesNoForm, NamesNoFormat, NamesNoNumber, NamesNoValue, RefusesKeys, RefusesStream, RefusesWord, TakesAnyFiles, command_of, target_word}
+use Rattle.command_line.specs.Plans.{AreOfTask, AreWhole, Explains, HasNoForm, HasNoFormat, HasNoNumber, HasNoPeriod, HasOneFile, HasRequired, HoldsFiles, HoldsFlag, HoldsForm, HoldsGenerations, HoldsMatches, HoldsPeriod, IsFoundAmong, IsTaskPlanOf, LacksFiles, NamesInputTwice, NamesNoFiles, NamesNoForm, NamesNoFormat, NamesNoNumber, NamesNoPeriod, NamesNoValue, RefusesKeys, RefusesStream, RefusesWord, TakesAnyFiles, command_of, target_word}
 use Rattle.command_line.specs.declared.plans.Form.{Form}
 use Rattle.command_line.specs.declared.plans.Target.{Target}
 use Rattle.command_line.specs.declared.plans.Task.{Task}
-use Rattle.command_line.specs.declared.plans.Task.TheVariants.{Canon, Convert, Same, Show, Step, StepTable, Later, LaterTable}
+use Rattle.command_line.specs.declared.plans.Task.TheVariants.{Canon, Convert, Same, Show, ShowPeriod, Step, StepTable, Later, LaterTable}
 use Rattle.command_line.specs.declared.plans.TaskPlan.{TaskPlan}
 use Rattle.command_line.specs.declared.plans.Usage.{Usage}
 use Rattle.command_line.specs.declared.plans.Usage.TheVariants.{Words, TwoInputs, Memory}
@@ -29,6 +29,7 @@ file_of_task (Canon form) rows other h = h
 file_of_task (Convert target) rows other h = h.0
 file_of_task (Same form) rows other h = absurd (other refl)
 file_of_task Show rows other h = h
+file_of_task (ShowPeriod most) rows other h = h
 file_of_task Step rows other h = h
 file_of_task StepTable rows other h = h
 file_of_task (Later n) rows other h = h
@@ -45,6 +46,7 @@ format_of command rows is (Canon form, named, h) = absurd (apart (codes "canon")
 format_of command rows is (Convert target, named, h) = h.1
 format_of command rows is (Same form, named, h) = absurd (apart (codes "same") (codes "convert") refl refl (sym named ∙ is))
 format_of command rows is (Show, named, h) = absurd (apart (codes "show") (codes "convert") refl refl (sym named ∙ is))
+format_of command rows is (ShowPeriod most, named, h) = absurd (apart (codes "show") (codes "convert") refl refl (sym named ∙ is))
 format_of command rows is (Step, named, h) = absurd (apart (codes "step") (codes "convert") refl refl (sym named ∙ is))
 format_of command rows is (StepTable, named, h) = absurd (apart (codes "step") (codes "convert") refl refl (sym named ∙ is))
 format_of command rows is (Later n, named, h) = absurd (apart (codes "step") (codes "convert") refl refl (sym named ∙ is))
@@ -57,6 +59,7 @@ pair_of command rows is (Canon form, named, h) = absurd (apart (codes "canon") (
 pair_of command rows is (Convert target, named, h) = absurd (apart (codes "convert") (codes "same") refl refl (sym named ∙ is))
 pair_of command rows is (Same form, named, h) = h
 pair_of command rows is (Show, named, h) = absurd (apart (codes "show") (codes "same") refl refl (sym named ∙ is))
+pair_of command rows is (ShowPeriod most, named, h) = absurd (apart (codes "show") (codes "same") refl refl (sym named ∙ is))
 pair_of command rows is (Step, named, h) = absurd (apart (codes "step") (codes "same") refl refl (sym named ∙ is))
 pair_of command rows is (StepTable, named, h) = absurd (apart (codes "step") (codes "same") refl refl (sym named ∙ is))
 pair_of command rows is (Later n, named, h) = absurd (apart (codes "step") (codes "same") refl refl (sym named ∙ is))
@@ -69,6 +72,7 @@ no_other command rows canon convert same show step (Canon form, named, h) = cano
 no_other command rows canon convert same show step (Convert target, named, h) = convert named
 no_other command rows canon convert same show step (Same form, named, h) = same named
 no_other command rows canon convert same show step (Show, named, h) = show named
+no_other command rows canon convert same show step (ShowPeriod most, named, h) = show named
 no_other command rows canon convert same show step (Step, named, h) = step named
 no_other command rows canon convert same show step (StepTable, named, h) = step named
 no_other command rows canon convert same show step (Later n, named, h) = step named
@@ -107,6 +111,19 @@ number_is_held rows (Some n) (named, there, is) (word, found, no_number) =
     let same : named ≡ word = some_of named word (sym there ∙ found) in
     no_number n (ap u64_of (sym same) ∙ is)
 
+-- and a greatest period by a word that isn't 0, and isn't no number
+pub period_is_held : (rows : List Row) (most : Option ℕ) → HoldsPeriod rows most → ¬ HasNoPeriod rows
+period_is_held rows None none (word, found, no_period) = absurd cc
+period_is_held rows (Some n) (named, there, is, some) (word, found, no_period) =
+    let same : named ≡ word = some_of named word (sym there ∙ found) in
+    let zero : n ≡ 0 = no_period n (ap u64_of (sym same) ∙ is) in
+    omega (arith, some, zero)
+
+-- no other command than `show` has a greatest period
+takes_no_period : (x command : Text) (rows : List Row) → bytes_eq x x ≡ true → bytes_eq x (codes "show") ≡ false → command ≡ x
+    → ¬ NamesNoPeriod (Some (command, rows))
+takes_no_period x command rows same other is named = apart x (codes "show") same other (sym is ∙ named.0)
+
 -- no other command than `step` has a number of generations
 takes_no_number : (x command : Text) (rows : List Row) → bytes_eq x x ≡ true → bytes_eq x (codes "step") ≡ false → command ≡ x
     → ¬ NamesNoNumber (Some (command, rows))
@@ -125,23 +142,25 @@ takes_no_form x command rows same canon pair keys groups is (inr (inl e), word) 
 takes_no_form x command rows same canon pair keys groups is (inr (inr (inl e)), word) = apart x (codes "keys") same keys (sym is ∙ e)
 takes_no_form x command rows same canon pair keys groups is (inr (inr (inr e)), word) = apart x (codes "duplicates") same groups (sym is ∙ e)
 
--- neither of the three words is at fault
-no_value : (m : Option (Text × List Row)) → (¬ NamesNoFormat m) → (¬ NamesNoForm m) → (¬ NamesNoNumber m) → ¬ NamesNoValue m
-no_value m format form number (inl h) = format h
-no_value m format form number (inr (inl h)) = form h
-no_value m format form number (inr (inr h)) = number h
+-- none of the four words is at fault
+no_value : (m : Option (Text × List Row)) → (¬ NamesNoFormat m) → (¬ NamesNoForm m) → (¬ NamesNoNumber m) → (¬ NamesNoPeriod m) → ¬ NamesNoValue m
+no_value m format form number period (inl h) = format h
+no_value m format form number period (inr (inl h)) = form h
+no_value m format form number period (inr (inr (inl h))) = number h
+no_value m format form number period (inr (inr (inr h))) = period h
 
 out_of_memory : (m : Text × List Row) (usage : Usage) → AreOfTask (Some m) → (¬ NamesNoValue (Some m)) → (¬ NamesInputTwice (Some m)) → usage ≡ Memory
     → Explains [] (Some m) usage
 out_of_memory m usage task value once is = subst (Explains [] (Some m)) (sym is) (refl, task, value, once)
 
 -- all that was left was to copy the names of the files
-pub no_memory : (m : Text × List Row) (x : Text) (r : Result TaskPlan Usage) → bytes_eq x x ≡ true → bytes_eq x (codes "step") ≡ false → m.0 ≡ x
-    → AreOfTask (Some m) → (¬ NamesNoFormat (Some m)) → (¬ NamesNoForm (Some m)) → (¬ NamesInputTwice (Some m)) → IfErr r (λ usage. usage ≡ Memory)
-    → IfErr r (Explains [] (Some m))
-no_memory m x r same other named task format form once =
+pub no_memory : (m : Text × List Row) (x : Text) (r : Result TaskPlan Usage) → bytes_eq x x ≡ true → bytes_eq x (codes "step") ≡ false
+    → bytes_eq x (codes "show") ≡ false → m.0 ≡ x → AreOfTask (Some m) → (¬ NamesNoFormat (Some m)) → (¬ NamesNoForm (Some m))
+    → (¬ NamesInputTwice (Some m)) → IfErr r (λ usage. usage ≡ Memory) → IfErr r (Explains [] (Some m))
+no_memory m x r same other unlike named task format form once =
     let number = takes_no_number x m.0 m.1 same other named in
-    IfErr-weaker r _ (Explains [] (Some m)) (λ usage is. out_of_memory m usage task (no_value (Some m) format form number) once is)
+    let period = takes_no_period x m.0 m.1 same unlike named in
+    IfErr-weaker r _ (Explains [] (Some m)) (λ usage is. out_of_memory m usage task (no_value (Some m) format form number period) once is)
 
 -- a word at fault explains the refusal
 pub word_explains : (m : Text × List Row) (is_such : Type 0) (usage : Usage) → (is_such → NamesNoValue (Some m))
@@ -172,15 +191,30 @@ stream_explains m usage is found once (inr h) = word_explains m (HasNoForm m.1) 
 -- why `step` has no plan: the word after --generations, or no memory for the names of the files
 step_usage : (m : Text × List Row) (usage : Usage) → m.0 ≡ codes "step" → AreOfTask (Some m) → (¬ NamesNoFormat (Some m)) → (¬ NamesNoForm (Some m))
     → (¬ NamesInputTwice (Some m)) → RefusesWord (HasNoNumber m.1) usage ⊎ ((usage ≡ Memory) × ¬ HasNoNumber m.1) → Explains [] (Some m) usage
-step_usage m usage is task format form once (inl h) = word_explains m (HasNoNumber m.1) usage (λ word. inr (inr (is, word))) once h
+step_usage m usage is task format form once (inl h) = word_explains m (HasNoNumber m.1) usage (λ word. inr (inr (inl (is, word)))) once h
 step_usage m usage is task format form once (inr (none, held)) =
-    out_of_memory m usage task (no_value (Some m) format form (λ named. held named.1)) once none
+    out_of_memory m usage task
+    (no_value (Some m) format form (λ named. held named.1) (takes_no_period (codes "step") m.0 m.1 refl refl is)) once none
 
 pub step_explains : (m : Text × List Row) (r : Result TaskPlan Usage) → m.0 ≡ codes "step" → AreOfTask (Some m) → (¬ NamesNoFormat (Some m))
     → (¬ NamesNoForm (Some m)) → (¬ NamesInputTwice (Some m))
     → IfErr r (λ usage. RefusesWord (HasNoNumber m.1) usage ⊎ ((usage ≡ Memory) × ¬ HasNoNumber m.1)) → IfErr r (Explains [] (Some m))
 step_explains m r is task format form once =
     IfErr-weaker r _ (Explains [] (Some m)) (λ usage h. step_usage m usage is task format form once h)
+
+-- and why `show` has none: the word after --period, or no memory
+show_usage : (m : Text × List Row) (usage : Usage) → m.0 ≡ codes "show" → AreOfTask (Some m) → (¬ NamesNoFormat (Some m)) → (¬ NamesNoForm (Some m))
+    → (¬ NamesInputTwice (Some m)) → RefusesWord (HasNoPeriod m.1) usage ⊎ ((usage ≡ Memory) × ¬ HasNoPeriod m.1) → Explains [] (Some m) usage
+show_usage m usage is task format form once (inl h) = word_explains m (HasNoPeriod m.1) usage (λ word. inr (inr (inr (is, word)))) once h
+show_usage m usage is task format form once (inr (none, held)) =
+    out_of_memory m usage task
+    (no_value (Some m) format form (takes_no_number (codes "show") m.0 m.1 refl refl is) (λ named. held named.1)) once none
+
+pub show_explains : (m : Text × List Row) (r : Result TaskPlan Usage) → m.0 ≡ codes "show" → AreOfTask (Some m) → (¬ NamesNoFormat (Some m))
+    → (¬ NamesNoForm (Some m)) → (¬ NamesInputTwice (Some m))
+    → IfErr r (λ usage. RefusesWord (HasNoPeriod m.1) usage ⊎ ((usage ≡ Memory) × ¬ HasNoPeriod m.1)) → IfErr r (Explains [] (Some m))
+show_explains m r is task format form once =
+    IfErr-weaker r _ (Explains [] (Some m)) (λ usage h. show_usage m usage is task format form once h)
 
 -- a command over any number of files is one of these two
 pub task_left : (m : Text × List Row) → m.0 ≢ codes "keys" → m.0 ≢ codes "duplicates" → AreWhole (Some m) → AreOfTask (Some m)

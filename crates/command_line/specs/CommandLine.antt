@@ -50,9 +50,9 @@ two_files_line name = with_rule (with_rule (new_app name) (required_file (codes 
 abbrev pub same_line : App
 same_line = with_explain (with_rule (two_files_line (codes "same")) (option (codes "form")))
 
--- show FILE, with an optional --explain
+-- show FILE, with an optional --period MOST and --explain
 abbrev pub show_line : App
-show_line = with_explain (one_file_line (codes "show"))
+show_line = with_explain (with_rule (one_file_line (codes "show")) (option (codes "period")))
 
 -- step FILE, with an optional --table RULE, --generations N and --explain
 abbrev pub step_line : App

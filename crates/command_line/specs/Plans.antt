@@ -1,5 +1,5 @@
 -- What the words of a command line ask for.
-use Rattle.std.specs.Prelude.{◌≡◌, ◌≢◌, ◌⊎◌, ◌<◌, ◌+◌, [], ℕ, Bool, true, false, List, Option, Some, None, IsSome, MatchOption, codes, string_bytes, option_map, unwrap_or, map, count_by, Result, Ok}
+use Rattle.std.specs.Prelude.{◌≡◌, ◌≢◌, ◌⊎◌, ◌<◌, ◌≤◌, ◌+◌, [], ℕ, Bool, true, false, List, Option, Some, None, IsSome, MatchOption, codes, string_bytes, option_map, unwrap_or, map, count_by, Ok}
 use Rattle.std.specs.Str.{bytes_eq}
 use Rattle.life_base.specs.Numbers.{u64_of}
 use Rattle.clap.specs.Words.{Row, Text, Kinds, IsAmong, all_of, first_of, kind_of, one_of}
@@ -10,7 +10,7 @@ use Rattle.command_line.specs.declared.plans.Form.TheVariants.{Placed, Moved, Tu
 use Rattle.command_line.specs.declared.plans.Job.{Job}
 use Rattle.command_line.specs.declared.plans.Job.TheVariants as jobs
 use Rattle.command_line.specs.declared.plans.Task.{Task}
-use Rattle.command_line.specs.declared.plans.Task.TheVariants.{Canon, Convert, Same, Show, Step, StepTable, Later, LaterTable}
+use Rattle.command_line.specs.declared.plans.Task.TheVariants.{Canon, Convert, Same, Show, ShowPeriod, Step, StepTable, Later, LaterTable}
 use Rattle.command_line.specs.declared.plans.Target.{Target}
 use Rattle.command_line.specs.declared.plans.Target.TheVariants.{Rle, Mc}
 use Rattle.command_line.specs.declared.plans.Plan.{Plan}
@@ -51,10 +51,11 @@ task_of jobs.StepTable = StepTable
 abbrev pub task_plan_of : Bool → Plan → TaskPlan
 task_plan_of explain p = record { task = task_of p.job; first = p.first; second = p.second; explain = explain }
 
--- the task is that of no job: it takes patterns in another form than as they lie, or a number of generations
+-- the task is that of no job: it takes patterns in another form than as they lie, or a number of generations or a greatest period
 abbrev pub HasNoJob : Task → Type 0
 HasNoJob (Canon form) = form ≢ Placed
 HasNoJob (Same form) = form ≢ Placed
+HasNoJob (ShowPeriod most) = Unit {0}
 HasNoJob (Later generations) = Unit {0}
 HasNoJob (LaterTable generations) = Unit {0}
 HasNoJob _ = ⊥
@@ -65,6 +66,7 @@ command_of (Canon form) = codes "canon"
 command_of (Convert target) = codes "convert"
 command_of (Same form) = codes "same"
 command_of Show = codes "show"
+command_of (ShowPeriod most) = codes "show"
 command_of Step = codes "step"
 command_of StepTable = codes "step"
 command_of (Later generations) = codes "step"
@@ -96,12 +98,18 @@ abbrev pub HoldsGenerations : List Row → Option ℕ → Type 0
 HoldsGenerations rows generations = MatchOption generations (first_of (codes "generations") rows ≡ None)
     (λ n. (word : Text) × (first_of (codes "generations") rows ≡ Some word) × (u64_of word ≡ Ok n))
 
+-- the greatest period is the number that was asked for, which isn't 0, or there is none where none was
+abbrev pub HoldsPeriod : List Row → Option ℕ → Type 0
+HoldsPeriod rows most = MatchOption most (first_of (codes "period") rows ≡ None)
+    (λ n. (word : Text) × (first_of (codes "period") rows ≡ Some word) × (u64_of word ≡ Ok n) × (1 ≤ n))
+
 -- the plan's files and options are those that were found for the task's command
 abbrev pub HoldsMatches : Task → List Row → TaskPlan → Type 0
 HoldsMatches (Canon form) rows p = HasOneFile rows p × HoldsForm Placed rows form
 HoldsMatches (Convert target) rows p = HasOneFile rows p × (first_of (codes "to") rows ≡ Some (target_word target))
 HoldsMatches (Same form) rows p = HoldsFiles (codes "A") (codes "B") rows p × HoldsForm Placed rows form
-HoldsMatches Show rows p = HasOneFile rows p
+HoldsMatches Show rows p = HasOneFile rows p × HoldsPeriod rows None
+HoldsMatches (ShowPeriod most) rows p = HasOneFile rows p × HoldsPeriod rows (Some most)
 HoldsMatches Step rows p = HasOneFile rows p × (first_of (codes "table") rows ≡ None) × HoldsGenerations rows None
 HoldsMatches StepTable rows p = HoldsFiles (codes "FILE") (codes "table") rows p × HoldsGenerations rows None
 HoldsMatches (Later n) rows p = HasOneFile rows p × (first_of (codes "table") rows ≡ None) × HoldsGenerations rows (Some n)
@@ -227,6 +235,10 @@ HasNoForm rows = (word : Text) × (first_of (codes "form") rows ≡ Some word) �
 abbrev pub HasNoNumber : List Row → Type 0
 HasNoNumber rows = (word : Text) × (first_of (codes "generations") rows ≡ Some word) × ((n : ℕ) → u64_of word ≢ Ok n)
 
+-- the word after --period isn't a number from 1 to below 2^64: it is no number, or 0
+abbrev pub HasNoPeriod : List Row → Type 0
+HasNoPeriod rows = (word : Text) × (first_of (codes "period") rows ≡ Some word) × ((n : ℕ) → u64_of word ≡ Ok n → n ≡ 0)
+
 -- the refusal of words of which this holds, as this kind; or where `clap` was out of memory, as an OutOfMemory
 abbrev pub RefusesAs : ErrorKind → Type 0 → Usage → Type 0
 RefusesAs kind is_such (Words error) = (is_such × (kind_of error ≡ kind)) ⊎ (kind_of error ≡ OutOfMemory)
@@ -260,9 +272,14 @@ abbrev pub NamesNoNumber : Option (Text × List Row) → Type 0
 NamesNoNumber None = ⊥
 NamesNoNumber (Some matches) = (matches.0 ≡ codes "step") × HasNoNumber matches.1
 
+-- the matches are those of `show` with a word that is no greatest period
+abbrev pub NamesNoPeriod : Option (Text × List Row) → Type 0
+NamesNoPeriod None = ⊥
+NamesNoPeriod (Some matches) = (matches.0 ≡ codes "show") × HasNoPeriod matches.1
+
 -- the word after an option is none of its values
 abbrev pub NamesNoValue : Option (Text × List Row) → Type 0
-NamesNoValue matches = NamesNoFormat matches ⊎ (NamesNoForm matches ⊎ NamesNoNumber matches)
+NamesNoValue matches = NamesNoFormat matches ⊎ (NamesNoForm matches ⊎ (NamesNoNumber matches ⊎ NamesNoPeriod matches))
 
 -- the matches are those of `keys`, with neither a file, nor a list of files, nor a stream, or of `duplicates`, with neither a file nor a list
 abbrev pub NamesNoFiles : Option (Text × List Row) → Type 0
@@ -286,6 +303,11 @@ abbrev pub NamesGenerations : Option (Text × List Row) → Type 0
 NamesGenerations None = ⊥
 NamesGenerations (Some matches) = (matches.0 ≡ codes "step") × IsFoundAmong (codes "generations") matches.1
 
+-- the matches are those of `show` with a greatest period
+abbrev pub NamesPeriod : Option (Text × List Row) → Type 0
+NamesPeriod None = ⊥
+NamesPeriod (Some matches) = (matches.0 ≡ codes "show") × IsFoundAmong (codes "period") matches.1
+
 -- how many of the values under this name are standard input
 abbrev pub input_count_under : Text → List Row → ℕ
 input_count_under id rows = count_by (λ text. bytes_eq text (codes "-")) (values_of id rows)
@@ -301,10 +323,10 @@ NamesInputTwice None = ⊥
 NamesInputTwice (Some matches) = 1 < input_count matches.1
 
 -- Why words are refused in which `clap` finds these faults and these matches: since `clap` is out of memory; by the kind of a fault; in words
--- without a fault, since the word after --to is that of no format, the one after --form that of no form or the one after --generations no number, since
--- `keys` or `duplicates` is given neither a file nor a list, and no stream either, since `keys` is given files besides a stream, or since standard input is
--- named twice, which is reported before these. Memory comes only where
--- none of that is so, and the words ask for a task: all that is left to do is to copy the names of its files.
+-- without a fault, since the word after --to is that of no format, the one after --form that of no form, the one after --generations no number or the
+-- one after --period no number or 0, since `keys` or `duplicates` is given neither a file nor a list, and no stream either, since `keys` is given files
+-- besides a stream, or since standard input is named twice, which is reported before these. Memory comes only where none of that is so, and the words ask for
+-- a task: all that is left to do is to copy the names of its files.
 abbrev pub Explains : Kinds → Option (Text × List Row) → Usage → Type 0
 Explains faults matches (Words error) = (kind_of error ≡ OutOfMemory)
     ⊎ (IsAmong (kind_of error) faults
@@ -315,9 +337,9 @@ Explains faults matches TwoInputs = (faults ≡ []) × NamesInputTwice matches
 Explains faults matches Memory = (faults ≡ []) × AreOfTask matches × (¬ NamesNoValue matches) × (¬ NamesInputTwice matches)
 
 -- why words have no plan for a job: the same; or words without a fault that name standard input once at most ask for keys or duplicates, as an
--- InvalidSubcommand, or for another form than that of a pattern as it lies, or for a number of generations, as an InvalidValue
+-- InvalidSubcommand, or for another form than that of a pattern as it lies, or for a number of generations or a greatest period, as an InvalidValue
 abbrev pub ExplainsPlan : Kinds → Option (Text × List Row) → Usage → Type 0
 ExplainsPlan faults matches usage = Explains faults matches usage
     ⊎ ((faults ≡ []) × (¬ NamesInputTwice matches)
     × (RefusesAs InvalidSubcommand (AreOfAnyFiles matches) usage
-    ⊎ RefusesWord (NamesOtherForm matches ⊎ NamesGenerations matches) usage))
+    ⊎ RefusesWord (NamesOtherForm matches ⊎ (NamesGenerations matches ⊎ NamesPeriod matches)) usage))

@@ -31,6 +31,8 @@ pub enum Task {
     Same(Form),
     /// Write what the pattern is, in five lines.
     Show,
+    /// Write the same, and a line with the pattern's period under its own B/S rule, which is sought up to so many generations.
+    ShowPeriod(u64),
     /// Write the next generation, under the pattern's own B/S rule.
     Step,
     /// Write the next generation, by the rule table that is the second file.

@@ -158,6 +158,8 @@ fn show<'a>(alloc: Global) -> Result<Command<'a>, AllocError>
     ensures { IfOk result (ReadsAs show_line) }
 {
     let command = one_file(alloc, "show", SHOW);
+    let help = "Write the period too, if it is at most MOST: a number from 1 to 2^64 - 1";
+    let command = with_argument(command, option(alloc, "period", "MOST", help));
     with_explain(alloc, command)
 }
 

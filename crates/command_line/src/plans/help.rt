@@ -36,6 +36,7 @@ format and however they are written.",
   golly_canon canon glider.rle
   golly_canon same glider.rle glider.mc
   golly_canon show glider.mc
+  golly_canon show glider.rle --period 1000
   golly_canon convert glider.mc --to rle > glider.rle
   golly_canon step glider.rle
   golly_canon step glider.rle --generations 1000000
@@ -96,12 +97,14 @@ on standard error says what is wrong; if - is named twice, it is the line `TwoIn
   NotQuiet                the table makes live cells where all cells are 0
   Ambiguous               the line that fits a cell of the pattern gives it two states
  without a line:
-  NeedsTable       the rule is a name: `step` needs its rule table
+  NeedsTable       the rule is a name: `step` needs its rule table, and `--period`
+                   takes a B/S rule only
   RuleMismatch     the rule isn't the rule table's name
   StateBeyondTable a cell has a state that the rule table lacks
   GenerationTooLarge
                    a `step` to a generation above 2^64 - 1
-  OutOfPlane       in a `step`, a cell outside the plane wouldn't stay 0
+  OutOfPlane       in a `step`, or on the way to a period, a cell outside the plane
+                   wouldn't stay 0
   TooManyCells     more than 2^20 cells aren't 0: too many for `convert --to rle`
                    and for `step`, but not for `step --generations N`
   InputTooLong     a file has more than 2^30 bytes
@@ -220,7 +223,7 @@ See `golly_canon --help` for the lines on standard error.",
 };
 
 pub const SHOW: Help = Help {
-    summary: "Writes what a pattern file holds, in five lines",
+    summary: "Writes what a pattern file holds, in five lines, and its period if asked",
     about: "Writes what a pattern file holds, in five lines:
 
 rule R                      the rule in its canonical form
@@ -228,17 +231,35 @@ generation G                the generation
 population P                how many cells aren't 0
 box LEFT TOP WIDTH HEIGHT   the bounding box of these cells, or `box none`; y grows
                             downwards
-nodes N                     how many squares the canonical text has, a line each",
+nodes N                     how many squares the canonical text has, a line each
+
+With --period MOST it goes on with the pattern, under its B/S rule, until it is the same
+again, for MOST generations at most. A sixth line says after how many generations it
+was, for the first time, and what such a pattern is called:
+
+period 1 still life         nothing changes
+period N oscillator         it is the same again, in its place
+period N spaceship X Y      it is the same again, X columns further east and Y rows
+                            further south; -X is to the west, and -Y to the north
+period none up to MOST      it isn't the same again up to then: it is none of these, or
+                            its period is greater
+
+A glider has the line `period 4 spaceship 1 1`. The period is that of all cells together.
+It takes time for each generation up to it; you can stop it at any time (Ctrl-C), and
+nothing is written then. A pattern whose rule is a name is refused (NeedsTable), and so
+is one that grows out of the plane from its middle before it is the same again
+(OutOfPlane).",
     notes: notes_over_one_file!(
         "Examples:
   golly_canon show glider.rle
   golly_canon show - < glider.mc
   golly_canon show glider.rle | grep population
+  golly_canon show glider.rle --period 1000
   golly_canon show glider.rle --explain
 
 Exit status:
   0  the lines were written
-  2  the file was refused
+  2  the file was refused, or its period can't be sought
 "
     ),
 };

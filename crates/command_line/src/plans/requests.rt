@@ -1,7 +1,7 @@
 //! The plan that the words ask for.
 
-ghost use Rattle.std.specs.Prelude.{◌≡◌, ◌≢◌, ◌⊎◌, ◌↔◌, ◌<◌, [], ℕ, Ok, IfOk, IfErr, OnOk, MatchOption, Some, IsSome, IsTrue, map, option_map, string_bytes, codes, count_by};
-ghost use Rattle.command_line.specs.Words.{bytes_eq, found_of, first_of, rows_of, subcommand_of, subcommand_rows_of, program, AreOfTask, AreWhole, IfWork, IsFoundAmong, IsPlanOf, IsRequestOf, IsTaskPlanOf, HasNoJob, task_of, task_plan_of, IsValueOf, HasNoForm, HasNoFormat, HasNoNumber, HasSecond, HasOneFile, HoldsFiles, HoldsFlag, HoldsForm, HoldsGenerations, HoldsKeyForm, HoldsKeys, HoldsStream, NamesInputTwice, Explains, ExplainsPlan, RefusesAs, RefusesKeys, RefusesStream, RefusesWord, form_word, input_count, input_count_under, target_word, u64_of, values_of};
+ghost use Rattle.std.specs.Prelude.{◌≡◌, ◌≢◌, ◌⊎◌, ◌↔◌, ◌<◌, ◌≤◌, [], ℕ, Ok, IfOk, IfErr, OnOk, MatchOption, Some, IsSome, IsTrue, map, option_map, string_bytes, codes, count_by};
+ghost use Rattle.command_line.specs.Words.{bytes_eq, found_of, first_of, rows_of, subcommand_of, subcommand_rows_of, program, AreOfTask, AreWhole, IfWork, IsFoundAmong, IsPlanOf, IsRequestOf, IsTaskPlanOf, HasNoJob, task_of, task_plan_of, IsValueOf, HasNoForm, HasNoFormat, HasNoNumber, HasNoPeriod, HasSecond, HasOneFile, HoldsFiles, HoldsFlag, HoldsForm, HoldsGenerations, HoldsKeyForm, HoldsKeys, HoldsPeriod, HoldsStream, NamesInputTwice, Explains, ExplainsPlan, RefusesAs, RefusesKeys, RefusesStream, RefusesWord, form_word, input_count, input_count_under, target_word, u64_of, values_of};
 ghost use Rattle.clap.specs.Words.{fault_of, kind_of};
 
 use super::commands::parse;
@@ -22,6 +22,8 @@ const CANON: &str = "golly_canon canon [OPTIONS] <FILE>";
 const CONVERT: &str = "golly_canon convert --to <FORMAT> <FILE>";
 
 const SAME: &str = "golly_canon same [OPTIONS] <A> <B>";
+
+const SHOW: &str = "golly_canon show [OPTIONS] <FILE>";
 
 const STEP: &str = "golly_canon step [OPTIONS] <FILE>";
 
@@ -240,6 +242,63 @@ fn step(alloc: Global, found: &ArgMatches<'_>) -> Result<TaskPlan, Usage>
     }
 }
 
+/// The number that a word writes in digits, from 1 to below 2^64.
+fn most_of(word: &str) -> Option<u64>
+    ensures { MatchOption result ((n : ℕ) → u64_of word.now ≡ Ok n → n ≡ 0)
+        (λ n. (u64_of word.now ≡ Ok n) × (1 ≤ n)) }
+{
+    let number = number_of(word)?;
+    if number == 0 {
+        return None;
+    }
+    Some(number)
+}
+
+/// The greatest period that `--period` names, where it is given.
+fn period(alloc: Global, found: &ArgMatches<'_>) -> Result<Option<u64>, Usage>
+    ensures ok { IfOk result (HoldsPeriod (rows_of (found_of found.now))) }
+    ensures err { IfErr result (RefusesWord (HasNoPeriod (rows_of (found_of found.now)))) }
+{
+    match value(found, "period") {
+        Some(word) => match most_of(word) {
+            Some(most) => Ok(Some(most)),
+            None => Err(refusal(
+                alloc,
+                SHOW,
+                "the value of --period is a number from 1 to 2^64 - 1",
+            )),
+        },
+        None => Ok(None),
+    }
+}
+
+/// The plan of what `show` writes, with the period up to so many generations, or without it where none are named.
+fn show_of(alloc: Global, found: &ArgMatches<'_>, most: Option<u64>) -> Result<TaskPlan, Usage>
+    requires file { IsFoundAmong (codes "FILE") (rows_of (found_of found.now)) }
+    requires most { HoldsPeriod (rows_of (found_of found.now)) most }
+    ensures ok { IfOk result (IsTaskPlanOf (Some (codes "show", rows_of (found_of found.now)))) }
+    ensures err { IfErr result (λ usage. usage ≡ Usage.Memory) }
+{
+    match most {
+        None => over_file(alloc, found, Task::Show),
+        Some(most) => over_file(alloc, found, Task::ShowPeriod(most)),
+    }
+}
+
+/// The plan of `show`.
+fn show(alloc: Global, found: &ArgMatches<'_>) -> Result<TaskPlan, Usage>
+    requires { IsFoundAmong (codes "FILE") (rows_of (found_of found.now)) }
+    ensures ok { IfOk result (IsTaskPlanOf (Some (codes "show", rows_of (found_of found.now)))) }
+    ensures err { IfErr result
+        (λ usage. RefusesWord (HasNoPeriod (rows_of (found_of found.now))) usage
+        ⊎ ((usage ≡ Usage.Memory) × ¬ HasNoPeriod (rows_of (found_of found.now)))) }
+{
+    match period(alloc, found) {
+        Ok(most) => show_of(alloc, found, most),
+        Err(usage) => Err(usage),
+    }
+}
+
 /// The refusal of a command that is no job over one file or two.
 fn no_job(alloc: Global) -> Usage
     ensures { RefusesAs ErrorKind.InvalidSubcommand (Unit {0}) result }
@@ -447,7 +506,7 @@ fn from_command(alloc: Global, command: &str, found: &ArgMatches<'_>) -> Result<
             Ok(form) => over_files(alloc, found, Task::Same(form), "A", "B"),
             Err(usage) => Err(usage),
         },
-        "show" => over_file(alloc, found, Task::Show),
+        "show" => show(alloc, found),
         "step" => step(alloc, found),
         _ => unreachable!(),
     }
@@ -499,9 +558,9 @@ fn from_matches<'a>(alloc: Global, matches: &ArgMatches<'a>) -> Result<Request<'
 /// # Errors
 ///
 /// `Words` with the text to show, where `clap` finds a fault in the words, as which `--help` and `--version` count too, by its kind; where the
-/// word after `--to` is that of no format, the one after `--form` that of no form, or the one after `--generations` no number below 2^64, as
-/// `InvalidValue`; where `keys` or `duplicates` is given neither a file nor a list, and `keys` no stream either, as `MissingRequiredArgument`; where
-/// `keys` is given a stream and also a file, a list or `-r`, as `ArgumentConflict`; and where `clap`, or the list of their files, gets no memory, as
+/// word after `--to` is that of no format, the one after `--form` that of no form, the one after `--generations` no number below 2^64, or the one after
+/// `--period` no such number or 0, as `InvalidValue`; where `keys` or `duplicates` is given neither a file nor a list, and `keys` no stream either, as
+/// `MissingRequiredArgument`; where `keys` is given a stream and also a file, a list or `-r`, as `ArgumentConflict`; and where `clap`, or the list of their files, gets no memory, as
 /// `OutOfMemory`.
 /// `TwoInputs` where words without a fault name `-` for two files, whatever follows these options. `Memory` where all is right but there is
 /// no memory for the copy of a file's name.
@@ -518,7 +577,7 @@ pub fn request<'a, S: AsStr>(alloc: Global, words: &'a [S]) -> Result<Request<'a
     from_matches(alloc, &matches)
 }
 
-/// The job of a task that takes patterns as they lie, and no number of generations.
+/// The job of a task that takes patterns as they lie, and no number of generations or greatest period.
 fn job_of(task: Task) -> Option<Job>
     ensures { MatchOption result (HasNoJob task) (λ job. task ≡ task_of job) }
 {
@@ -529,7 +588,8 @@ fn job_of(task: Task) -> Option<Job>
         Task::Same(Form::Placed) => Some(Job::Same),
         Task::Step => Some(Job::Step),
         Task::StepTable => Some(Job::StepTable),
-        Task::Canon(_) | Task::Same(_) | Task::Later(_) | Task::LaterTable(_) => None,
+        Task::Canon(_) | Task::Same(_) => None,
+        Task::ShowPeriod(_) | Task::Later(_) | Task::LaterTable(_) => None,
     }
 }
 
@@ -547,7 +607,7 @@ fn as_job(alloc: Global, plan: TaskPlan) -> Result<Plan, Usage>
         None => Err(refusal(
             alloc,
             CALL,
-            "a job takes no form but placed, and no number of generations",
+            "a job takes no form but placed, no number of generations and no period",
         )),
     }
 }
@@ -556,8 +616,8 @@ fn as_job(alloc: Global, plan: TaskPlan) -> Result<Plan, Usage>
 ///
 /// # Errors
 ///
-/// Those of `request`, and `Words` of words that ask for keys or duplicates, as `InvalidSubcommand`, or for another form than `placed` or a
-/// number of generations, as `InvalidValue`: `request` has a plan for these too. That `--explain` is given isn't stored.
+/// Those of `request`, and `Words` of words that ask for keys or duplicates, as `InvalidSubcommand`, or for another form than `placed`, a
+/// number of generations or a greatest period, as `InvalidValue`: `request` has a plan for these too. That `--explain` is given isn't stored.
 pub fn plan<S: AsStr>(alloc: Global, words: &[S]) -> Result<Plan, Usage>
     ensures faultless { OnOk result (fault_of program (map S.text words.entry.now) ≡ []) }
     ensures ok { IfOk result (IsPlanOf (subcommand_of program (map S.text words.entry.now))) }

@@ -2,8 +2,8 @@ use Rattle.std.proofs.Common.{codes, inl, inr, refl, subst, sym, Some, IfOk}
 use Rattle.clap.specs.Words.{found_of, rows_of, Text}
 use Rattle.command_line.specs.Plans.{HasNoForm, HasNoFormat, IsTaskPlanOf}
 use Rattle.command_line.specs.declared.plans.Form.TheVariants.{Placed}
-use Rattle.command_line.specs.declared.plans.Task.TheVariants.{Canon, Convert, Same, Show}
-use Rattle.command_line.proofs.TaskLemmas.{file_of, format_is_held, format_of, form_is_held, no_memory, no_other, over_one, over_two, pair_of, step_explains, takes_no_form, takes_no_format, word_explains}
+use Rattle.command_line.specs.declared.plans.Task.TheVariants.{Canon, Convert, Same}
+use Rattle.command_line.proofs.TaskLemmas.{file_of, format_is_held, format_of, form_is_held, no_memory, no_other, over_one, over_two, pair_of, show_explains, step_explains, takes_no_form, takes_no_format, word_explains}
 use Rattle.command_line.proofs.plans.requests.from_command.Goals as goal
 
 pub over_file-requires : goal.over_file-requires
@@ -18,8 +18,8 @@ over_file-requires-in-Ok-target c =
     let rows = rows_of (found_of c.args.found.now) in
     file_of (codes "convert") command rows refl refl c.in-convert.is c.requires.task
 
-pub over_file-requires-in-show : goal.over_file-requires-in-show
-over_file-requires-in-show c =
+pub show-requires : goal.show-requires
+show-requires c =
     let command = c.args.command.now in
     let rows = rows_of (found_of c.args.found.now) in
     file_of (codes "show") command rows refl refl c.in-show.is c.requires.task
@@ -64,7 +64,7 @@ pub returns-in-Ok-clause-refused : goal.returns-in-Ok-clause-refused
 returns-in-Ok-clause-refused c =
     let command = c.args.command.now in
     let rows = rows_of (found_of c.args.found.now) in
-    no_memory (command, rows) (codes "canon") c.over_file.result refl refl c.in-canon.is c.requires.task
+    no_memory (command, rows) (codes "canon") c.over_file.result refl refl refl c.in-canon.is c.requires.task
     (takes_no_format (codes "canon") command rows refl refl c.in-canon.is)
     (λ named. form_is_held Placed rows c.in-Ok.form c.in-Ok.ensures.ok named.1) c.requires.once c.over_file.ensures.err
 
@@ -85,7 +85,7 @@ pub returns-in-Ok-target-clause-refused : goal.returns-in-Ok-target-clause-refus
 returns-in-Ok-target-clause-refused c =
     let command = c.args.command.now in
     let rows = rows_of (found_of c.args.found.now) in
-    no_memory (command, rows) (codes "convert") c.over_file-in-Ok-target.result refl refl c.in-convert.is c.requires.task
+    no_memory (command, rows) (codes "convert") c.over_file-in-Ok-target.result refl refl refl c.in-convert.is c.requires.task
     (λ named. format_is_held rows c.in-Ok-target.target c.in-Ok-target.ensures.ok named.1)
     (takes_no_form (codes "convert") command rows refl refl refl refl refl c.in-convert.is) c.requires.once c.over_file-in-Ok-target.ensures.err
 
@@ -106,7 +106,7 @@ pub returns-in-Ok-form-clause-refused : goal.returns-in-Ok-form-clause-refused
 returns-in-Ok-form-clause-refused c =
     let command = c.args.command.now in
     let rows = rows_of (found_of c.args.found.now) in
-    no_memory (command, rows) (codes "same") c.over_files.result refl refl c.in-same.is c.requires.task
+    no_memory (command, rows) (codes "same") c.over_files.result refl refl refl c.in-same.is c.requires.task
     (takes_no_format (codes "same") command rows refl refl c.in-same.is)
     (λ named. form_is_held Placed rows c.in-Ok-form.form c.in-Ok-form.ensures.ok named.1) c.requires.once c.over_files.ensures.err
 
@@ -120,15 +120,14 @@ pub returns-in-show-clause-ok : goal.returns-in-show-clause-ok
 returns-in-show-clause-ok c =
     let command = c.args.command.now in
     let rows = rows_of (found_of c.args.found.now) in
-    over_one command rows Show c.over_file-in-show.result c.in-show.is (λ p file. file) c.over_file-in-show.ensures.ok
+    subst (λ (name : Text). IfOk c.show.result (IsTaskPlanOf (Some (name, rows)))) (sym c.in-show.is) c.show.ensures.ok
 
 pub returns-in-show-clause-refused : goal.returns-in-show-clause-refused
 returns-in-show-clause-refused c =
     let command = c.args.command.now in
     let rows = rows_of (found_of c.args.found.now) in
-    no_memory (command, rows) (codes "show") c.over_file-in-show.result refl refl c.in-show.is c.requires.task
-    (takes_no_format (codes "show") command rows refl refl c.in-show.is)
-    (takes_no_form (codes "show") command rows refl refl refl refl refl c.in-show.is) c.requires.once c.over_file-in-show.ensures.err
+    show_explains (command, rows) c.show.result c.in-show.is c.requires.task (takes_no_format (codes "show") command rows refl refl c.in-show.is)
+    (takes_no_form (codes "show") command rows refl refl refl refl refl c.in-show.is) c.requires.once c.show.ensures.err
 
 pub returns-in-step-clause-ok : goal.returns-in-step-clause-ok
 returns-in-step-clause-ok c =

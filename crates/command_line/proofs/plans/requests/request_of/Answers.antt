@@ -1,6 +1,5 @@
-use Rattle.std.proofs.Common.{inr, subst, sym}
+use Rattle.std.proofs.Common.{inr}
 use Rattle.clap.specs.Words.{found_of, rows_of}
-use Rattle.command_line.specs.Plans.{NamesInputTwice}
 use Rattle.command_line.proofs.TaskLemmas.{files_explain, task_left}
 use Rattle.command_line.proofs.plans.requests.request_of.Goals as goal
 
