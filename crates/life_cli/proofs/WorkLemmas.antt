@@ -31,7 +31,7 @@ use Rattle.life_table.specs.declared.table.Table.{Table}
 use Rattle.command_line.specs.declared.plans.Form.{Form}
 use Rattle.command_line.specs.declared.plans.Form.TheVariants.{Placed, Moved, Turned}
 use Rattle.command_line.specs.declared.plans.Task.{Task}
-use Rattle.command_line.specs.declared.plans.Task.TheVariants.{Canon, Convert, Same, Show, Step, StepTable, Later, LaterTable}
+use Rattle.command_line.specs.declared.plans.Task.TheVariants.{Canon, Convert, Same, Show, ShowPeriod, Step, StepTable, Later, LaterTable}
 use Rattle.command_line.specs.declared.plans.Target.TheVariants.{Rle, Mc}
 use Rattle.pattern_sources.specs.declared.refusals.Refusal.{Refusal}
 use Rattle.life_cli.specs.declared.jobs.Made.{Made}
@@ -42,6 +42,7 @@ use Rattle.pattern_sources.specs.Forms.{IsTextIn}
 use Rattle.command_line.specs.Plans.{HasSecond}
 use Rattle.life_cli.specs.Jobs.{WritesPlacedText, AreUncompared, by_first, by_second, by_form, by_first_shortage, by_second_shortage, RefusesSame, Compares, made_text, made_status, HasAnswer, TaskMakes, TaskWrites, Worked, IsWrittenInPart, FileRefuses, by_comparing, by_reading, by_writing, by_telling, HasTextLaterByTable, IsSteppedTimes, MadeOf, RefusesFor, RefusesLifeStep, RefusesGenerations, HasTable, HasNoTable, table_by_input, table_by_lines, table_by_memory, CanonRefuses, OfFile, TaskRan, TaskRefuses}
 use Rattle.life_generations.specs.Later.{IsTextLater}
+use Rattle.life_periods.specs.OfFile.{IsShownWithPeriod, RefusesPeriod, RefusesPeriodOfFile}
 use Rattle.life_step.specs.Refusals.{RefusesFile, RefusesPattern}
 use Rattle.life_step.specs.Stepped.{IsStepped, IsSteppedBy}
 use Rattle.pattern_sources.specs.Sources.{InputRefuses, by_length, by_source, HasNoText, by_input, by_file, by_want, RefusesInForm, AreOfInput, IsTooSmallFor, IsTooSmallToMake, IsShortageFor, IsCallShortage, RefusesMany, HasText, ComesOf}
@@ -189,6 +190,13 @@ refused_pattern Reason source empty old new pattern has limit (Ok x) h = tt
 refused_pattern Reason source empty old new pattern has limit (Err fault) (inl want) = by_file has.bytes has.read (inr (inl (new, limit, want)))
 refused_pattern Reason source empty old new pattern has limit (Err fault) (inr why) = by_file has.bytes has.read (inr (inr (why has.bytes has.is)))
 
+-- nothing comes of a pattern whose period isn't found
+pub refused_period : {X : Type 0} (most : ℕ) (source : SourceRun) (store : Nodes) (pattern : Pattern) (r : Result X Fault)
+    → HasRead MAX_LEVEL (2 ^ 30) store source pattern → IfErr r (RefusesPeriod most store pattern) → IfErr r (HasNoText (RefusesPeriodOfFile most) source)
+refused_period most source store pattern (Ok x) has h = tt
+refused_period most source store pattern (Err fault) has (inl want) = by_file has.bytes has.read (inr (inl want))
+refused_period most source store pattern (Err fault) has (inr why) = by_file has.bytes has.read (inr (inr (why has.bytes has.is)))
+
 -- a text isn't stepped in a store of 2^31 squares
 pub refused_for : (Reason : Universe → Option Fault → Type 0) (text : List ℕ) (store : Nodes) (fault : Fault) → store.limit ≡ 2 ^ 31
     → RefusesFile Reason text store fault → RefusesFor Reason text fault
@@ -335,6 +343,8 @@ unwritten (Convert Mc) first second output made refusal other makes broken = abs
 unwritten (Same form) first second output made refusal other makes broken = (broken.0, by_telling _ _ makes broken.1)
 unwritten Show first second output made refusal other makes broken =
     (broken.0, broken_text (IsShownText MAX_LEVEL) (Refuses MAX_LEVEL) first output _ _ refusal.fault makes.first_read makes.writes.1 broken.1)
+unwritten (ShowPeriod most) first second output made refusal other makes broken =
+    (broken.0, broken_text (IsShownWithPeriod most) (RefusesPeriodOfFile most) first output _ _ refusal.fault makes.first_read makes.writes.1 broken.1)
 unwritten Step first second output made refusal other makes broken =
     (broken.0, broken_text IsStepped RefusesLifeStep first output _ _ refusal.fault makes.first_read makes.writes.1 broken.1)
 unwritten StepTable first second output made refusal other makes broken =
@@ -379,6 +389,7 @@ canonical_as (Convert Mc) first second output is done = record {
 }
 canonical_as (Same form) first second output is done = absurd is
 canonical_as Show first second output is done = absurd is
+canonical_as (ShowPeriod most) first second output is done = absurd is
 canonical_as Step first second output is done = absurd is
 canonical_as StepTable first second output is done = absurd is
 canonical_as (Later n) first second output is done = absurd is
@@ -401,6 +412,7 @@ canonical_refused (Convert Rle) first second output refusal is refused = absurd 
 canonical_refused (Convert Mc) first second output refusal is refused = refused
 canonical_refused (Same form) first second output refusal is refused = absurd is
 canonical_refused Show first second output refusal is refused = absurd is
+canonical_refused (ShowPeriod most) first second output refusal is refused = absurd is
 canonical_refused Step first second output refusal is refused = absurd is
 canonical_refused StepTable first second output refusal is refused = absurd is
 canonical_refused (Later n) first second output refusal is refused = absurd is

@@ -22,6 +22,7 @@ use Rattle.life_table.specs.Grammar.{IsPlainTable}
 use Rattle.life_table.specs.Reading.{RefusesTable}
 use Rattle.life_table.specs.declared.table.Table.{Table}
 use Rattle.life_generations.specs.Later.{IsTextLater, LaterRefusal}
+use Rattle.life_periods.specs.OfFile.{IsShownWithPeriod, RefusesPeriodOfFile}
 use Rattle.life_step.specs.Refusals.{LifeRefusal, SomeOfNextFile, SomeOfNextFileBy, TableRefusal}
 use Rattle.life_step.specs.Stepped.{IsStepped, IsSteppedBy}
 use Rattle.life_cli.specs.Forms.{AreSameIn, HasTooLarge}
@@ -31,7 +32,7 @@ use Rattle.command_line.specs.Plans.{HasSecond}
 use Rattle.command_line.specs.declared.plans.Form.{Form}
 use Rattle.command_line.specs.declared.plans.Form.TheVariants.{Placed}
 use Rattle.command_line.specs.declared.plans.Task.{Task}
-use Rattle.command_line.specs.declared.plans.Task.TheVariants.{Canon, Convert, Same, Show, Step, StepTable, Later, LaterTable}
+use Rattle.command_line.specs.declared.plans.Task.TheVariants.{Canon, Convert, Same, Show, ShowPeriod, Step, StepTable, Later, LaterTable}
 use Rattle.command_line.specs.declared.plans.Target.TheVariants.{Rle, Mc}
 use Rattle.pattern_sources.specs.declared.refusals.Refusal.{Refusal}
 use Rattle.life_cli.specs.declared.jobs.Made.{Made}
@@ -63,6 +64,7 @@ TaskWrites (Convert Mc) first second status text = (status ≡ 0) × IsCanonical
 TaskWrites (Same form) first second status text =
     Accepted MAX_LEVEL first × Accepted MAX_LEVEL second × (¬ HasTooLarge form MAX_LEVEL first second) × Compares form first second status text
 TaskWrites Show first second status text = (status ≡ 0) × IsShownText MAX_LEVEL first text
+TaskWrites (ShowPeriod most) first second status text = (status ≡ 0) × IsShownWithPeriod most first text
 TaskWrites Step first second status text = (status ≡ 0) × IsStepped first text
 TaskWrites StepTable first second status text = (status ≡ 0) × ((table : Table) × IsPlainTable (lines_of second) table × IsSteppedBy table first text)
 TaskWrites (Later n) first second status text = (status ≡ 0) × IsTextLater n first text
@@ -238,6 +240,7 @@ TaskRefuses (Convert Rle) first second output refusal = OfFile (FileRefuses (IsR
 TaskRefuses (Convert Mc) first second output refusal = OfFile (CanonRefuses first output) refusal
 TaskRefuses (Same form) first second output refusal = OfFile (SameRefuses form first second output) refusal
 TaskRefuses Show first second output refusal = OfFile (FileRefuses (IsShownText MAX_LEVEL) (Refuses MAX_LEVEL) first output) refusal
+TaskRefuses (ShowPeriod most) first second output refusal = OfFile (FileRefuses (IsShownWithPeriod most) (RefusesPeriodOfFile most) first output) refusal
 TaskRefuses Step first second output refusal = OfFile (FileRefuses IsStepped RefusesLifeStep first output) refusal
 TaskRefuses StepTable first second output refusal = HasNoTextByTable first second refusal
     ⊎ OfFile (λ fault. (text : List ℕ) × HasTextByTable first second text × IsWrittenInPart output text fault) refusal

@@ -17,6 +17,7 @@ pub use Rattle.life_cli.specs.Jobs.{Worked, WritesPlacedText}
 pub use Rattle.life_cli.specs.Origins.{FailsToOpen, OpensFiles}
 pub use Rattle.life_cli.specs.Usages.{is_asked, is_out_of_memory, text_line, text_status, usage_line, usage_status, words_line, words_status}
 pub use Rattle.life_generations.specs.Later.{IsTextLater}
+pub use Rattle.life_periods.specs.OfFile.{IsShownWithPeriod, RefusesPeriodOfFile}
 pub use Rattle.life_quad.specs.Cells.{population}
 pub use Rattle.life_quad.specs.Store.{stored_squares}
 pub use Rattle.life_step.specs.Stepped.{IsStepped, IsSteppedBy}

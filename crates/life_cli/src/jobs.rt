@@ -5,6 +5,7 @@ ghost use Rattle.life_cli.specs.Words.{Appends, SourceRun, source_run, optional_
 
 use crate::forms::are_same_in;
 use crate::later::{later_by_table_of, later_of};
+use crate::periods::lines_with_period_of;
 use crate::steps::{next_by_table_of, next_of};
 use command_line::{Form, Job, Target, Task};
 use life_base::{Fault, Kind, MAX_LEVEL, Sink, Source, deliver};
@@ -212,6 +213,9 @@ fn make<A: Source, B: Source>(
             made_from_comparison(compared(alloc, seeds, *form, first, second))
         }
         (Task::Show, _) => made_from_text(five_lines_of_source(alloc, seeds, first)),
+        (Task::ShowPeriod(most), _) => {
+            made_from_text(lines_with_period_of(alloc, seeds, *most, first))
+        }
         (Task::Step, _) => made_from_text(next_of(alloc, seeds, first)),
         (Task::StepTable, Some(second)) => {
             made_from_step(next_by_table_of(alloc, seeds, first, second))

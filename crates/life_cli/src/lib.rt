@@ -32,6 +32,7 @@ mod forms;
 mod jobs;
 mod later;
 mod origins;
+mod periods;
 mod reports;
 mod steps;
 mod whole_files;

@@ -3,16 +3,17 @@ use Rattle.life_base.specs.declared.cell.TheConstants.{MAX_LEVEL}
 use Rattle.life_canon.specs.Files.{Refuses}
 use Rattle.life_canon.specs.Texts.{IsRleOf, IsShownText}
 use Rattle.life_generations.specs.Later.{IsTextLater}
+use Rattle.life_periods.specs.OfFile.{IsShownWithPeriod, RefusesPeriodOfFile}
 use Rattle.life_step.specs.Stepped.{IsStepped, IsSteppedBy}
 use Rattle.pattern_sources.specs.Forms.{IsTextIn}
 use Rattle.life_cli.specs.Jobs.{by_reading, HasNoTextByTable, HasNoTextLaterByTable, IsSteppedTimes, RefusesGenerations, RefusesLifeStep}
 use Rattle.pattern_sources.specs.Sources.{RefusesInForm, RefusesMany}
 use Rattle.life_cli.specs.declared.jobs.Made.TheVariants.{Text}
-use Rattle.command_line.specs.declared.plans.Task.TheVariants.{Canon, Convert, Show, Step, StepTable, Later, LaterTable}
+use Rattle.command_line.specs.declared.plans.Task.TheVariants.{Canon, Convert, Show, ShowPeriod, Step, StepTable, Later, LaterTable}
 use Rattle.command_line.specs.declared.plans.Target.TheVariants.{Rle}
 use Rattle.life_cli.proofs.WorkLemmas.{made_of_comparison, made_of_step, made_of_text, none_failed, refused_form}
 use Rattle.life_cli.proofs.jobs.make.Goals as goal
-use Rattle.life_cli.proofs.jobs.make.Goals.{in-Canon-default, in-Convert-Rle-default, in-Same-Some, in-Show-default, in-Step-default, in-StepTable-Some, in-Later-default, in-LaterTable-Some}
+use Rattle.life_cli.proofs.jobs.make.Goals.{in-Canon-default, in-Convert-Rle-default, in-Same-Some, in-Show-default, in-ShowPeriod-default, in-Step-default, in-StepTable-Some, in-Later-default, in-LaterTable-Some}
 
 pub returns : goal.returns
 returns g c =
@@ -37,6 +38,11 @@ returns g c =
           Show _ _ w.five_lines_of_source.result _ (λ x. (refl, refl)) works (λ has. has) (λ bytes text is. (refl, is))
           (λ output refusal h. (h.0, by_reading h.1)) w.five_lines_of_source.ensures w.made_from_text-in-Show-default.ensures.text
           w.made_from_text-in-Show-default.ensures.fault)
+      | in-ShowPeriod-default w ↦
+          rw (w.in-ShowPeriod-default.is-0, w.result-is, w.first-is, w.second-is) (made_of_text Text (λ text. text.items) (IsShownWithPeriod _)
+          (RefusesPeriodOfFile _) (ShowPeriod _) _ _ w.lines_with_period_of.result _ (λ x. (refl, refl)) works (λ has. has) (λ bytes text is. (refl, is))
+          (λ output refusal h. (h.0, by_reading h.1)) w.lines_with_period_of.ensures w.made_from_text-in-ShowPeriod-default.ensures.text
+          w.made_from_text-in-ShowPeriod-default.ensures.fault)
       | in-Step-default w ↦
           rw (w.in-Step-default.is-0, w.result-is, w.first-is, w.second-is) (made_of_text Text (λ text. text.items) IsStepped RefusesLifeStep Step _ _
           w.next_of.result _ (λ x. (refl, refl)) works (λ has. has) (λ bytes text is. (refl, is)) (λ output refusal h. (h.0, by_reading h.1))
