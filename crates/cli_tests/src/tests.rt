@@ -24,6 +24,13 @@ const EAST_GLIDER: &[u8] = b"x = 3, y = 3, rule = B3/S23\nbo$2bo$3o!\n";
 
 const EAST_GLIDER_SHOWN: &[u8] = b"rule B3/S23\ngeneration 0\npopulation 5\nbox 0 0 3 3\nnodes 1\n";
 
+/// The same, with its period, and where it is sought up to 3.
+const EAST_GLIDER_WITH_PERIOD: &[u8] =
+    b"rule B3/S23\ngeneration 0\npopulation 5\nbox 0 0 3 3\nnodes 1\nperiod 4 spaceship 1 1\n";
+
+const EAST_GLIDER_WITHOUT_PERIOD: &[u8] =
+    b"rule B3/S23\ngeneration 0\npopulation 5\nbox 0 0 3 3\nnodes 1\nperiod none up to 3\n";
+
 /// Two cells, in both formats. Equal squares share a line.
 const TWINS: &[u8] = b"[M2]\n....*$\n....*$\n4 0 0 1 2\n";
 
@@ -40,6 +47,10 @@ const TWINS_RUNS: &[u8] = b"#CXRLE Pos=-4,0\nx = 9, y = 1, rule = B3/S23\no7bo!\
 
 /// Three cells in a row.
 const LINE: &[u8] = b"x = 3, y = 1, rule = B3/S23\n3o!\n";
+
+/// What it is: an oscillator.
+const LINE_WITH_PERIOD: &[u8] =
+    b"rule B3/S23\ngeneration 0\npopulation 3\nbox 0 0 3 1\nnodes 1\nperiod 2 oscillator\n";
 
 /// The next generation of `LINE`.
 const NEXT_LINE: &[u8] = b"[M2] (canonical 1)\n#R B3/S23\n#G 1\n$$$.....*$.....*$.....*$$$\n";
@@ -69,12 +80,27 @@ const SAME: &[u8] = b"same\n";
 const DIFFERENT: &[u8] = b"different\n";
 
 /// Jobs with their files, the status that they end with, and what they write.
-const TASKS: [(Task, &[u8], Option<&[u8]>, u8, &[u8]); 18] = [
+const TASKS: [(Task, &[u8], Option<&[u8]>, u8, &[u8]); 21] = [
     (Task::Show, TWINS, None, 0, TWINS_SHOWN),
     (Task::Canon(Form::Placed), TWINS_IN_RLE, None, 0, TWINS_TEXT),
     (Task::Canon(Form::Moved), GLIDER, None, 0, MOVED_GLIDER),
     (Task::Canon(Form::Turned), GLIDER, None, 0, TURNED_GLIDER),
     (Task::Show, EAST_GLIDER, None, 0, EAST_GLIDER_SHOWN),
+    (
+        Task::ShowPeriod(4),
+        EAST_GLIDER,
+        None,
+        0,
+        EAST_GLIDER_WITH_PERIOD,
+    ),
+    (
+        Task::ShowPeriod(3),
+        EAST_GLIDER,
+        None,
+        0,
+        EAST_GLIDER_WITHOUT_PERIOD,
+    ),
+    (Task::ShowPeriod(u64::MAX), LINE, None, 0, LINE_WITH_PERIOD),
     (Task::Convert(Target::Rle), TWINS, None, 0, TWINS_RUNS),
     (Task::Convert(Target::Mc), TWINS_IN_RLE, None, 0, TWINS_TEXT),
     (Task::Step, LINE, None, 0, NEXT_LINE),

@@ -159,6 +159,22 @@ fn advice(kind: Kind) -> &'static str {
     }
 }
 
+/// What is said of a fault, and what helps against it: in `show --period` of a rule that is a name, and of a pattern that leaves the plane, other than in a
+/// step.
+fn sentences_of(task: Task, fault: &Fault) -> (&'static str, &'static str) {
+    match (task, fault.kind) {
+        (Task::ShowPeriod(_), Kind::NeedsTable) => (
+            "The rule is a name, and a period is sought under a B/S rule alone.",
+            "Leave --period out.",
+        ),
+        (Task::ShowPeriod(_), Kind::OutOfPlane) if fault.place.line == 0 => (
+            "Before it is the same again, the pattern grows out of the plane, which goes from -2^61 to 2^61 - 1.",
+            "",
+        ),
+        (_, kind) => (sentence(kind), advice(kind)),
+    }
+}
+
 /// Adds a file's name, or `standard input`.
 fn push_file(text: &mut Vec<u8>, name: &str) -> Result<(), AllocError> {
     match name {
@@ -246,10 +262,11 @@ fn explanation(
     let place = Place::of(rt, seeds, plan, refusal);
     let Fault { kind, place: at } = refusal.fault;
     push_place(rt, &mut text, place, at.line, refusal.made)?;
-    push_sentence(&mut text, sentence(kind))?;
+    let (sentence, help) = sentences_of(plan.task, &refusal.fault);
+    push_sentence(&mut text, sentence)?;
     let (advice, is_text) = match place.foreign(rt) {
         Some(foreign) => (foreign.advice(), is_text(foreign)),
-        None => (advice(kind), true),
+        None => (help, true),
     };
     if is_text {
         if let Some(line) = place.line(rt, at.line) {

@@ -1,4 +1,4 @@
-//! The line on a terminal that says how far a run of the command `keys` is, or that `step` makes many generations.
+//! The line on a terminal that says how far a run of the command `keys` is, that `step` makes many generations, or that `show` seeks a period.
 
 ghost use Rattle.std.specs.Prelude.{◌≡◌, ◌≤◌, ◌↔◌, IsTrue};
 
@@ -56,7 +56,7 @@ impl TerminalLine {
     }
 }
 
-/// The line that says that `step` makes many generations, which takes as long as it takes. There is none for other tasks, where standard error is no
+/// The line that says that `step` makes many generations, or that `show` seeks a period, which takes as long as it takes. There is none for other tasks, where standard error is no
 /// terminal, and without memory for it.
 #[derive(Drop)]
 pub(crate) struct GenerationsLine {
@@ -72,12 +72,18 @@ fn generations_text(rt: &HostRuntime, generations: u64) -> Result<String, AllocE
     )
 }
 
+/// What the line says of a period that is sought up to so many generations.
+fn period_text(rt: &HostRuntime, most: u64) -> Result<String, AllocError> {
+    format!(in rt.alloc(); "\rseeking a period up to {most}; Ctrl-C stops, ulimit -v limits memory")
+}
+
 impl GenerationsLine {
     /// The line of a task that isn't shown yet.
     pub(crate) fn new(rt: &HostRuntime, task: &Task) -> GenerationsLine {
         let text = match task {
             Task::Later(generations) | Task::LaterTable(generations) if rt.stderr().is_terminal() =>
                 { generations_text(rt, *generations).ok() }
+            Task::ShowPeriod(most) if rt.stderr().is_terminal() => period_text(rt, *most).ok(),
             _ => None,
         };
         GenerationsLine {

@@ -83,7 +83,7 @@ fn plans(rt: HostRuntime) {
 }
 
 /// Arguments with the task that they ask for and its files, and whether they ask for a sentence about an error. The words after `--` are names.
-const REQUESTS: [(&str, Task, &str, Option<&str>, bool); 25] = [
+const REQUESTS: [(&str, Task, &str, Option<&str>, bool); 28] = [
     ("canon -", Task::Canon(Form::Placed), "-", None, false),
     (
         "canon - --form placed",
@@ -216,6 +216,15 @@ const REQUESTS: [(&str, Task, &str, Option<&str>, bool); 25] = [
         false,
     ),
     ("show -- --explain", Task::Show, "--explain", None, false),
+    ("show - --period 1", Task::ShowPeriod(1), "-", None, false),
+    (
+        "show --period=18446744073709551615 --explain -",
+        Task::ShowPeriod(u64::MAX),
+        "-",
+        None,
+        true,
+    ),
+    ("show --period 007 a", Task::ShowPeriod(7), "a", None, false),
     (
         "same - b --form moved",
         Task::Same(Form::Moved),
@@ -498,7 +507,7 @@ fn assert_usage(rt: &impl Abort, alloc: Global, text: &str, kind: ErrorKind) {
 }
 
 /// Arguments with the kind with which they are refused. Those that ask for another form than that of a pattern as it lies have a request and no plan.
-const USAGES: [(&str, ErrorKind); 60] = [
+const USAGES: [(&str, ErrorKind); 72] = [
     ("", ErrorKind::MissingSubcommand),
     ("canon", ErrorKind::MissingRequiredArgument),
     ("canon a b", ErrorKind::UnknownArgument),
@@ -530,6 +539,20 @@ const USAGES: [(&str, ErrorKind); 60] = [
         "step a --generations 18446744073709551616",
         ErrorKind::InvalidValue,
     ),
+    ("show a --period", ErrorKind::InvalidValue),
+    ("show a --period=", ErrorKind::InvalidValue),
+    ("show a --period 0", ErrorKind::InvalidValue),
+    ("show a --period 00", ErrorKind::InvalidValue),
+    ("show a --period ten", ErrorKind::InvalidValue),
+    ("show a --period=-1", ErrorKind::InvalidValue),
+    ("show a --period +1", ErrorKind::InvalidValue),
+    (
+        "show a --period 18446744073709551616",
+        ErrorKind::InvalidValue,
+    ),
+    ("show a --period 1 --period 1", ErrorKind::ArgumentConflict),
+    ("show --period 1", ErrorKind::MissingRequiredArgument),
+    ("canon a --period 1", ErrorKind::UnknownArgument),
     ("step a --table b --generations x", ErrorKind::InvalidValue),
     (
         "step a --generations 1 --generations 1",
@@ -563,6 +586,7 @@ const USAGES: [(&str, ErrorKind); 60] = [
     ("canon --form turned -- -", ErrorKind::InvalidValue),
     ("same --form moved - b", ErrorKind::InvalidValue),
     ("same - b --form=turned", ErrorKind::InvalidValue),
+    ("show - --period 3", ErrorKind::InvalidValue),
     ("step - --generations 3", ErrorKind::InvalidValue),
     ("step - --table=a --generations 3", ErrorKind::InvalidValue),
 ];

@@ -26,7 +26,7 @@ pub(super) fn read_fault(first_failed: bool) -> Left<'static> {
 ///
 /// A failed read comes before what is wrong with the bytes that were read, also where all of them were. The second file is read to its end before what is
 /// wrong with the first one is reported, and a table before anything of the pattern.
-const READS: [(Task, (&[u8], usize), Option<(&[u8], usize)>, bool); 24] = [
+const READS: [(Task, (&[u8], usize), Option<(&[u8], usize)>, bool); 25] = [
     (Task::Canon(Form::Placed), (GLIDER, 3), None, true),
     (Task::Canon(Form::Placed), (b"o!\n", 3), None, true),
     (Task::Canon(Form::Moved), (TWINS_IN_RLE, 3), None, true),
@@ -78,13 +78,14 @@ const READS: [(Task, (&[u8], usize), Option<(&[u8], usize)>, bool); 24] = [
         false,
     ),
     (Task::StepTable, (SEED, 0), Some((SPREAD, 2)), false),
+    (Task::ShowPeriod(9), (TWINS, 29), None, true),
     (Task::Later(3), (TWINS, 29), None, true),
     (Task::LaterTable(2), (TWINS, 29), Some((SPREAD, ALL)), true),
     (Task::LaterTable(2), (SEED, 0), Some((SPREAD, 2)), false),
 ];
 
 /// Tasks of which a write fails: their files, how many bytes the output takes and how many at a time, and what it took, a prefix of the text.
-const WRITES: [(Task, &[u8], Option<&[u8]>, (usize, usize), &[u8]); 11] = [
+const WRITES: [(Task, &[u8], Option<&[u8]>, (usize, usize), &[u8]); 12] = [
     (Task::Canon(Form::Placed), GLIDER, None, (5, 2), b"[M2] "),
     (Task::Canon(Form::Placed), GLIDER, None, (0, 9), b""),
     (Task::Canon(Form::Placed), GLIDER, None, (999, 0), b""),
@@ -114,6 +115,7 @@ const WRITES: [(Task, &[u8], Option<&[u8]>, (usize, usize), &[u8]); 11] = [
     (Task::Show, TWINS, None, (13, 5), b"rule B3/S23\ng"),
     (Task::Convert(Target::Rle), TWINS, None, (6, 5), b"#CXRLE"),
     (Task::Later(4), GLIDER, None, (5, 2), b"[M2] "),
+    (Task::ShowPeriod(4), GLIDER, None, (9, 2), b"rule B3/S"),
 ];
 
 /// How many bytes of its files a task reads at a time, and what its output takes: all bytes, so many at a time.
