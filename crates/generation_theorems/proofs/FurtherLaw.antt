@@ -54,7 +54,7 @@ module _ (life : OuterTotalistic) (valid : IsLifeRule life) where
   abbrev neighbours : ℕ
   neighbours = most_neighbours life.near
 
-  life-after_is : (n : ℕ) (cell : ℤ → ℤ → ℕ) → claimed_life_after neighbours births survivals n cell ≡ after life n cell
+  pub life-after_is : (n : ℕ) (cell : ℤ → ℤ → ℕ) → claimed_life_after neighbours births survivals n cell ≡ after life n cell
   life-after_is zero cell = claimed-none neighbours births survivals cell ∙ sym (after-none life cell)
   life-after_is (suc n) cell =
       claimed-next neighbours births survivals n cell
@@ -67,7 +67,7 @@ module _ (life : OuterTotalistic) (valid : IsLifeRule life) where
   cell-after_is n c d same x y =
       ap (λ (f : ℤ → ℤ → ℕ). claimed_life_after neighbours births survivals n f x y) same ∙ ap (λ (f : ℤ → ℤ → ℕ). f x y) (life-after_is n d)
 
-  leaves-to : (n : ℕ) (c d : ℤ → ℤ → ℕ) → c ≡ d → LeavesWithin life n d → LeavesClaimedPlaneWithin neighbours births survivals n c
+  pub leaves-to : (n : ℕ) (c d : ℤ → ℤ → ℕ) → c ≡ d → LeavesWithin life n d → LeavesClaimedPlaneWithin neighbours births survivals n c
   leaves-to n c d same h = (
     h.generation,
     h.some,
@@ -80,7 +80,7 @@ module _ (life : OuterTotalistic) (valid : IsLifeRule life) where
     ),
   )
 
-  leaves-from : (n : ℕ) (c d : ℤ → ℤ → ℕ) → c ≡ d → LeavesClaimedPlaneWithin neighbours births survivals n c → LeavesWithin life n d
+  pub leaves-from : (n : ℕ) (c d : ℤ → ℤ → ℕ) → c ≡ d → LeavesClaimedPlaneWithin neighbours births survivals n c → LeavesWithin life n d
   leaves-from n c d same h = record {
     generation = h.0;
     some = h.1;

@@ -35,6 +35,7 @@ use Rattle.step_theorems.proofs.StepBy.{stepped_text}
 use Rattle.step_theorems.proofs.StepBy as by_table
 use Rattle.table_laws.specs.Tables.{IsTable}
 use Rattle.generation_theorems.proofs.FurtherLaw.{later-is}
+use Rattle.program_theorems.proofs.PeriodLaw.{shown-with_period}
 use Rattle.program_theorems.specs.Jobs.{AreClaimedSteps, HasClaimedSecond, WritesCanonical, IsOutcome, IsShortFile}
 use Rattle.program_theorems.specs.Forms.{SameIn, IsClaimedTextIn}
 use Rattle.program_theorems.specs.Layers.{LayersAgree}
@@ -124,6 +125,12 @@ answers laws tasks.Show file second status text h =
     let c : IsCanonical 62 file reported = record { universe = h.1.universe; reads = h.1.reads; is = refl } in
     let s = shown_is laws.on_plane laws.unique laws.files file text reported h.1 c in
     (h.0, (s.0, s.1, (reported, canonical laws file reported c, s.2)))
+answers laws (tasks.ShowPeriod most) file second status text h =
+    let u = h.1.shown.universe in
+    let reported = canon_text 62 u in
+    let c : IsCanonical 62 file reported = record { universe = u; reads = h.1.shown.reads; is = refl } in
+    let s = shown-with_period laws.on_plane laws.unique laws.files most file text reported h.1 c in
+    (h.0, (s.0, s.1, (reported, canonical laws file reported c, s.2)))
 answers laws tasks.Step file second status text h = (h.0, stepped_is laws.on_plane file text h.1)
 answers laws tasks.StepTable file second status text h =
     (h.0, stepped_text laws.on_plane laws.read laws.decide second file text h.1.0 ((laws.grammars (lines_of second) h.1.0).0 h.1.1) h.1.2)
@@ -140,6 +147,7 @@ second_free (tasks.Convert Rle) file a b status text e h = h
 second_free (tasks.Convert Mc) file a b status text e h = h
 second_free (tasks.Same form) file a b status text e h = subst (λ (s : List ℕ). IsOutcome (tasks.Same form) file s status text) (e tt) h
 second_free tasks.Show file a b status text e h = h
+second_free (tasks.ShowPeriod most) file a b status text e h = h
 second_free tasks.Step file a b status text e h = h
 second_free tasks.StepTable file a b status text e h = subst (λ (s : List ℕ). IsOutcome tasks.StepTable file s status text) (e tt) h
 second_free (tasks.Later n) file a b status text e h = h
@@ -197,6 +205,7 @@ own_text laws (tasks.Convert Rle) file second status text w h = absurd w
 own_text laws (tasks.Convert Mc) file second status text w h = own_canonical laws file text h.1
 own_text laws (tasks.Same form) file second status text w h = absurd w
 own_text laws tasks.Show file second status text w h = absurd w
+own_text laws (tasks.ShowPeriod most) file second status text w h = absurd w
 own_text laws tasks.Step file second status text w h = let t = h.1.3 in record { universe = t.universe; reads = t.reads; is = t.canonical }
 own_text laws tasks.StepTable file second status text w h = let t = h.1.2.3 in record { universe = t.universe; reads = t.reads; is = t.canonical }
 own_text laws (tasks.Later n) file second status text w h = let t = h.1.3 in record { universe = t.universe; reads = t.reads; is = t.canonical }

@@ -1,4 +1,5 @@
 mod FormLaw
 mod FormTexts
+mod PeriodLaw
 mod AnswerLaw
 mod RefusalLaw

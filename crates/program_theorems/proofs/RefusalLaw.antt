@@ -18,6 +18,7 @@ use Rattle.life_canon.specs.Running.{RunRefuses, ReadRefuses}
 use Rattle.life_canon.specs.Running as running
 use Rattle.life_canon.specs.Texts.{IsCanonical, IsRleOf, IsShownText as LayerShown}
 use Rattle.life_generations.specs.Later.{IsTextLater}
+use Rattle.life_periods.specs.OfFile.{IsShownWithPeriod, RefusesPeriodOfFile}
 use Rattle.life_step.specs.Stepped.{IsStepped as LayerStepped}
 use Rattle.pattern_sources.specs.Faults.{is_of_table, place_text, Reports, fault_line as layer_line, status_of as layer_status}
 use Rattle.life_cli.specs.Jobs as layer
@@ -48,8 +49,10 @@ use Rattle.step_theorems.proofs.StepBy as by_table
 use Rattle.table_laws.specs.Tables.{IsTable}
 use Rattle.step_theorems.proofs.StepLaw.{unstepped_is}
 use Rattle.program_theorems.proofs.AnswerLaw.{own_times, times}
+use Rattle.program_theorems.proofs.PeriodLaw.{period-reason_of}
 use Rattle.program_theorems.specs.Jobs.{AreClaimedSteps, HasClaimedSecond, IsShortFile, RefusesTask, RefusesClaimedMany, IsReason, of_files, of_want, of_length, of_source, of_sink, DeviceHolds}
 use Rattle.program_theorems.specs.Layers.{LayersAgree}
+use Rattle.program_theorems.specs.Periods.{HasNoClaimedPeriod, IsPeriodReason, no_table_for_period, leaves_from_middle}
 use Rattle.program_theorems.specs.Faults.{claimed_fault_line, claimed_status_of}
 
 -- ---- kinds
@@ -93,6 +96,10 @@ placeless_later : (n : ℕ) (now : Pattern) (fault : Fault) → IsFirstReasonWit
 placeless_later n now _ (many.no_table_for name r some) = record { line = refl; kind = λ e. cc }
 placeless_later n now _ (many.beyond_last_generation m b s r large) = record { line = refl; kind = λ e. cc }
 placeless_later n now _ (many.leaves_plane_within m b s r small leaves) = record { line = refl; kind = λ e. cc }
+
+placeless_period : (most : ℕ) (now : Pattern) (fault : Fault) → IsPeriodReason most now fault → IsPlaceless fault
+placeless_period most now _ (no_table_for_period name r) = record { line = refl; kind = λ e. cc }
+placeless_period most now _ (leaves_from_middle n b s r leaves) = record { line = refl; kind = λ e. cc }
 
 -- a fault of no line or of one of a table, whose kind isn't that of a sink
 record IsOfTable (fault : Fault) : Type 0 where
@@ -282,6 +289,22 @@ module _ (laws : LayersAgree) (first second : SourceRun) (output : SinkRun) (ref
         short _ _ bytes file read f,
         refl,
         inr (subst (λ (b : List ℕ). IsNotAdvanced n b refusal.fault) (all_read (2 ^ 30) first.before first.after file bytes read f) un),
+      ))
+
+  of_period : (most : ℕ) → refusal.in_table ≡ false → (bytes : List ℕ) → ReadAll (2 ^ 30) first.before first.after bytes
+      → RefusesPeriodOfFile most bytes refusal.fault → Origin (tasks.ShowPeriod most) first second output refusal
+  of_period most e bytes read (inl h) =
+      of_pattern laws (tasks.ShowPeriod most) first second output refusal e bytes h
+      (λ file other f g. let r = read_as _ _ bytes file _ read f h in (r.0, refl, inl r.1))
+  of_period most e bytes read (inr (inl (inl memory))) = from_want (inr memory)
+  of_period most e bytes read (inr (inl (inr full))) = from_want (inl full)
+  of_period most e bytes read (inr (inr h)) =
+      let un = period-reason_of laws.on_plane most bytes h.0 refusal.fault h.1 h.2 in
+      of_none laws (tasks.ShowPeriod most) first second output refusal false (placeless_period most un.0 refusal.fault un.2)
+      (λ file other f g. (
+        short _ _ bytes file read f,
+        refl,
+        inr (subst (λ (b : List ℕ). HasNoClaimedPeriod most b refusal.fault) (all_read (2 ^ 30) first.before first.after file bytes read f) un),
       ))
 
   -- two files
@@ -484,6 +507,9 @@ origin_of laws tasks.Show first second output refusal h =
     of_file laws tasks.Show first second output refusal (LayerShown 62) (LayerRefuses 62) (λ bytes other text is. (refl, is)) (λ has. has)
     (λ bytes read r. of_pattern laws tasks.Show first second output refusal h.0 bytes r
     (λ file other f g. let k = read_as _ _ bytes file _ read f r in (k.0, refl, k.1))) h.1
+origin_of laws (tasks.ShowPeriod most) first second output refusal h =
+    of_file laws (tasks.ShowPeriod most) first second output refusal (IsShownWithPeriod most) (RefusesPeriodOfFile most) (λ bytes other text is. (refl, is))
+    (λ has. has) (of_period laws first second output refusal most h.0) h.1
 origin_of laws tasks.Step first second output refusal h =
     of_file laws tasks.Step first second output refusal LayerStepped layer.RefusesLifeStep (λ bytes other text is. (refl, is)) (λ has. has)
     (of_step laws first second output refusal h.0) h.1

@@ -18,6 +18,7 @@ use Rattle.claims.specs.ByTable.{IsClaimedStepBy, IsUnsteppedBy}
 use Rattle.theorems.specs.Patterns.{IsRleOfFile}
 use Rattle.generation_theorems.specs.ManyGenerations.{IsClaimedTextLater, IsNotAdvanced}
 use Rattle.program_theorems.specs.Forms.{SameIn, IsClaimedTextIn}
+use Rattle.program_theorems.specs.Periods.{IsClaimedShownWithPeriod, HasNoClaimedPeriod}
 use Rattle.program_theorems.specs.Faults.{claimed_status_of, claimed_fault_line}
 
 -- the task has a second file: the one that the first is compared with, or a rule table
@@ -42,6 +43,7 @@ pub record IsGiven {B : Type 0} (task : Task) (first : ℕ) (failures : B → �
 abbrev pub WritesCanonical : Task → Type 0
 WritesCanonical (tasks.Same form) = ⊥
 WritesCanonical tasks.Show = ⊥
+WritesCanonical (tasks.ShowPeriod most) = ⊥
 WritesCanonical (tasks.Convert Rle) = ⊥
 WritesCanonical _ = Unit {0}
 
@@ -66,6 +68,9 @@ IsOutcome (tasks.Same form) file second status text =
 IsOutcome tasks.Show file second status text =
     (status ≡ 0) × ((pattern : Pattern) × (pattern_of file ≡ Ok pattern)
     × ((canonical : List ℕ) × IsCanonicalText file canonical × IsClaimedShown pattern (claimed_node_lines canonical) text))
+IsOutcome (tasks.ShowPeriod most) file second status text =
+    (status ≡ 0) × ((pattern : Pattern) × (pattern_of file ≡ Ok pattern)
+    × ((canonical : List ℕ) × IsCanonicalText file canonical × IsClaimedShownWithPeriod most pattern (claimed_node_lines canonical) text))
 IsOutcome tasks.Step file second status text = (status ≡ 0) × IsClaimedStep file text
 IsOutcome tasks.StepTable file second status text = (status ≡ 0) × ((table : Table) × (table_of second ≡ Ok table) × IsClaimedStepBy table file text)
 IsOutcome (tasks.Later n) file second status text = (status ≡ 0) × IsClaimedTextLater n file text
@@ -86,6 +91,8 @@ RefusesTask (tasks.Convert Rle) file second of_table fault = RefusesClaimedMany 
 RefusesTask (tasks.Same form) file second of_table fault =
     IsShortFile file × IsShortFile second × (of_table ≡ false)
     × ((pattern_of file ≡ Err fault) ⊎ (IsOk (pattern_of file) × (pattern_of second ≡ Err fault)))
+RefusesTask (tasks.ShowPeriod most) file second of_table fault =
+    IsShortFile file × (of_table ≡ false) × ((pattern_of file ≡ Err fault) ⊎ HasNoClaimedPeriod most file fault)
 RefusesTask tasks.Step file second of_table fault = IsShortFile file × (of_table ≡ false) × ((pattern_of file ≡ Err fault) ⊎ IsUnstepped file fault)
 RefusesTask tasks.StepTable file second of_table fault =
     IsShortFile second × (((of_table ≡ true) × (table_of second ≡ Err fault)) ⊎ (IsShortFile file × ((table : Table) × (table_of second ≡ Ok table)

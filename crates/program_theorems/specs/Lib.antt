@@ -2,4 +2,5 @@ pub mod Faults
 pub mod Forms
 pub mod Jobs
 pub mod Layers
+pub mod Periods
 pub mod Words
