@@ -37,7 +37,7 @@ _golly_canon() {
                 canon | same) COMPREPLY=($(compgen -W "--form --explain --help -h" -- "$word")) ;;
                 keys) COMPREPLY=($(compgen -W "--form --ignore-generation --zero --json --from --stream --recursive -r --help -h" -- "$word")) ;;
                 duplicates) COMPREPLY=($(compgen -W "--form --ignore-generation --zero --from --recursive -r --help -h" -- "$word")) ;;
-                show) COMPREPLY=($(compgen -W "--explain --help -h" -- "$word")) ;;
+                show) COMPREPLY=($(compgen -W "--period --explain --help -h" -- "$word")) ;;
             esac
             [ ${#COMPREPLY[@]} -eq 0 ] || return
             ;;

@@ -28,7 +28,7 @@ Options of keys and duplicates:
 FORM is placed (the pattern as it lies), moved (up to translation) or turned (up to rotation and reflection too). The file - is standard input.
 Status: 0 done; 1 different, or no duplicates; 2 a file was refused; 3 it can't be read or written; 4 out of memory; 5 wrong arguments.
 
-This command has neither --explain, --ignore-generation nor --stream of the program, nor its sentences on refused files that aren't patterns, nor its line of
+This command has neither --explain, --ignore-generation, --period nor --stream of the program, nor its sentences on refused files that aren't patterns, nor its line of
 progress and its hints on a terminal, nor the help of each command; it takes more time, and at most 4 GB of memory. What the program has beyond that is in its packages
 for Linux, with its man page.
 npx hands all arguments to a shell as one text. From some 128 KB on the system takes no such text, and npx ends with the status 249 and no message: the
