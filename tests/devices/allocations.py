@@ -81,6 +81,8 @@ PROGRAM_RUNS = [
     Run("same A B --form moved", ["same", "pair.rle", "pair.mc", "--form", "moved"], Answer(0, b"same\n")),
     Run("same A B --form turned", ["same", "pair.rle", "pair.mc", "--form", "turned"], Answer(0, b"same\n")),
     Run("show FILE", ["show", "pair.rle"], Answer(0, PAIR_SHOWN)),
+    Run("show FILE --period MOST", ["show", "line.rle", "--period", "9"],
+        Answer(0, b"rule B3/S23\ngeneration 0\npopulation 3\nbox 0 0 3 1\nnodes 1\nperiod 2 oscillator\n")),
     Run("convert FILE --to rle", ["convert", "pair.mc", "--to", "rle"], Answer(0, PAIR_RLE)),
     Run("convert FILE --to mc", ["convert", "pair.rle", "--to", "mc"], Answer(0, PAIR_TEXT)),
     Run("step FILE", ["step", "line.rle"], Answer(0, LINE_STEPPED)),

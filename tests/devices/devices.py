@@ -67,6 +67,7 @@ JOBS = [Job(*job) for job in [
     ("same pair.rle pair.mc", Answer(0, b"same\n"), b""),
     ("same named.rle -", Answer(1, b"different\n"), FILES["pair.mc"]),
     ("show pair.rle", Answer(0, PAIR_SHOWN), b""),
+    ("show pair.rle --period 9", Answer(0, PAIR_SHOWN + b"period none up to 9\n"), b""),
     ("convert pair.mc --to rle", Answer(0, PAIR_RLE), b""),
     ("convert pair.rle --to mc", Answer(0, PAIR_TEXT), b""),
     ("step line.rle", Answer(0, LINE_STEPPED), b""),

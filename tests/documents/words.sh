@@ -102,7 +102,7 @@ for shell in zsh fish; do
     done
 done
 # In zsh a `=` behind the name of an option lets its value stand behind a `=` too; fish always does.
-for option in form to table generations from; do
+for option in form to table generations period from; do
     verdict "zsh takes --$option=" "$(grep -q -e "'--$option=\[" completions/_golly_canon || echo " it doesn't")"
 done
 for file in completions/_golly_canon completions/golly_canon.fish; do

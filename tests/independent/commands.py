@@ -8,6 +8,7 @@ from .forms import is_same_in, text_in
 from .generations import MOST_CELLS, later_by_rule, step_by_rule, step_by_table
 from .lines import Fault
 from .patterns import canonical_text, listed, read
+from .periods import period_line
 from .rle import rle_text
 from .squares import FIRST, Squares, box_of, cells_of
 from .tables import read_table
@@ -86,8 +87,9 @@ def same(first, second, form="placed"):
     return answer_of(lambda: (0, b"same\n") if is_same(first, second, form) else (1, b"different\n"))
 
 
-def show(file):
-    return answer_of(lambda: (0, shown(file)))
+def show(file, most=None):
+    """The five lines of a file, and the line of its period up to `most`, if that is given."""
+    return answer_of(lambda: (0, shown(file) + (b"" if most is None else period_line(file.pattern, most))))
 
 
 def step(file, table=None, generations=None):

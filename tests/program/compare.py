@@ -173,6 +173,8 @@ def wanted_answers(case):
                 yield ["step", "longer"], commands.step(file)
             for number in generations_of(case, file):
                 yield ["step", name, "--generations", str(number)], commands.step(file, generations=number)
+            for number in generations_of(case, file)[:1]:
+                yield ["show", name, "--period", str(number + 1)], commands.show(file, number + 1)
     if case.table is not None and not is_slow(file):
         table = commands.File(case.table)
         yield ["step", name, "--table", "table"], commands.step(file, table)

@@ -10,9 +10,7 @@ usage: tests/program/generations.py PROGRAM [--golly BGOLLY] [--seed SEED]
 The last line counts the checks."""
 
 import argparse
-import fcntl
 import os
-import pty
 import random
 import resource
 import shutil
@@ -20,14 +18,12 @@ import signal
 import subprocess
 import sys
 import tempfile
-import termios
 import time
-import tty
 
 sys.dont_write_bytecode = True  # nothing is left in tests/
 sys.path.insert(0, os.path.dirname(os.path.dirname(os.path.abspath(__file__))))
 
-from shared import counting, processes  # noqa: E402
+from shared import counting, processes, terminals  # noqa: E402
 from shared.fixtures import FILES  # noqa: E402
 
 GUN = ("24bo$22bobo$12b2o6b2o12b2o$11bo3bo4b2o12b2o$2o8bo5bo3b2o$2o8bo3bob2o4bobo$10bo5bo7bo$11bo3bo$12b2o!")
@@ -169,37 +165,6 @@ LINE = b"\rmaking %d generation%s; Ctrl-C stops, ulimit -v limits memory"
 CLEARED = b"\r\x1b[K"
 
 
-class Terminal:
-    """A terminal, which controls what is started on it, so that a key there is a signal."""
-
-    def __init__(self):
-        self.end, self.own = pty.openpty()
-        tty.setraw(self.own)  # no end of a line is turned into two bytes
-        mode = termios.tcgetattr(self.own)
-        mode[3] |= termios.ISIG
-        termios.tcsetattr(self.own, termios.TCSANOW, mode)
-
-    def start(self, words, **streams):
-        """Starts a program whose standard error is this terminal, in a session of its own."""
-        def control():
-            os.setsid()
-            fcntl.ioctl(self.own, termios.TIOCSCTTY, 0)
-        run = subprocess.Popen(words, stderr=self.own, preexec_fn=control, **streams)
-        os.close(self.own)
-        return run
-
-    def read(self, wanted=None):
-        """What comes out of the terminal until that has something, or else until nobody writes to it."""
-        found = b""
-        while wanted is None or wanted not in found:
-            try:
-                data = os.read(self.end, 1 << 16)
-            except OSError:  # so ends a terminal
-                return found
-            found += data
-        return found
-
-
 def line_of(number):
     return LINE % (number, b"" if number == 1 else b"s")
 
@@ -219,7 +184,7 @@ def on_terminal(program):
         ("a cell that leaves the plane", ["leaving.rle", "--generations", "99"], b"", line_of(99) + CLEARED + b"OutOfPlane\n"),
         ("a step without a number", ["glider.rle"], program.text(["step", "-"], glider), b""),
     ):
-        terminal = Terminal()
+        terminal = terminals.Terminal()
         with tempfile.TemporaryFile() as out:
             with terminal.start([program.path, "step", *words], cwd=program.folder, stdin=subprocess.DEVNULL, stdout=out) as run:
                 said = terminal.read()
@@ -234,7 +199,7 @@ def on_terminal(program):
 
 def shared_terminal(program, glider, wanted):
     """Where standard output is the same terminal, the line is cleared before the text."""
-    terminal = Terminal()
+    terminal = terminals.Terminal()
     with terminal.start([program.path, "step", "-", "--generations", "40"], stdin=subprocess.PIPE, stdout=terminal.own) as run:
         run.stdin.write(glider)
         run.stdin.close()
@@ -248,7 +213,7 @@ def interrupted(program):
     cells = "$".join("".join(random.Random(row).choice("ob") for _ in range(64)) for row in range(64))
     program.put("growing.rle", f"x = 64, y = 64, rule = B34/S34\n{cells}!\n".encode())
     path, number = os.path.join(program.folder, "written"), 2**40
-    terminal = Terminal()
+    terminal = terminals.Terminal()
     with open(path, "wb") as out:
         with terminal.start([program.path, "step", "growing.rle", "--generations", str(number)], cwd=program.folder, stdin=subprocess.DEVNULL, stdout=out) as run:
             said = terminal.read(line_of(number))

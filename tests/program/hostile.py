@@ -586,6 +586,7 @@ DEVICES = [
     failing("a file that may not be read", "canon locked", "ReadFault", setup="echo '[M2]' > locked && chmod 000 locked", by=AS_NOBODY),
 ]
 
+LINE_SHOWN = b"rule B3/S23\ngeneration 0\npopulation 3\nbox 0 0 3 1\nnodes 1\n"
 MANY_SHOWN = b"rule B3/S23\ngeneration 0\npopulation 1048577\nbox 0 0 1048577 1\nnodes 38\n"
 
 
@@ -614,6 +615,11 @@ JOBS = [
     failing("an absent file that is shown", "show absent", "ReadFault"),
     failing("a folder that is shown", "show .", "ReadFault"),
     told("many cells that are shown", "show many.rle", MANY_SHOWN),
+    told("a file that is shown with its period", "show line.rle --period 18446744073709551615", LINE_SHOWN + b"period 2 oscillator\n"),
+    told("a pattern that dies", "show --period=1000 pair.rle", PAIR_SHOWN + b"period none up to 1000\n"),
+    faulty("the period of a refused file", "show bad.rle --period 1", "line 2: StateRange"),
+    faulty("the period of a pattern whose rule is a name", "show spread.rle --period 1", "NeedsTable"),
+    failing("the period of an absent file", "show absent --period 1", "ReadFault"),
     told("to RLE", "convert pair.mc --to rle", PAIR_RLE),
     told("to RLE, the option first", "convert --to=rle -", PAIR_RLE),
     told("to macrocell", "convert pair.rle --to mc", PAIR_TEXT),
@@ -668,7 +674,7 @@ STEPS = [
 ]
 
 # One for each job.
-EACH_JOB = ["same pair.rle pair.mc", "same pair.rle named.rle", "show pair.rle", "convert pair.mc --to rle", "convert pair.rle --to mc",
+EACH_JOB = ["same pair.rle pair.mc", "same pair.rle named.rle", "show pair.rle", "show line.rle --period 2", "convert pair.mc --to rle", "convert pair.rle --to mc",
             "step line.rle", "step spread.rle --table spread.rule", "step line.rle --generations 5",
             "step spread.rle --table spread.rule --generations 1", "keys pair.rle pair.mc", "keys pair.rle --form turned"]
 
@@ -1067,6 +1073,16 @@ MISUSED = [
     misused("2^64 generations", "step", "input", "--generations", "18446744073709551616"),
     misused("generations twice", "step", "input", "--generations", "1", "--generations", "1"),
     misused("generations for another command", "show", "input", "--generations", "1"),
+    misused("a period without its number", "show", "input", "--period"),
+    misused("a period without a file", "show", "--period", "1"),
+    misused("no number for a period", "show", "input", "--period", "ten"),
+    misused("the empty number for a period", "show", "input", "--period", ""),
+    misused("a period with a sign", "show", "input", "--period", "+1"),
+    misused("a period below 0", "show", "input", "--period=-1"),
+    misused("a period of 0", "show", "input", "--period", "0"),
+    misused("a period of 2^64", "show", "input", "--period", "18446744073709551616"),
+    misused("a period twice", "show", "input", "--period", "1", "--period", "1"),
+    misused("a period for another command", "step", "input", "--period", "1"),
     misused("a second file that is no UTF-8 text", "same", "input", NO_TEXT),
     misused("a format that is no UTF-8 text", "convert", "input", "--to", os.fsdecode(b"\xff")),
     misused("standard input for both files", "same", "-", "-"),
@@ -1083,6 +1099,8 @@ MISUSED = [
               "convert", "input", "--to", "png"),
     explained("the text for no number of generations", b"the value of --generations is a number from 0 to 2^64 - 1", b"golly_canon step [OPTIONS] <FILE>",
               "step", "input", "--generations", "1e6"),
+    explained("the text for a period of 0", b"the value of --period is a number from 1 to 2^64 - 1", b"golly_canon show [OPTIONS] <FILE>",
+              "show", "input", "--period", "0"),
     explained("the text for keys of no file", b"a FILE, --from LIST or --stream STREAM has to be given", b"golly_canon keys [OPTIONS] [FILE]...", "keys"),
     explained("the text for a stream beside a file", b"--stream can't be used with a FILE, with --from or with -r",
               b"golly_canon keys [OPTIONS] [FILE]...", "keys", "--stream", "-", "FILE"),
@@ -1110,6 +1128,8 @@ ASKED = [
     asked("an example of many generations", rb"  golly_canon step glider\.rle --generations 1000000", "step", "--help"),
     asked("the statuses of same", rb"  1  they are different patterns", "same", "--help"),
     asked("an example of show", rb"  golly_canon show glider\.rle", "show", "--help"),
+    asked("an example of a period", rb"  golly_canon show glider\.rle --period 1000", "show", "--help"),
+    asked("what is said of a period", rb"period N oscillator ", "show", "--help"),
     asked("help convert", rb"^mc   macrocell"),
     *(asked(f"a short help that names {command}", rb"^  %s " % command.encode(), "-h")
       for command in ("canon", "convert", "same", "show", "step", "keys")),

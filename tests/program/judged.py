@@ -62,8 +62,8 @@ class Library:
         self.files[name] = data
 
     def knows(self, words):
-        """Whether there is a call for these words: by a table there is none for many generations."""
-        return "--table" not in words or "--generations" not in words
+        """Whether there is a call for these words: there is none for a period, and by a table none for many generations."""
+        return "--period" not in words and ("--table" not in words or "--generations" not in words)
 
     def limits(self, words):
         """Whether these words are compared within a limit of squares too: other calls at each limit are in tests/library/library.py."""

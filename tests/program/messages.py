@@ -266,9 +266,9 @@ ALONE = [
 ]
 
 
-def explained(fault, where, text, advice):
-    """What is said of a fault: its own line, and what `--explain` adds."""
-    meaning = sentences()[fault.rpartition(" ")[2]]
+def explained(fault, where, text, advice, meaning=None):
+    """What is said of a fault: its own line, and what `--explain` adds, with the sentence of its kind if no other is given."""
+    meaning = meaning or sentences()[fault.rpartition(" ")[2]]
     lines = [fault, f"{where}: {meaning}" if where else meaning, *([f"    {text}"] if text else []), *([advice] if advice else [])]
     return "".join(f"{line}\n" for line in lines).encode()
 
@@ -276,6 +276,8 @@ def explained(fault, where, text, advice):
 IN_PAIR = ("child.mc, line 4", "4 0 0 0 9", LOST)
 IN_INPUT = ("standard input, line 4", None, LOST)
 IN_EITHER = ("one of the two files, line 4", None, LOST)
+# Three cells in a column at each side of the plane: lying, they are too wide for it.
+WIDE = b"#CXRLE Pos=-2305843009213693952,0\nx = 1, y = 3\no4611686018427387902bo$o4611686018427387902bo$o4611686018427387902bo!\n"
 # Other commands, what they read from standard input, the status, the fault's own line, and what is said of it.
 OTHERS = [
     (["convert", "--to", "rle", "child.mc"], b"", 2, "line 4: BadChild", IN_PAIR),
@@ -307,6 +309,11 @@ OTHERS = [
     (["step", "--generations=9", "-"], b"#CXRLE Gen=18446744073709551612\nx = 3, y = 1\n3o!\n", 2, "GenerationTooLarge", ("standard input", None, None)),
     (["step", "named.rle", "--generations", "9"], b"", 2, "NeedsTable",
      ("named.rle", None, "Name the rule table: golly_canon step --table NAME.rule FILE.")),
+    (["show", "--period", "9", "child.mc"], b"", 2, "line 4: BadChild", IN_PAIR),
+    (["show", "--period", "9", "named.rle"], b"", 2, "NeedsTable",
+     ("named.rle", None, "Leave --period out.", "The rule is a name, and a period is sought under a B/S rule alone.")),
+    (["show", "--period", "9", "-"], WIDE, 2, "OutOfPlane",
+     ("standard input", None, None, "Before it is the same again, the pattern grows out of the plane, which goes from -2^61 to 2^61 - 1.")),
     (["step", "--table", "packed.gz", "spread.rle"], b"", 2, "table line 1: NoRuleLine",
      ("packed.gz, line 1", None, "This is a gzip file: unpack it first, with gunzip.")),
     (["step", "--table", "named.cells", "spread.rle"], b"", 2, "table line 1: NoRuleLine",
@@ -327,8 +334,8 @@ TWICE = [
 ]
 
 
-# The line that `step --generations` shows and clears, which tests/program/generations.py tests.
-MAKING = re.compile(rb"\rmaking \d+ generations?; [^\r\n]*\r\x1b\[K")
+# The line that `step --generations` or `show --period` shows and clears, which generations.py and periods.py of tests/program test.
+MAKING = re.compile(rb"\r(?:making \d+ generations?|seeking a period up to \d+); [^\r\n]*\r\x1b\[K")
 
 
 def on_terminal(place, words, source=b"", **how):
@@ -477,7 +484,7 @@ def warning_rows(place):
 ODD_FILES = [(b"lost", RETURN), (b"squareless", SQUARES), (b"commented.mc", COMMENT), (b"dead.rle", CELLS), (b"cut.rle", CUT), (b"joined.rle", JOINED),
              (b"pair", None), (b"od\x1bd\n\\", SQUARES)]
 # The commands over one file, and over two, with what they answer and what is said, in its order.
-SINGLE = [["canon"], ["canon", "--form", "turned"], ["convert", "--to", "rle"], ["convert", "--to", "mc"], ["show"], ["step"],
+SINGLE = [["canon"], ["canon", "--form", "turned"], ["convert", "--to", "rle"], ["convert", "--to", "mc"], ["show"], ["show", "--period", "9"], ["step"],
           ["step", "--generations", "3"]]
 DOUBLE = [
     (["same", "lost", "dead.rle"], Answer(0, b"same\n"), [(b"lost", RETURN), (b"dead.rle", CELLS)]),

@@ -122,6 +122,17 @@ SHOWN = [
         (WIRES, b"rule WireWorld\ngeneration 7\npopulation 2\nbox -1 -1 2 1\nnodes 1\n"),
     ]),
     *refusing(["show"], [(NONE, b"line 1: NoHeader")]),
+    *of_one(["show", "--period", "4"], [
+        (TWINS, PAIR_SHOWN + b"period none up to 4\n"),
+        (EAST_GLIDER, b"rule B3/S23\ngeneration 0\npopulation 5\nbox 0 0 3 3\nnodes 1\nperiod 4 spaceship 1 1\n"),
+        (BLANK, b"rule B3/S23\ngeneration 0\npopulation 0\nbox none\nnodes 0\nperiod 1 still life\n"),
+        (FILES["last.rle"], b"rule B3/S23\ngeneration 18446744073709551615\npopulation 3\nbox 0 0 3 1\nnodes 1\nperiod 2 oscillator\n"),
+    ]),
+    *of_one(["show", "--period=1"], [
+        (FILES["line.rle"], b"rule B3/S23\ngeneration 0\npopulation 3\nbox 0 0 3 1\nnodes 1\nperiod none up to 1\n"),
+        (FILES["edge.rle"], b"rule B3/S23\ngeneration 0\npopulation 3\nbox 0 2305843009213693951 3 1\nnodes 60\nperiod none up to 1\n"),
+    ]),
+    *refusing(["show", "--period", "2"], [(NONE, b"line 1: NoHeader"), (WIRES, b"NeedsTable")]),
 ]
 
 
