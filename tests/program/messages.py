@@ -1,8 +1,9 @@
 #!/usr/bin/env python3
 """Holds what the built program, PROGRAM, says besides its answers: which files `--recursive` finds in folders; which arguments are refused that aren't
-UTF-8 text; what `--explain` adds to the line of a fault, and a terminal without it; that nothing is said where the reader of a pipe leaves; of which
-files there are warnings; what a terminal gets at the end of `keys` and `duplicates`; and what it gets of control characters. Every text was written by
-hand, but for the sentences of the kinds of fault, which are those of the man page.
+UTF-8 text; what is said of `--stream` that is misused, and of a stream that can't be opened; what `--explain` adds to the line of a fault, and a terminal
+without it; that nothing is said where the reader of a pipe leaves; of which files there are warnings; what a terminal gets at the end of `keys` and
+`duplicates`; and what it gets of control characters. Every text was written by hand, but for the sentences of the kinds of fault, which are those of the man
+page.
 
 usage: tests/program/messages.py PROGRAM
 
@@ -173,6 +174,82 @@ def argument_rows(place):
         counting.row(f"no text, and another fault: {words[0]!r} with {len(words)} words", [] if found.status == 5 and said in found.error else [repr(found)])
     found = place.told(["canon", NO_TEXT, "--help"])
     counting.row("no text, and --help", [] if found.status == 0 and b"Usage: golly_canon canon" in found.output else [repr(found)[:300]])
+
+
+# ---- streams of patterns that are misused, or can't be opened
+
+KEYS_CALL = "golly_canon keys [OPTIONS] [FILE]..."
+# The man page: `--stream` can't be combined with files, `--from` or `-r`, and a form has one of three names.
+NOT_ALONE = "--stream can't be used with a FILE, with --from or with -r"
+NO_FORM = "the value of --form is placed, moved or turned"
+NO_FILES = "a FILE, --from LIST or --stream STREAM has to be given"
+
+
+def usage(message, call=KEYS_CALL):
+    """What is said of wrong arguments: what is wrong, how the command is called, and where to read more."""
+    called = f"Usage: {call}\n\n" if call else ""
+    return f"error: {message}\n\n{called}For more information, try '--help'.\n".encode()
+
+
+# Words of `keys`, and what is said of them.
+MISUSED_STREAMS = [
+    *((words, usage(NOT_ALONE)) for words in (
+        ["--stream", "-", "pair"], ["pair", "--stream", "-"], ["--stream=stream", "pair", "absent"], ["--stream", "-", "-"], ["--stream", "absent", "-"],
+        ["--stream", "-", "--from", "list"], ["--from=-", "--stream", "-"], ["--stream", "-", "-r"], ["--recursive", "--stream", "tree"],
+        ["-r", "--stream", "-", "tree", "--from", "list", "--json", "--zero"], ["--stream", "-", "--", "-r"])),
+    *((["--stream", "-", "--form", form], usage(NO_FORM)) for form in ("mirrored", "PLACED", "place", "")),
+    (["--form", "shifted", "--ignore-generation", "--stream", "absent"], usage(NO_FORM)),
+    (["--stream", "-", "-", "--from", "-"], b"TwoInputs\n"), (["-", "--stream", "stream", "-"], b"TwoInputs\n"),
+    ([], usage(NO_FILES)), (["--json", "--zero", "-r"], usage(NO_FILES)),
+    (["--stream"], usage("a value is required for '--stream <STREAM>' but none was supplied", None)),
+    (["--stream", "-", "--form"], usage("a value is required for '--form <FORM>' but none was supplied", None)),
+    (["--stream", "a", "--stream", "b"], usage("the argument '--stream <STREAM>' cannot be used multiple times")),
+    (["--stream", "-", "--stream=-"], usage("the argument '--stream <STREAM>' cannot be used multiple times")),
+    (["--stream", NO_TEXT], SHOWN), (["--stream", "-", NO_TEXT], None), (["--stream", "-", "--explain"], None), (["--streams", "-"], None),
+]
+# Streams that can't be opened, and why; as nobody.
+UNOPENED_STREAMS = [("absent", ABSENT), ("absent/x", ABSENT), ("tree", FOLDER), ("tree/", FOLDER), ("pair/x", OTHER), ("pair/", OTHER), ("", ABSENT),
+                    ("locked", LOCKED), ("odd\n\\\r", ABSENT), ("n" * 300, OTHER), ("glider*.rle", ABSENT), ("/dev/fd/999", ABSENT)]
+
+
+def misused_stream_rows(place):
+    """What is said of `--stream` with other words than it takes, and of a stream that can't be opened or read: the same on a terminal."""
+    place.put(b"stream", PAIR_TEXT + b"\0")
+    place.put(b"list", b"pair\n")
+    place.put(b"locked", PAIR_TEXT)
+    os.chmod(place.path(b"locked"), 0)
+    twice = b"Only one of the files, or the list of them, may be -, standard input.\n"
+    for words, said in MISUSED_STREAMS:
+        found = place.told(["keys", *words], PAIR_TEXT)
+        shown = on_terminal(place, ["keys", *words], PAIR_TEXT)
+        if said is None:
+            right = found.status == 5 and not found.output and re.match(rb"error: [^\n]+\n\n(?s:.*)For more information, try '--help'\.\n\Z", found.error)
+            counting.row(f"a misused stream: {words}", [] if right and shown == found else [repr((found, shown))])
+            continue
+        counting.row(f"a misused stream: {words}", problems_of(found, Answer(5, b"", said)))
+        counting.row(f"a misused stream on a terminal: {words}", problems_of(shown, Answer(5, b"", said + (twice if said == b"TwoInputs\n" else b""))))
+    found = place.told(["duplicates", "--stream", "stream"])
+    said = b"error: unexpected argument '--stream' found\n"
+    counting.row("duplicates takes no stream", [] if (found.status, found.output) == (5, b"") and found.error.startswith(said) else [repr(found)])
+    for name, why in UNOPENED_STREAMS:
+        line = keys.escaped(name.encode()) + b": " + why.encode() + b"\n"
+        for words in (["--stream", name], [f"--stream={name}", "--zero", "--form", "turned", "--ignore-generation"]):
+            place.holds(f"a stream that can't be opened: {words!r:.80}", ["keys", *words], Answer(3, b"", line), **NOBODY)
+        counting.row(f"it on a terminal: {name!r:.60}", problems_of(on_terminal(place, ["keys", "--stream", name], **NOBODY), Answer(3, b"", line)))
+        said = json.dumps({"name": name, "kind": "ReadFault", "reason": why}, separators=(",", ":")).encode() + b"\n"
+        place.holds(f"its object: {name!r:.60}", ["keys", "--json", "--stream", name], Answer(3, said), **NOBODY)
+    unread = b"1: ReadFault: " + sentences()["ReadFault"].encode() + b"\n"
+    place.holds("a stream that can't be read", ["keys", "--stream", "/proc/self/mem"], Answer(3, b"", unread))
+    said = {"name": "1", "kind": "ReadFault", "reason": sentences()["ReadFault"]}
+    place.holds("its object", ["keys", "--json", "--stream", "/proc/self/mem"], Answer(3, json.dumps(said, separators=(",", ":")).encode() + b"\n"))
+    for end, said in (("<&-", OTHER), ("< .", FOLDER)):
+        found = place.shell(f'"$program" keys --stream - {end}')
+        counting.row(f"a stream that is standard input {end}", problems_of(found, Answer(3, b"", b"-: %s\n" % said.encode())))
+    os.mkfifo(place.path(b"pipe"))
+    with subprocess.Popen(["sh", "-c", "cat stream > pipe"], cwd=place.here):
+        found = on_terminal(place, ["keys", "--stream", "pipe"])
+    counting.row("a stream that is a pipe, on a terminal", problems_of(found, Answer(0, lines_of([b"1"]), keys.PIPE)))
+    os.remove(place.path(b"pipe"))
 
 
 # ---- explanations
@@ -695,6 +772,7 @@ def main():
         place = Place(program, os.path.join(folder, "place"))
         folder_rows(place)
         argument_rows(place)
+        misused_stream_rows(place)
         named_pipe_rows(place)
         explanation_rows(place)
         foreign_rows(place)
