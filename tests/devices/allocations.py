@@ -10,6 +10,7 @@ usage: tests/devices/allocations.py PROGRAM ROWS
 
 import hashlib
 import itertools
+import json
 import os
 import re
 import subprocess
@@ -97,7 +98,8 @@ PROGRAM_RUNS = [
 ]
 
 
-BAD_CHILD = b"child.mc: line 4: BadChild: A child number doesn't refer to an earlier square one level down.\n"
+NO_CHILD = "A child number doesn't refer to an earlier square one level down."
+BAD_CHILD = f"child.mc: line 4: BadChild: {NO_CHILD}\n".encode()
 
 
 def keys_run(name, words, texts):
@@ -108,15 +110,64 @@ def keys_run(name, words, texts):
         key = hashlib.sha256(text).hexdigest().encode() if text else b""
         parts[file] = (0, b"%s  %s\n" % (key, file), b"") if text else (2, b"", BAD_CHILD)
     refused = {file: (4, b"", file + b": Memory: Memory was refused.\n") for file in parts}
+    answer, others = answers_of(parts, refused)
+    *named, last = (file.decode() for file in parts)
+    return Run(name, [*words, *named, "--from", "-"], answer, last.encode() + b"\n", others)
 
+
+def answers_of(parts, refused):
+    """What a run answers that comes to these parts, one after another, and what else it may answer where there is no memory for some of them. A part is a
+    status and what is written to standard output and to standard error; `refused` has what takes its place."""
     def answer(without):
-        found = [refused[file] if file in without else part for file, part in parts.items()]
+        found = [refused[name] if name in without else part for name, part in parts.items()]
         return Answer(max(status for status, _, _ in found), b"".join(it for _, it, _ in found), b"".join(it for _, _, it in found))
 
     counts = range(1, len(parts) + 1)
-    others = tuple(answer(without) for count in counts for without in itertools.combinations(parts, count))
-    *named, last = (file.decode() for file in parts)
-    return Run(name, [*words, *named, "--from", "-"], answer(()), last.encode() + b"\n", others)
+    return answer(()), tuple(answer(without) for count in counts for without in itertools.combinations(parts, count))
+
+
+# The patterns of a stream, each with its text, or none if it is BadChild, and its warning. The third one is longer than a read of the program, and the last one
+# lacks its end.
+NO_SQUARES = "the file has no line of squares, so it is the blank pattern; a macrocell file that lost its line ends looks like this"
+PATTERNS = [
+    (FILES["pair.mc"], PAIR_TEXT, ""),
+    (GIVEN["child.mc"], b"", ""),
+    (b"#C\n" * 30_000 + FILES["pair.rle"], PAIR_TEXT, ""),
+    (b"[M2]\n", LIFE, NO_SQUARES),
+    (GIVEN["seven.mc"], LIFE + b"....*$$$$$$$$\n4 0 0 0 1\n", ""),
+]
+
+
+def stream_run(name, words):
+    """A run of `keys` over these patterns, one after another. One for which there is no memory is reported by its number, and the next one is taken."""
+    parts, refused = {}, {}
+    for number, (_, text, warning) in enumerate(PATTERNS, 1):
+        key = f"{hashlib.sha256(text).hexdigest()}  {number}\n".encode()
+        warned = f"{number}: warning: {warning}\n".encode() if warning else b""
+        parts[number] = (0, key, warned) if text else (2, b"", f"{number}: line 4: BadChild: {NO_CHILD}\n".encode())
+        refused[number] = (4, b"", f"{number}: Memory: Memory was refused.\n".encode())
+    return Run(name, [*words, "--stream", "-"], *stream_answers(parts, refused))
+
+
+def objects_run(name, words):
+    """The same, which writes objects."""
+    parts, refused = {}, {}
+    for number, (_, text, warning) in enumerate(PATTERNS, 1):
+        found = {"key": hashlib.sha256(text).hexdigest()} if text else {"kind": "BadChild", "line": 4, "reason": NO_CHILD}
+        warned = f"{number}: warning: {warning}\n".encode() if warning else b""
+        parts[number] = (0 if text else 2, object_of(number, found), warned)
+        refused[number] = (4, object_of(number, {"kind": "Memory", "reason": "Memory was refused."}), b"")
+    return Run(name, [*words, "--json", "--stream", "-"], *stream_answers(parts, refused))
+
+
+def stream_answers(parts, refused):
+    """What a run over these patterns answers, what it is given, and what else it may answer."""
+    answer, others = answers_of(parts, refused)
+    return answer, b"\0".join(data for data, _, _ in PATTERNS), others
+
+
+def object_of(number, members):
+    return json.dumps({"name": str(number), **members}, separators=(",", ":")).encode() + b"\n"
 
 
 def duplicates_run(name, words, groups):
@@ -149,6 +200,8 @@ KEYS_RUNS = [
              {b"pair.rle": LIFE + b"*$$$$$$$$\n4 1 0 1 0\n5 0 0 0 2\n", b"child.mc": b"", b"pair.mc": LIFE + b"*$$$$$$$$\n4 1 0 1 0\n5 0 0 0 2\n"}),
     keys_run("keys FILE.. --ignore-generation --from -", ["keys", "--ignore-generation"],
              {b"pair.rle": PAIR_TEXT, b"child.mc": b"", b"last.rle": LIFE + b"$$$$....***$$$$\n"}),
+    stream_run("keys --stream -", ["keys"]),
+    objects_run("keys --json --stream -", ["keys"]),
 ]
 
 
