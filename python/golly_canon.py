@@ -22,6 +22,8 @@ is the SHA-256 of such a text, for a table of many files:
     for it in golly_canon.keys(["glider.mc", "glider.rle"], "turned"):
         print(it.path, it.why if it.key is None else it.key.hex())
 
+`pattern_keys` does the same for patterns that are in no file, but come one after the other as bytes, any number of them.
+
 A file that is refused raises `Refused`, which says what the file is, if it is no pattern but for example packed by gzip. A file that seems damaged, because it
 has lost its line ends or its last rows, is read as the formats say, and a `PatternWarning` is issued. Threads may call at the same time; a `Stream` is used
 and closed only by the thread that made it.
@@ -37,8 +39,8 @@ import threading
 import warnings
 from typing import Any, BinaryIO, Callable, Iterable, Iterator, Literal, NamedTuple, Optional, Union
 
-__all__ = ["Box", "Form", "Keyed", "PatternWarning", "Refused", "Shown", "Stream", "SQUARES", "canon", "key", "keys", "same", "sentence_of", "show", "step",
-           "stream", "stream_key", "to_rle", "warning_of"]
+__all__ = ["Box", "Form", "Keyed", "KeyedPattern", "PatternWarning", "Refused", "Shown", "Stream", "SQUARES", "canon", "key", "keys", "pattern_keys", "same",
+           "sentence_of", "show", "step", "stream", "stream_key", "to_rle", "warning_of"]
 __version__ = "0.2.0"
 
 Bytes = Union[bytes, bytearray, memoryview]
@@ -159,6 +161,15 @@ class Keyed(NamedTuple):
     path: Path
     key: Optional[bytes]
     why: Optional[Exception]
+    warning: Optional[str]
+
+
+class KeyedPattern(NamedTuple):
+    """What `pattern_keys` finds of a pattern: its number, from 1 on; its key, 32 bytes; or why it has none, a `Refused`; and a warning."""
+
+    number: int
+    key: Optional[bytes]
+    why: Optional[Refused]
     warning: Optional[str]
 
 
@@ -404,7 +415,10 @@ def keys(paths: Iterable[Path], form: Form = "placed", *, limit: int = SQUARES) 
             if it.key is not None:
                 groups.setdefault(it.key, []).append(it.path)
     """
+    if isinstance(paths, (str, bytes, os.PathLike)):
+        raise TypeError(f"paths are the paths of files, and not one path: {paths!r}")
     number = _number_of(form)  # refused here, and not in the middle of the files
+    _limit_of(limit)
     return (_keyed(path, _FORMS[number], limit) for path in paths)
 
 
@@ -415,7 +429,52 @@ def _keyed(path: Path, form: Form, limit: int) -> Keyed:
             data = file.read()
         return Keyed(path, _key(data, form, limit), None, warning_of(data))
     except (OSError, Refused) as why:
-        return Keyed(path, None, why, None)
+        return Keyed(path, None, why.with_traceback(None), None)  # whose frames would hold the file
+
+
+def pattern_keys(patterns: Iterable[Bytes], form: Form = "placed", *, limit: int = SQUARES) -> Iterator[KeyedPattern]:
+    """The key of each of these patterns, in their order: what `key` gives for the bytes of its file, or why it has none. `golly_canon keys --stream` writes the
+    same. It goes on where a pattern is refused, takes each pattern when it is asked for its key, and holds one at a time, so `patterns` may be a generator
+    that never ends:
+
+        for it in golly_canon.pattern_keys(soups(), "turned"):
+            print(it.number, it.why if it.key is None else it.key.hex())
+
+    Raises `TypeError` where `patterns` isn't an iterable of bytes, such as one pattern alone, or an open file, which is an iterable of lines.
+    """
+    if isinstance(patterns, (str, bytes, bytearray, memoryview)):
+        raise TypeError(f"patterns are the bytes of one pattern after another, and not one {type(patterns).__name__}: put it into a list")
+    if hasattr(patterns, "read"):
+        raise TypeError("patterns are the bytes of one pattern after another, and not an open file, which gives lines")
+    try:
+        given = iter(patterns)
+    except TypeError:
+        raise TypeError(f"patterns are the bytes of one pattern after another, and not {type(patterns).__name__}") from None
+    number = _number_of(form)  # refused here, and not in the middle of the patterns
+    _limit_of(limit)
+    return _pattern_keys(given, _FORMS[number], limit)
+
+
+def _pattern_keys(patterns: Iterator[Bytes], form: Form, limit: int) -> Iterator[KeyedPattern]:
+    """The same without a look at what is given."""
+    number = 0
+    for data in patterns:
+        number += 1
+        found = _keyed_pattern(number, data, form, limit)
+        del data  # it isn't held until there is another one
+        yield found
+
+
+def _keyed_pattern(number: int, data: Bytes, form: Form, limit: int) -> KeyedPattern:
+    """The key of the pattern with this number."""
+    try:
+        file = _bytes_of(data)
+    except TypeError:
+        raise TypeError(f"patterns are bytes, and pattern {number} is {type(data).__name__}") from None
+    try:
+        return KeyedPattern(number, _key(file, form, limit), None, warning_of(file))
+    except Refused as why:
+        return KeyedPattern(number, None, why.with_traceback(None), None)  # whose frames would hold the pattern
 
 
 def to_rle(data: Bytes, *, limit: int = SQUARES) -> bytes:

@@ -1,12 +1,13 @@
 #!/usr/bin/env python3
-"""The Python module python/golly_canon.py: its example and that of docs/LIBRARY.md, worked rows and refusals, streams, its errors, and random files beside the
-program. The module is found by PYTHONPATH. The last line is 'N passed, M failed'.
+"""The Python module python/golly_canon.py: its example and that of docs/LIBRARY.md, worked rows and refusals, streams, the keys of files and of patterns that
+come one after the other, its errors, and random files beside the program. The module is found by PYTHONPATH. The last line is 'N passed, M failed'.
 
 usage: tests/library/module.py PROGRAM"""
 
 import doctest
 import hashlib
 import io
+import itertools
 import os
 import pathlib
 import pickle
@@ -18,18 +19,21 @@ import tempfile
 import textwrap
 import threading
 import warnings
+import weakref
 
 sys.path.insert(0, os.path.dirname(os.path.dirname(os.path.abspath(__file__))))
 
 import golly_canon  # noqa: E402
 from golly_canon import Box, PatternWarning, Refused, Shown, Stream  # noqa: E402
 from independent.fuzz import random_files  # noqa: E402
-from shared import hints, processes  # noqa: E402
+from shared import hints, processes, streams  # noqa: E402
 from shared.counting import check, ended  # noqa: E402
 from shared.fixtures import FILES, LIFE, LINE_STEPPED, MANY_TEXT, PAIR_RLE, PAIR_SHOWN, PAIR_TEXT, SPREAD_STEPPED  # noqa: E402
 
 PAGE = os.path.join(os.path.dirname(os.path.abspath(__file__)), "../../docs/LIBRARY.md")
 RANDOM_FILES = 200
+# How many patterns `pattern_keys` takes, and how many more bytes of memory it may take for the last nine tenths of them.
+PATTERNS, MORE_MEMORY = 100_000, 1_000_000
 GLIDER = b"x = 3, y = 3, rule = 23/3\nbo$2bo$3o!\n"
 GLIDER_TEXT = LIFE + b"$$$$.....*$......*$....***$$\n"
 GLIDER_KEY = "6d49a09978fd167769af106a97e3186cee07cf07e2e4481424797f7ae40b5459"  # by sha256sum
@@ -363,8 +367,106 @@ def of_keys(program):
                   f"why a file has no key, {form}: {whys}")
             check([it.warning is not None for it in found] == [it.path == paths[4] for it in found], f"the warning of a file, {form}")
             check(all((it.key is None) != (it.why is None) for it in found) and found[-1].key == found[-2].key == found[0].key, f"a key or a reason, {form}")
+            check(all(it.why is None or it.why.__traceback__ is None for it in found), f"a reason holds no file, {form}")
     check(outcome_of(golly_canon.keys, ["absent"], "shifted") == "ValueError", "keys in another form")
+    check(outcome_of(golly_canon.keys, ["absent"], limit=-1) == "ValueError", "keys within a limit below 0")
+    for path in (__file__, os.fsencode(__file__), pathlib.Path(__file__)):
+        check("paths" in misuse_of(golly_canon.keys, path), f"keys of one path: {path!r}")
     check([it.why.kind for it in golly_canon.keys([__file__, __file__], limit=0)] == ["NoHeader", "NoHeader"], "keys within a limit")
+
+
+def misuse_of(call, *arguments, **more):
+    """The text of the `TypeError` that a call raises, or an empty one."""
+    try:
+        call(*arguments, **more)
+    except TypeError as error:
+        return str(error)
+    return ""
+
+
+def of_pattern_keys(program):
+    """The keys of patterns that come one after the other, beside those that the program writes of the same stream, and why a pattern has none."""
+    for form in ("placed", "moved", "turned"):
+        wanted = streams.said_by(program, form)
+        with warnings.catch_warnings(record=True) as issued:
+            warnings.simplefilter("always")
+            found = list(golly_canon.pattern_keys(iter(streams.PATTERNS), form))
+        check([it.number for it in found] == [*range(1, len(wanted) + 1)] and not issued, f"each pattern in its order, {form}")
+        own = [streams.Said(it.key.hex() if it.key else "", str(it.why or ""), it.why.reason if it.why else "", it.warning or "") for it in found]
+        wrong = [(number, *pair) for number, pair in enumerate(zip(own, wanted), 1) if pair[0] != pair[1]]
+        check(not wrong, f"what the program says of {len(wanted)} patterns, {form}: {wrong[:3]}")
+        check(all((it.key is None) == isinstance(it.why, Refused) for it in found), f"a key or a refusal, {form}")
+        counts = [sum(map(bool, parts)) for parts in zip(*wanted)]
+        check(min(counts) > 10 and counts[0] + counts[1] == len(wanted), f"patterns with keys, refusals and warnings, {form}: {counts}")
+    check([it.key for it in golly_canon.pattern_keys([bytearray(GLIDER), memoryview(GLIDER)])] == [bytes.fromhex(GLIDER_KEY)] * 2, "patterns in other bytes")
+    check([*golly_canon.pattern_keys([])] == [], "no patterns")
+    check([it.why.kind for it in golly_canon.pattern_keys([GLIDER], limit=0)] == ["Full"], "patterns within a limit")
+    check(outcome_of(golly_canon.pattern_keys, [], "shifted") == outcome_of(golly_canon.pattern_keys, [], limit=-1) == "ValueError", "another form or limit")
+    for given in (GLIDER.decode(), GLIDER, bytearray(GLIDER), memoryview(GLIDER), 5, None, io.BytesIO(GLIDER), open):
+        said = misuse_of(golly_canon.pattern_keys, given)
+        check(said.startswith("patterns are the bytes of one pattern after another, and not"), f"patterns that are {given!r:.30}: {said}")
+    for odd in (GLIDER.decode(), 5, None, [GLIDER]):
+        found = golly_canon.pattern_keys([GLIDER, odd, GLIDER])
+        is_told = next(found).number == 1 and misuse_of(next, found) == f"patterns are bytes, and pattern 2 is {type(odd).__name__}"
+        check(is_told, f"a pattern that is {odd!r:.30}")
+    of_laziness()
+    of_many_patterns()
+
+
+class Piece(bytearray):
+    """Bytes of which it can be seen whether they are still held."""
+
+
+def of_laziness():
+    """Each pattern is taken when it is its turn, and isn't held after it, also if it was refused; what the generator of the patterns raises comes through."""
+    taken, held = [], []
+
+    def pieces():
+        for data in (GLIDER, CHILD):
+            taken.append(len(held))
+            piece = Piece(data)
+            held.append(weakref.ref(piece))
+            yield piece
+            del piece
+        raise OSError("no more")
+
+    found = golly_canon.pattern_keys(pieces())
+    check(taken == [], "no pattern is taken before it is asked for")
+    first, second = next(found), next(found)
+    check(first.key and second.why.kind == "BadChild" and taken == [0, 1], "a pattern is taken when it is asked for")
+    check(outcome_of(next, found) == "OSError", "what the patterns' generator raises")
+    check([it() for it in held] == [None, None], "no pattern is held")
+    endless = golly_canon.pattern_keys(itertools.cycle([GLIDER, CHILD]))
+    check([it.why is None for it in itertools.islice(endless, 5)] == [True, False, True, False, True] and next(endless).number == 6, "patterns without an end")
+
+
+# Takes patterns from a generator that never ends, of which each third is refused and each has other bytes, and tells how much the peak of memory grew after
+# the first tenth of them, how many keys and refusals there were, and whether all keys are right.
+MANY = """
+import golly_canon, itertools, resource, sys
+count, key = int(sys.argv[1]), bytes.fromhex(sys.argv[2])
+def patterns():
+    for number in itertools.count():
+        yield b"#C %d\\nx = 3, y = 3\\nbo$2bo$3%s!\\n" % (number, b"z" if number % 3 == 2 else b"o")
+peak = lambda: 1024 * resource.getrusage(resource.RUSAGE_SELF).ru_maxrss
+found = golly_canon.pattern_keys(patterns(), "moved")
+keys = refusals = 0
+for it in itertools.islice(found, count):
+    keys, refusals = keys + (it.key == key), refusals + (it.why is not None and str(it.why) == "line 3: BadItem")
+    if it.number == count // 10:
+        before = peak()
+print(peak() - before, keys, refusals, it.number)
+"""
+
+
+def of_many_patterns():
+    """Many patterns of a generator that never ends take no more memory than some."""
+    words = [sys.executable, "-B", "-c", MANY, str(PATTERNS), GLIDER_KEY]
+    run = subprocess.run(words, capture_output=True, text=True, check=False)
+    check(run.returncode == 0, f"{PATTERNS} patterns: {run.stderr[-300:]}")
+    more, keys, refusals, number = map(int, run.stdout.split() or [MORE_MEMORY + 1, 0, 0, 0])
+    check((keys, refusals, number) == (PATTERNS - PATTERNS // 3, PATTERNS // 3, PATTERNS), f"the keys of {PATTERNS} patterns: {keys}, {refusals}, {number}")
+    check(more <= MORE_MEMORY, f"the memory of {PATTERNS} patterns: {more} bytes more than for the first tenth")
 
 
 def without_library(path):
@@ -386,6 +488,7 @@ def main(program):
     of_line_ends()
     of_hints(program)
     of_keys(program)
+    of_pattern_keys(program)
     wrong = [number for number in range(RANDOM_FILES) if not as_the_program(program, *random_triple(number))]
     check(not wrong, f"{RANDOM_FILES} random files as the program has them: {wrong[:5]}")
     version = processes.run([program, "--version"]).output.decode().split()[-1]

@@ -8,6 +8,7 @@ usage: tests/library/tools.py PROGRAM"""
 
 import collections
 import contextlib
+import io
 import os
 import pty
 import random
@@ -18,6 +19,7 @@ import sqlite3
 import subprocess
 import sys
 import tempfile
+import textwrap
 import tty
 
 sys.dont_write_bytecode = True  # nothing is left in tests/ and examples/
@@ -236,6 +238,20 @@ def of_script(program):
     check(found.output == wanted, f"the script for Golly: {found} and not {wanted}")
 
 
+def of_new_patterns():
+    """The example of docs/COLLECTIONS.md on patterns that are in no file: of a turned pattern of the table, a refused one and another one it names the last."""
+    with open(os.path.join(TOP, "docs", "COLLECTIONS.md"), encoding="utf-8") as it:
+        example = re.search(r"^## Patterns that are in no file\n.*?\n\n((?:(?:    [^\n]*)?\n)+)", it.read(), re.MULTILINE | re.DOTALL)[1]
+    with open("known.rle", "wb") as it:
+        it.write(GLIDER)
+    check(run_collection("--table", "known.sqlite", "known.rle").status == 0, "a table of one file")
+    names = {"soups": lambda: iter([b"x = 3, y = 3\n3o$2bo$bo!\n", b"x = 1, y = 1\n0o!\n", b"x = 2, y = 1\n2o!\n"])}
+    with contextlib.redirect_stdout(io.StringIO()) as said:
+        exec(textwrap.dedent(example).replace("all.sqlite", "known.sqlite"), names)
+    names["table"].close()
+    check(said.getvalue() == "pattern 3 is in no file\n", f"the example of docs/COLLECTIONS.md: {said.getvalue()!r}")
+
+
 def begun(words, **how):
     """An example that runs while the test goes on. Ctrl-C reaches it also where the test was started without."""
     command = [sys.executable, "-B", os.path.join(EXAMPLES, words[0]), *words[1:]]
@@ -289,6 +305,7 @@ def main(program):
         of_formats()
         of_names(program)
         of_script(program)
+        of_new_patterns()
         of_ends()
         os.chdir("/")
     return ended()
