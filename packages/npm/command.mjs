@@ -4,7 +4,7 @@
  * file or two that can't be read, and on wrong arguments. USAGE says what they lack.
  */
 
-import { readFileSync, readdirSync, readlinkSync, statSync, writeSync } from "node:fs";
+import { fstatSync, openSync, readFileSync, readSync, readdirSync, readlinkSync, statSync, writeSync } from "node:fs";
 import { isatty } from "node:tty";
 import { parseArgs } from "node:util";
 import { FORMS, Refused, load } from "./node.mjs";
@@ -18,6 +18,7 @@ const USAGE = `Usage: golly_canon COMMAND
   step FILE [--table RULE] --generations N
                                  N generations further in place of one
   keys [OPTIONS] [FILE]..        a line for each file: the SHA-256 of its canonical text, and its name
+  keys [OPTIONS] --stream STREAM the same for the patterns in a file, or in standard input (-), each of which ends in a NUL byte; their names are 1, 2, 3 ..
   duplicates [OPTIONS] [FILE]..  the groups of files that are the same pattern: a name a line, an empty line between groups
 Options of keys and duplicates:
   --form FORM  what the same pattern is; if it isn't given, placed for keys, and moved for duplicates
@@ -28,9 +29,8 @@ Options of keys and duplicates:
 FORM is placed (the pattern as it lies), moved (up to translation) or turned (up to rotation and reflection too). The file - is standard input.
 Status: 0 done; 1 different, or no duplicates; 2 a file was refused; 3 it can't be read or written; 4 out of memory; 5 wrong arguments.
 
-This command has neither --explain, --ignore-generation, --period nor --stream of the program, nor its sentences on refused files that aren't patterns, nor its line of
-progress and its hints on a terminal, nor the help of each command; it takes more time, and at most 4 GB of memory. What the program has beyond that is in its packages
-for Linux, with its man page.
+This command has neither --explain, --ignore-generation nor --period of the program, nor its line of progress and its hints on a terminal, nor the help of each
+command. It takes more time, and at most 4 GB of memory. What the program has beyond that is in its packages for Linux, with its man page.
 npx hands all arguments to a shell as one text. From some 128 KB on the system takes no such text, and npx ends with the status 249 and no message: the
 command isn't even started. For so many files use -r or --from:
   find patterns -name '*.rle' -print0 | npx golly_canon keys --zero --from -`;
@@ -58,7 +58,9 @@ const SENTENCES = {
 };
 const MOST_BYTES = 2 ** 30;
 const LINE_FEED = 10;
-/** Milliseconds until a write is tried again that would have to wait. */
+/** How many bytes of a stream are read at once. */
+const CHUNK = 65536;
+/** Milliseconds until a read or a write is tried again that would have to wait. */
 const PAUSE = 5;
 
 // ---- what is written
@@ -93,19 +95,26 @@ function isClosed(descriptor) {
 
 const IS_CLOSED = [0, 1].map(isClosed);
 
-/** Writes a text to a descriptor, to its end. */
-function writeAll(descriptor, text) {
-  const whole = Buffer.from(text);
-  const bytes = isatty(descriptor) ? visible(whole) : whole;
-  for (let at = 0; at < bytes.length;) {
+/** What a call of the system gives, which is made again as long as it would have to wait. */
+function waited(call) {
+  for (;;) {
     try {
-      at += writeSync(descriptor, bytes, at);
+      return call();
     } catch (why) {
       if (why.code !== "EAGAIN") {
         throw why;
       }
       Atomics.wait(new Int32Array(new SharedArrayBuffer(4)), 0, 0, PAUSE);
     }
+  }
+}
+
+/** Writes a text to a descriptor, to its end. */
+function writeAll(descriptor, text) {
+  const whole = Buffer.from(text);
+  const bytes = isatty(descriptor) ? visible(whole) : whole;
+  for (let at = 0; at < bytes.length;) {
+    at += waited(() => writeSync(descriptor, bytes, at));
   }
 }
 
@@ -130,13 +139,25 @@ function report(...texts) {
 
 // ---- what is read
 
-/** The bytes of a file, or of standard input. */
-function contents(name) {
-  const isInput = name.equals(Buffer.from("-"));
-  if (isInput && IS_CLOSED[0]) {
+/** Whether a name is that of standard input, which has to be open. */
+function isInput(name) {
+  const found = name.equals(Buffer.from("-"));
+  if (found && IS_CLOSED[0]) {
     throw Object.assign(new Error("standard input is closed"), { code: "EBADF", syscall: "open" });
   }
-  return readFileSync(isInput ? 0 : name);
+  return found;
+}
+
+/** The bytes of a file, or of standard input. */
+const contents = name => readFileSync(isInput(name) ? 0 : name);
+
+/** Opens a file, or standard input, to be read piece by piece. A folder can't be. */
+function opened(name) {
+  const descriptor = isInput(name) ? 0 : openSync(name);
+  if (fstatSync(descriptor).isDirectory()) {
+    throw Object.assign(new Error("is a folder"), { code: "EISDIR", syscall: "open" });
+  }
+  return descriptor;
 }
 
 /** The same for a command over one file or two. */
@@ -222,10 +243,88 @@ function* filesOf({ files, recursive }, listed, leftOut) {
   }
 }
 
+/** The pattern of a stream that has begun. The next one takes the same memory. */
+class Pattern {
+  #bytes = Buffer.allocUnsafeSlow(CHUNK);
+  #length = 0;
+  /** Why it has no bytes, if it hasn't. */
+  #why = null;
+
+  add(more) {
+    if (this.#why !== null) {
+      return;
+    }
+    const length = this.#length + more.length;
+    if (length > MOST_BYTES) {
+      this.#why = new Refused("InputTooLong");
+      return;
+    }
+    if (length > this.#bytes.length) {
+      try {
+        const longer = Buffer.allocUnsafeSlow(Math.min(MOST_BYTES, 2 * length));
+        this.#bytes.copy(longer, 0, 0, this.#length);
+        this.#bytes = longer;
+      } catch {
+        this.#why = new Refused("Memory");
+        return;
+      }
+    }
+    more.copy(this.#bytes, this.#length);
+    this.#length = length;
+  }
+
+  /** The stream can't be read further. */
+  fail(why) {
+    this.#why = why;
+  }
+
+  clear() {
+    this.#length = 0;
+    this.#why = null;
+  }
+
+  isEmpty() {
+    return this.#length === 0 && this.#why === null;
+  }
+
+  bytes() {
+    if (this.#why !== null) {
+      throw this.#why;
+    }
+    return this.#bytes.subarray(0, this.#length);
+  }
+}
+
+/** Each pattern of a stream as soon as it has ended. What follows the last NUL is one too, unless it is empty; and so is the one that can't be read on. */
+function* patternsIn(descriptor) {
+  const chunk = Buffer.allocUnsafeSlow(CHUNK);
+  const pattern = new Pattern();
+  let came;
+  do {
+    try {
+      came = chunk.subarray(0, waited(() => readSync(descriptor, chunk)));
+    } catch (why) {
+      pattern.fail(why);
+      break;
+    }
+    let at = 0;
+    for (let end = came.indexOf(0); end >= 0; end = came.indexOf(0, at)) {
+      pattern.add(came.subarray(at, end));
+      yield pattern;
+      pattern.clear();
+      at = end + 1;
+    }
+    pattern.add(came.subarray(at));
+  } while (came.length > 0);
+  if (!pattern.isEmpty()) {
+    yield pattern;
+  }
+}
+
 // ---- arguments
 
 const OPTIONS = { form: { type: "string" }, to: { type: "string" }, table: { type: "string" }, generations: { type: "string" }, from: { type: "string" },
-  zero: { type: "boolean" }, json: { type: "boolean" }, recursive: { type: "boolean", short: "r" } };
+  stream: { type: "string" }, zero: { type: "boolean" }, json: { type: "boolean" }, recursive: { type: "boolean", short: "r" } };
 
 /** The arguments of a command, which takes these options. */
 function parsed(words, options) {
@@ -259,11 +358,15 @@ function taken(words, count, options) {
   return found;
 }
 
-/** The arguments of a command over any number of files, with the names of the list. */
-function takenAll(words, options, form) {
+/** The arguments of a command over any number of files, which `what` has to be given of, or of `keys` over a stream. */
+function takenAll(words, options, form, what) {
   const found = parsed(words, [...options, "form", "zero", "recursive", "from"]);
-  if (found.files.length === 0 && found.from === undefined) {
-    throw new Misused("a FILE or --from LIST has to be given");
+  const hasFiles = found.files.length > 0 || found.from !== undefined;
+  if (found.stream !== undefined && (hasFiles || found.recursive)) {
+    throw new Misused("--stream can't be used with a FILE, with --from or with -r");
+  }
+  if (found.stream === undefined && !hasFiles) {
+    throw new Misused(`${what} has to be given`);
   }
   return { form, ...found };
 }
@@ -284,16 +387,22 @@ function refusalOf(error) {
 /** Whether a file can't be opened. Node opens a folder, but can't read it, and takes no name with a NUL. */
 const isUnopened = ({ code, syscall }) => code === "EISDIR" || code === "ERR_INVALID_ARG_VALUE" || (syscall !== undefined && syscall !== "read");
 
-/** The key of a file; or why it has none: its status, its kind, a line and a reason. */
-function outcomeOf(golly, { name, path = name, why }, form) {
+/** The bytes of a file of a command over any number of them. */
+function bytesOf({ name, path = name, why }) {
+  if (why !== undefined) {
+    throw why;
+  }
+  const data = contents(path);
+  if (data.length > MOST_BYTES) {
+    throw new Refused("InputTooLong");
+  }
+  return data;
+}
+
+/** The key of what has this name; or why it has none: its status, its kind, a line and a reason. `give` gives its bytes. */
+function outcomeOf(golly, name, form, give) {
   try {
-    if (why !== undefined) {
-      throw why;
-    }
-    const data = contents(path);
-    if (data.length > MOST_BYTES) {
-      throw new Refused("InputTooLong");
-    }
+    const data = give();
     return { key: Buffer.from(golly.key(data, { form })).toString("hex"), warning: golly.warningOf(data) };
   } catch (error) {
     if (isUnopened(error)) {
@@ -304,10 +413,23 @@ function outcomeOf(golly, { name, path = name, why }, form) {
       const reason = `the library stopped (${error.message})`;
       return { status: 4, kind: "Fault", reason, said: reason };
     }
-    const { kind, line } = refusal;
-    const reason = SENTENCES[kind] ?? golly.sentenceOf(kind);
+    const { kind, line, advice } = refusal;
+    const meaning = SENTENCES[kind] ?? golly.sentenceOf(kind);
+    const reason = advice === null ? meaning : `${meaning} ${advice}`;
     return { status: STATUS[kind] ?? 2, kind, line, reason, said: `${line === null ? "" : `line ${line}: `}${kind}: ${reason}` };
   }
+}
+
+/** Says what is to be said of what has this name, and returns its status. */
+function noted(name, outcome, tell, take) {
+  if (outcome.key === undefined) {
+    tell(name, outcome);
+  }
+  take(name, outcome);
+  if (outcome.warning) {
+    report(escaped(name), `: warning: ${outcome.warning}\n`);
+  }
+  return outcome.status ?? 0;
 }
 
 /** Takes the files of a command, one after another, and says what is to be said of each. Returns the greatest status of a file. */
@@ -322,18 +444,33 @@ function takeFiles(golly, found, tell, take) {
   let greatest = 0;
   const leftOut = { devices: 0 };
   for (const file of filesOf(found, listed, leftOut)) {
-    const outcome = outcomeOf(golly, file, found.form);
-    if (outcome.key === undefined) {
-      greatest = Math.max(greatest, outcome.status);
-      tell(file.name, outcome);
-    }
-    take(file.name, outcome);
-    if (outcome.warning) {
-      report(escaped(file.name), `: warning: ${outcome.warning}\n`);
-    }
+    const outcome = outcomeOf(golly, file.name, found.form, () => bytesOf(file));
+    greatest = Math.max(greatest, noted(file.name, outcome, tell, take));
   }
   if (leftOut.devices > 0) {
     report(`Devices, pipes and sockets left out: ${leftOut.devices}.\n`);
+  }
+  return greatest;
+}
+
+/** The same of the patterns of a stream, whose names are their numbers. */
+function takeStream(golly, { stream, form }, tell, take) {
+  const name = Buffer.from(stream);
+  let descriptor;
+  try {
+    descriptor = opened(name);
+  } catch (why) {
+    const give = () => {
+      throw why;
+    };
+    return noted(name, outcomeOf(golly, name, form, give), tell, take);
+  }
+  let greatest = 0;
+  let count = 0;
+  for (const pattern of patternsIn(descriptor)) {
+    count += 1;
+    const number = Buffer.from(`${count}`);
+    greatest = Math.max(greatest, noted(number, outcomeOf(golly, number, form, () => pattern.bytes()), tell, take));
   }
   return greatest;
 }
@@ -408,8 +545,9 @@ const COMMANDS = {
   },
 
   keys(golly, words) {
-    const found = takenAll(words, ["json"], "placed");
-    return takeFiles(golly, found, found.json ? () => {} : tellReason, (name, { key, kind, line, reason }) => {
+    const found = takenAll(words, ["json", "stream"], "placed", "a FILE, --from LIST or --stream STREAM");
+    const takeAll = found.stream === undefined ? takeFiles : takeStream;
+    return takeAll(golly, found, found.json ? () => {} : tellReason, (name, { key, kind, line, reason }) => {
       if (found.json) {
         write(`${JSON.stringify({ name: name.toString(), key, kind, line: line ?? undefined, reason })}\n`);
       } else if (key !== undefined) {
@@ -420,7 +558,7 @@ const COMMANDS = {
   },
 
   duplicates(golly, words) {
-    const found = takenAll(words, [], "moved");
+    const found = takenAll(words, [], "moved", "a FILE or --from LIST");
     const groups = new Map();
     const status = takeFiles(golly, found, tellReason, (name, { key }) => {
       if (key !== undefined && !groups.get(key)?.push(name)) {

@@ -182,7 +182,7 @@ SAME_DEFAULT = [
     (HELP, r" (placed|moved|turned) [a-z ]+ \(the default\) turned .* The default is `\1`, because Golly "),
     ("examples/collection.py", r' FORM = "(\w+)" .*add_argument\("--form", choices=FORMS, default=FORM,'),
     ("examples/duplicates.py", r'^.*?\(`(\w+)`, as the command `duplicates` of the program has it\).* FORM = "\1" .* form = words\[2\] if len\(words\) == 3 else FORM '),
-    ("packages/npm/command.mjs", r'if it isn\'t given, placed for keys, and (\w+) for duplicates .* takenAll\(words, \[\], "\1"\)'),
+    ("packages/npm/command.mjs", r'if it isn\'t given, placed for keys, and (\w+) for duplicates .* takenAll\(words, \[\], "\1", '),
     (PAGE, r"The form is \.B (\w+) if none is given, because Golly "),
     ("docs/FORMATS.md", r"Unless `--form` names another one the form is `(\w+)`, "),
     ("docs/COLLECTIONS.md", r"Without `--form` it takes `(\w+)`, as the command `duplicates` "),

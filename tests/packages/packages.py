@@ -20,7 +20,7 @@ import tempfile
 TOP = os.path.dirname(os.path.dirname(os.path.dirname(os.path.abspath(__file__))))
 sys.path.insert(1, os.path.join(TOP, "tests"))
 
-from shared import counting, fixtures, processes  # noqa: E402
+from shared import counting, fixtures, processes, streams  # noqa: E402
 
 RT = os.environ.get("RT") or "rt"
 GLIDER = os.path.join(TOP, "examples", "glider.mc")
@@ -244,6 +244,8 @@ COMMANDS = ["canon pair.rle", "canon pair.rle --form moved", "canon pair.mc --fo
             "same named.rle line.rle --form turned", "show pair.rle", "show input", "show last.rle", "step line.rle", "step last.rle", "step edge.rle",
             "step spread.rle", "step spread.rle --table spread.rule", "step spread.rle --table bad.rule", "step beyond.rle --table spread.rule",
             "keys pair.rle pair.mc line.rle", "keys pair.rle pair.mc --form turned", "--version", "canon -"]
+# Commands whose standard input is a stream of patterns, accepted and refused.
+STREAMS = ["keys --stream -", "keys --stream - --form moved", "keys --form=turned --stream=-", "keys --json --stream -", "keys --zero --stream -"]
 # A name that a line of `keys` has to escape.
 ODD = "a\\b\nc\rd.rle"
 # Commands of which only the status is the program's, since the words are others.
@@ -257,14 +259,15 @@ def command(place, program, how):
         with open(os.path.join(place, name), "wb") as it:
             it.write(data)
     made = os.path.join(place, "node_modules", ".bin", "golly_canon")
-    runs = [*((it.split(), True) for it in COMMANDS), (["keys", ODD], True), *((it.split(), False) for it in WRONG)]
+    line = fixtures.FILES["line.rle"]
+    runs = [*((it.split(), line, True) for it in COMMANDS), (["keys", ODD], line, True), *((it.split(), line, False) for it in WRONG)]
+    runs += [*((it.split(), streams.STREAM, True) for it in STREAMS), (["keys", "--stream", "-", "pair.rle"], streams.STREAM, False)]
     with contextlib.chdir(place):
         problems = []
-        for words, is_whole in runs:
-            source = fixtures.FILES["line.rle"]
+        for words, source, is_whole in runs:
             wanted, found = (processes.run([it, *words], source, env=how["env"]) for it in (program, made))
             is_equal = found == wanted if is_whole else (found.status, bool(found.error)) == (wanted.status, bool(wanted.error))
-            problems += [] if is_equal else [f"{words}: {found} and not {wanted}"]
+            problems += [] if is_equal else [f"{words}: {found!r:.700} and not {wanted!r:.700}"]
     counting.row(f"the command answers as the program does, {len(runs)} times", problems)
 
 

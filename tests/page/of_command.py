@@ -3,12 +3,12 @@
 import json
 import os
 import pty
-import re
 import shutil
+import signal
 import subprocess
 import tempfile
 
-from shared import counting, fixtures, processes
+from shared import counting, fixtures, processes, streams
 from shared.processes import Answer
 
 GLIDER = b"x = 3, y = 3\nbo$2bo$3o!\n"
@@ -43,12 +43,25 @@ SAME = [
     (["step", "two.rle", "--table", "two.rule", "--generations", "0"], b""), (["step", "two.rle", "--table", "two.rule", "--generations", "2"], b""),
     (["step", "spread.rle", "--table", "bad.rule", "--generations", "0"], b""),
 ]
+# The same of streams: patterns of each kind, accepted and refused, in each form, and odd streams.
+SAME += [([*words, "--stream", "-"], streams.STREAM) for words in (
+    ["keys"], ["keys", "--form", "moved"], ["keys", "--form=turned"], ["keys", "--json"], ["keys", "--json", "--form", "turned", "--zero"], ["keys", "--zero"])]
+SAME += [(["keys", "--stream", "-", *words], source) for words in ([], ["--json"]) for source in (
+    b"", b"\0", b"\0\0\0", GLIDER, GLIDER + b"\0", GLIDER + b"\0\0" + GLIDER, streams.STREAM + b"\0", b"x = 3, y = 3\nbo$2b")]
+SAME += [(["keys", *words], b"") for words in (
+    ["--stream", "stream"], ["--zero", "--stream=stream"], ["--stream", "absent"], ["--json", "--stream", "absent"], ["--stream", "top"],
+    ["--stream", "top\nb"], ["--json", "--stream", "top"], ["--stream", "pair.rle/x"], ["--stream", "./-"], ["--stream", "/proc/self/mem"],
+    ["--json", "--stream", "/proc/self/mem"], ["--stream", "-", "--from", "-", "-"])]
 # The status alone is that of the program, since the words are others.
 MISUSED = ["keys", "keys --form moved", "keys -r", "duplicates", "duplicates --zero", "duplicates --form still pair.rle", "duplicates --json pair.rle",
            "keys --to mc pair.rle", "canon -r pair.rle", "keys --from", "canon --from list", "keys --zero=yes pair.rle", "keys --from list --from list",
            "keys --form moved --form moved pair.rle", "step line.rle --generations", "step line.rle --generations ten", "step line.rle --generations +1",
            "step line.rle --generations 18446744073709551616", "step line.rle --generations 1 --generations 1", "show line.rle --generations 1",
-           "step - --table - --generations x"]
+           "step - --table - --generations x", "keys --stream", "keys --stream - pair.rle", "keys pair.rle --stream -", "keys --stream stream -r",
+           "keys --stream - --from list", "keys --stream - -", "keys --stream - --stream -", "keys --stream stream --form still", "duplicates --stream stream",
+           "canon --stream stream"]
+# How many patterns of a stream are taken, and how many more megabytes these may take than a tenth of them: Node collects what it holds no more when it likes.
+MANY, MORE_MEGABYTES = 100_000, 40
 # Endings that only a shell makes: the status, and what is on standard error.
 ENDINGS = [
     ("a full output", '"$command" keys pair.rle pair.mc > /dev/full', Answer(3, b"", b"WriteFault\n")),
@@ -64,6 +77,10 @@ ENDINGS = [
     ("a closed input", '"$command" keys - absent <&-', Answer(3, b"", b"-: can't be opened\nabsent: no such file\n")),
     ("a list from a closed input", '"$command" keys --from - <&-', Answer(3, b"", b"ReadFault\n")),
     ("a reader that leaves", '"$command" keys --from many | head -n 1 > /dev/null; exit ${PIPESTATUS[0]}', Answer(3, b"", b"")),
+    ("a full output of a stream's keys", '"$command" keys --stream stream > /dev/full', Answer(3, b"", b"WriteFault\n")),
+    ("a stream from a closed input", '"$command" keys --stream - <&-', Answer(3, b"", b"-: can't be opened\n")),
+    ("a stream that is a folder", '"$command" keys --stream - < top', Answer(3, b"", b"-: is a folder\n")),
+    ("a reader that leaves a stream", '"$command" keys --stream stream 2> /dev/null | head -n 1 | wc -l; exit ${PIPESTATUS[0]}', Answer(3, b"1\n", b"")),
     ("a slow reader", '"$command" keys --from many | { sleep 1; wc -l; }; exit ${PIPESTATUS[0]}', Answer(0, b"5000\n", b"")),
 ]
 
@@ -71,7 +88,7 @@ ENDINGS = [
 def written(folder):
     """The files in the folder in which the commands run."""
     for name, data in {**{os.fsencode(it): data for it, data in fixtures.FILES.items()}, **BELOW, b"list": LIST, b"many": b"pair.rle\n" * 5000, b"-r": GLIDER,
-                       b"-": GLIDER}.items():
+                       b"-": GLIDER, b"stream": streams.STREAM + b"\0" + (GLIDER + b"\0") * 2000}.items():
         path = os.path.join(os.fsencode(folder), name)
         os.makedirs(os.path.dirname(path), exist_ok=True)
         with open(path, "wb") as it:
@@ -81,15 +98,6 @@ def written(folder):
     os.symlink(".", os.path.join(folder, "top", "b", "again"))
     os.symlink("top", os.path.join(folder, "to_top"))
     os.mkfifo(os.path.join(folder, "top", "pipe"))
-
-
-# What the program says of a refused file that is something else than a pattern. The command for npm doesn't.
-ADVICE = re.compile(rb" (?:This is(?:n't)? |The file is empty: |The file begins with a UTF-8 |The header is missing: |The lines end in )[^\n\"]*")
-
-
-def plain(error):
-    """Standard error without warnings, whose words differ, and without advice."""
-    return ADVICE.sub(b"", b"".join(it for it in error.splitlines(keepends=True) if b": warning: " not in it))
 
 
 def on_terminal(words, folder):
@@ -121,8 +129,8 @@ def rows(built, program, package):
         written(folder)
         for words, source in SAME:
             wanted, found = (processes.run([it, *words], source, cwd=folder) for it in (program, command))
-            is_same = (found.status, found.output, plain(found.error)) == (wanted.status, ADVICE.sub(b"", wanted.output), plain(wanted.error))
-            counting.row(f"npm: {' '.join(words)}", [] if is_same else [f"{found} and not {wanted}"])
+            name = f"npm: {' '.join(words)!r}" + (f", {len(source)} bytes" if source else "")
+            counting.row(name, [f"{its!r:.500} and not {ours!r:.500}" for its, ours in zip(found, wanted) if its != ours])
         for line in MISUSED:
             wanted, found = (processes.run([it, *line.split()], cwd=folder) for it in (program, command))
             counting.row(f"npm: {line}", [] if found.status == wanted.status == 5 and found.error and not found.output else [repr(found)])
@@ -131,6 +139,7 @@ def rows(built, program, package):
             counting.row(f"npm: {name}", [] if found == wanted else [f"{found} and not {wanted}"])
         terminal(command, folder)
         not_text(command, folder)
+        streamed(command, folder)
         helped(command, folder)
 
 
@@ -166,10 +175,39 @@ def not_text(command, folder):
     counting.row("npm: such a name as an argument", [] if found == wanted else [repr(found)])
 
 
+def streamed(command, folder):
+    """Each line is written as soon as its pattern has ended, also where the bytes come slowly; Ctrl-C ends a stream; and many patterns take no more memory than
+    some."""
+    key = processes.run([command, "keys", "top/a.rle"], cwd=folder).output[:64]
+    with subprocess.Popen([command, "keys", "--stream", "-"], stdin=subprocess.PIPE, stdout=subprocess.PIPE, stderr=subprocess.PIPE, bufsize=0) as run:
+        lines = []
+        for _ in range(3):
+            for part in (GLIDER[:9], GLIDER[9:], b"\0"):
+                run.stdin.write(part)
+            lines.append(run.stdout.readline())
+        run.send_signal(signal.SIGINT)
+        left = run.stdout.read() + run.stderr.read()
+        status = run.wait(timeout=60)
+    counting.row("npm: each key as soon as its pattern has ended", [] if lines == [b"%s  %d\n" % (key, number) for number in (1, 2, 3)] else [repr(lines)])
+    counting.row("npm: a stream that is interrupted", [] if (status, left) == (-signal.SIGINT, b"") else [repr((status, left))])
+    peaks = []
+    for count in (MANY // 10, MANY):
+        pieces = b"".join(b"#C %d\nx = 3, y = 3\nbo$2bo$3%s!\n\0" % (number, b"z" if number % 3 == 2 else b"o") for number in range(count))
+        found = processes.run(["/usr/bin/time", "-q", "-f", "%M", "-o", "peak", command, "keys", "--stream", "-"], pieces, cwd=folder)
+        right = b"".join(b"%s  %d\n" % (key, number) for number in range(1, count + 1) if number % 3)
+        is_right = (found.status, found.output, found.error.count(b": line 3: BadItem: ")) == (2, right, count // 3)
+        with open(os.path.join(folder, "peak"), encoding="ascii") as it:
+            peaks.append(int(it.read()) / 1024)
+        counting.row(f"npm: {count} patterns of a stream", [] if is_right else [f"status {found.status}, {found.output[:200]}, {found.error[:200]}"])
+    took = f": {peaks[0]:.0f} MB, and {peaks[1]:.0f} MB for ten times as many"
+    counting.row("npm: the memory that they take", [took] if peaks[1] > peaks[0] + MORE_MEGABYTES else [], took)
+
+
 def helped(command, folder):
     """The help says what the command lacks, and what to do with many names by npx."""
     for words in (["--help"], ["-h"], ["help"], ["keys", "--help"], ["duplicates", "-h"]):
         found = processes.run([command, *words], cwd=folder)
-        wanted = ["duplicates [OPTIONS]", "-r ", "--from LIST", "--zero", "--json", "neither --explain", "status 249", "npx golly_canon keys --zero --from -"]
+        wanted = ["duplicates [OPTIONS]", "-r ", "--from LIST", "--zero", "--json", "--stream STREAM", "neither --explain nor --ignore-generation", "status 249",
+                  "npx golly_canon keys --zero --from -"]
         problems = [f"{it} isn't there" for it in wanted if it not in found.output.decode()]
         counting.row(f"npm: {' '.join(words)}", problems if found.status == 0 and not found.error else [repr(found)])
