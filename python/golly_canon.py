@@ -417,9 +417,8 @@ def keys(paths: Iterable[Path], form: Form = "placed", *, limit: int = SQUARES) 
     """
     if isinstance(paths, (str, bytes, os.PathLike)):
         raise TypeError(f"paths are the paths of files, and not one path: {paths!r}")
-    number = _number_of(form)  # refused here, and not in the middle of the files
-    _limit_of(limit)
-    return (_keyed(path, _FORMS[number], limit) for path in paths)
+    _number_of(form), _limit_of(limit)  # refused here, and not in the middle of the files
+    return (_keyed(path, form, limit) for path in paths)
 
 
 def _keyed(path: Path, form: Form, limit: int) -> Keyed:
@@ -450,9 +449,8 @@ def pattern_keys(patterns: Iterable[Bytes], form: Form = "placed", *, limit: int
         given = iter(patterns)
     except TypeError:
         raise TypeError(f"patterns are the bytes of one pattern after another, and not {type(patterns).__name__}") from None
-    number = _number_of(form)  # refused here, and not in the middle of the patterns
-    _limit_of(limit)
-    return _pattern_keys(given, _FORMS[number], limit)
+    _number_of(form), _limit_of(limit)  # refused here, and not in the middle of the patterns
+    return _pattern_keys(given, form, limit)
 
 
 def _pattern_keys(patterns: Iterator[Bytes], form: Form, limit: int) -> Iterator[KeyedPattern]:
