@@ -414,6 +414,8 @@ def keys(paths: Iterable[Path], form: Form = "placed", *, limit: int = SQUARES) 
         for it in golly_canon.keys(paths, "turned"):
             if it.key is not None:
                 groups.setdefault(it.key, []).append(it.path)
+
+    Raises `TypeError` for a path alone in place of paths.
     """
     if isinstance(paths, (str, bytes, os.PathLike)):
         raise TypeError(f"paths are the paths of files, and not one path: {paths!r}")
