@@ -304,7 +304,9 @@ function* patternsIn(descriptor) {
     try {
       came = chunk.subarray(0, waited(() => readSync(descriptor, chunk)));
     } catch (why) {
-      pattern.fail(why);
+      if (why.code !== "EOF") { // the end of a pipe on Windows
+        pattern.fail(why);
+      }
       break;
     }
     let at = 0;
