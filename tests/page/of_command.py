@@ -61,7 +61,7 @@ MISUSED = ["keys", "keys --form moved", "keys -r", "duplicates", "duplicates --z
            "keys --stream - --from list", "keys --stream - -", "keys --stream - --stream -", "keys --stream stream --form still", "duplicates --stream stream",
            "canon --stream stream"]
 # How many patterns of a stream are taken, and how many more megabytes these may take than a tenth of them: Node collects what it holds no more when it likes.
-MANY, MORE_MEGABYTES = 100_000, 40
+MANY, MORE_MEGABYTES = 100_000, 25
 # Endings that only a shell makes: the status, and what is on standard error.
 ENDINGS = [
     ("a full output", '"$command" keys pair.rle pair.mc > /dev/full', Answer(3, b"", b"WriteFault\n")),
