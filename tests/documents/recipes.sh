@@ -342,13 +342,16 @@ golly_cells() { # FILE
     bgolly -a HashLife -m 0 "$1" 2>&1 | sed -n 's/^0: //p' | tr -d ,
 }
 
-# Macrocell files that Golly reads as another pattern: they lost all line ends, or the first one; and a rule or a generation is a comment here.
+# Files that were probably meant as another pattern. Macrocell files that Golly reads otherwise: they lost all line ends, or the first one; and a rule or a
+# generation is a comment here. And RLE that was cut off, and three patterns in one file.
 misread() { # FILE NUMBER
     case $2 in
         1) printf '[M2]\r#R B3/S23\r$$..*$...*$.***$\r' ;;
         2) printf '[M2]\r#R B36/S23\n$$..*$...*$.***$\n' ;;
         3) printf '[M2]\n#RB36/S23\n$$..*$...*$.***$\n' ;;
         4) printf '[M2]\r\n#R B3/S23\r\n#G7\r\n$$..*$...*$.***$\r\n' ;;
+        5) printf 'x = 5, y = 5, rule = B3/S23\n5o$\n' ;;
+        6) printf 'x = 3, y = 3\nbo$2bo$3o!\n%.0s' 1 2 3 ;;
     esac > "$1"
 }
 
@@ -372,7 +375,7 @@ text_recipe() {
     for format in mc rle; do
         golly_text $format < blank > told 2> "$folder/err" && problems="$problems a blank pattern has a text;"
         equal "what a blank pattern has" "$(cat told "$folder/err")" "golly_text: the pattern is blank"
-        for number in 1 2 3 4; do
+        for number in 1 2 3 4 5 6; do
             misread odd.mc $number
             golly_text $format < odd.mc > told 2> "$folder/err"
             equal "the status of file $number that is meant otherwise" $? 2
@@ -442,14 +445,14 @@ lines.rle' 'end
     cp ../glider.rle real.rle && ln -s real.rle link.rle && ln -s nothing broken.rle
     cp ../glider.rle one.rle && ln one.rle two.rle
     mkdir folder.rle && mkfifo pipe.rle
-    misread mac.mc 1 && misread meant.mc 3 && cp mac.mc meant.mc ..
+    misread mac.mc 1 && misread meant.mc 3 && misread cut.rle 5 && misread joined.rle 6 && cp mac.mc meant.mc cut.rle joined.rle ..
     [ "$(id -u)" != 0 ] || chown 65534:65534 y.rle # only root may give a file away
     owner=$(stat -c %u:%g y.rle)
     in_place y.rle || problems="$problems y.rle isn't replaced;"
     equal "the owner of y.rle" "$(stat -c %u:%g y.rle)" "$owner"
     equal "y.rle" "$(cat y.rle)" "$(cat ../own/wanted.rle)"
     equal "the mode of y.rle" "$(stat -c %a y.rle)" 640
-    for name in WireWorld.rule link.rle broken.rle one.rle two.rle folder.rle pipe.rle mac.mc meant.mc absent.rle ''; do
+    for name in WireWorld.rule link.rle broken.rle one.rle two.rle folder.rle pipe.rle mac.mc meant.mc cut.rle joined.rle absent.rle ''; do
         timeout 20 in_place "$name" > told 2>&1 && problems="$problems '$name' is replaced;"
         [ -s told ] || problems="$problems nothing is said of '$name';"
     done
@@ -457,9 +460,9 @@ lines.rle' 'end
     equal "files beside it" "$(cat y.rle.new WireWorld.rule.new .in_place.new | sort -u)" "another upload"
     equal "where a link leads" "$(readlink link.rle) $(readlink broken.rle) $(stat -c %h one.rle two.rle | tr '\n' ' ')" "real.rle nothing 2 2 "
     for name in real.rle one.rle two.rle; do cmp -s $name ../glider.rle || problems="$problems $name is another file;"; done
-    for name in mac.mc meant.mc; do cmp -s $name ../$name || problems="$problems $name, which is meant otherwise, is lost;"; done
-    equal "the files" "$(ls -A | tr '\n' ' ')" ".in_place.new WireWorld.rule WireWorld.rule.new broken.rle folder.rle link.rle mac.mc meant.mc one.rle \
-pipe.rle real.rle two.rle y.rle y.rle.new "
+    for name in mac.mc meant.mc cut.rle joined.rle; do cmp -s $name ../$name || problems="$problems $name, which is meant otherwise, is lost;"; done
+    equal "the files" "$(ls -A | tr '\n' ' ')" ".in_place.new WireWorld.rule WireWorld.rule.new broken.rle cut.rle folder.rle joined.rle link.rle \
+mac.mc meant.mc one.rle pipe.rle real.rle two.rle y.rle y.rle.new "
     cd ..
     verdict "files of any names, with others beside them, in $shell" "$problems"
 }
