@@ -47,8 +47,9 @@ CLOCK = "/usr/bin/time"
 # start takes.
 NAMES, SECONDS, TIMES, LITTLE = 100_000, 20, 6, 6_000_000
 # What a stream of as many patterns of 8 x 8 cells may take of the time of as many files, and of memory, however many they are; and how often both are tried in
-# turns, since what else the machine does costs the one or the other more.
-STREAM_SHARE, STREAM_MEMORY, TURNS = 0.5, 12_000_000, 5
+# turns, because what else the machine does costs the one or the other more. (It takes 0.42 of that time on a quiet machine. With four other processes beside,
+# 0.51 was seen.)
+STREAM_SHARE, STREAM_MEMORY, TURNS = 0.6, 12_000_000, 5
 # Why a file has no key though the program was not let read it.
 ABSENT, LOCKED, FOLDER, OTHER = "no such file", "permission denied", "is a folder", "can't be opened"
 # The same of a name that isn't UTF-8 text, and what the end of a run over folders says of such names.

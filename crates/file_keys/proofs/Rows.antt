@@ -51,7 +51,8 @@ processed = record { name = Word (codes "a"); outcome = Key (1 ∷ 171 ∷ []) }
 lines_out : output_of Lines processed ≡ (encode_lower (1 ∷ 171 ∷ []) ++ codes "  a\n") ++ ((encode_lower (16 ∷ []) ++ codes "  e\n") ++ [])
 lines_out = refl
 
-lines_err : reports_of Zero processed ≡ codes "b: Full: The command needs more than 2^31 different squares, or a form has more than 2^21.\nc\\nd: no such file\n"
+lines_err : reports_of Zero processed
+    ≡ codes "b: Full: The command needs more than 2^31 different squares, or a form has more than 2^21.\nc\\nd: no such file\n"
 lines_err = refl
 
 -- with --json standard error gets none of them
