@@ -207,7 +207,7 @@ def helped(command, folder):
     """The help says what the command lacks, and what to do with many names by npx."""
     for words in (["--help"], ["-h"], ["help"], ["keys", "--help"], ["duplicates", "-h"]):
         found = processes.run([command, *words], cwd=folder)
-        wanted = ["duplicates [OPTIONS]", "-r ", "--from LIST", "--zero", "--json", "--stream STREAM", "neither --explain nor --ignore-generation", "status 249",
-                  "npx golly_canon keys --zero --from -"]
+        wanted = ["duplicates [OPTIONS]", "-r ", "--from LIST", "--zero", "--json", "--stream STREAM", "neither --explain, --ignore-generation nor --period",
+                  "status 249", "npx golly_canon keys --zero --from -"]
         problems = [f"{it} isn't there" for it in wanted if it not in found.output.decode()]
         counting.row(f"npm: {' '.join(words)}", problems if found.status == 0 and not found.error else [repr(found)])
