@@ -92,8 +92,8 @@ fn next_of_middle<S: Squares>(
     squares.join(nw, ne, sw, se)
 }
 
-/// The square of the next generation under a B/S rule of a square's cells, one level higher, about the same centre. Each square that it joins
-/// is part of that one. It asks for a square of level 2 or more.
+/// Makes one generation under a B/S rule of the cells of a square, which has to have level 2 or more. The answer is a square one level higher, about the same
+/// centre, so that it also has each cell that is born around the given square. Each square that the call joins is part of the answer.
 ///
 /// # Errors
 ///

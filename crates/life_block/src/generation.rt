@@ -55,8 +55,8 @@ pub(crate) fn reaches_edge<S: SharedSquares>(
     Ok(!is_off_edge(&least))
 }
 
-/// A square with the next generation under a B/S rule of a square's cells, of which at most `most` may have a state other than 0. It is one
-/// level higher, or the square of the whole plane where the square is that. It asks for a square of level 2 or more.
+/// Makes one generation under a B/S rule of the cells of a square, which has to have level 2 or more. At most `most` of its cells may have a state other than
+/// 0. The answer is a square one level higher, about the same centre. But if the given square is that of the whole plane, so is the answer.
 ///
 /// # Errors
 ///

@@ -127,7 +127,7 @@ fn are_three_blank<S: Squares>(squares: &S, level: u8, a: Id, b: Id, c: Id) -> b
         && is_blank_at(squares, level, c)
 }
 
-/// The quarters of what is trimmed of the square of these quarters. No square is made.
+/// The quarters of what is left of the square of these quarters when its blank outer rings are taken away. No square is made.
 fn innermost<S: Squares>(squares: &S, quarters: Quarters, least: u8) -> Quarters
     requires quarters { AreQuarters (S.knows squares.now) (S.content squares.now)
         (quad_of (S.content squares.now) quarters) quarters }
@@ -145,7 +145,9 @@ fn innermost<S: Squares>(squares: &S, quarters: Quarters, least: u8) -> Quarters
     }
 }
 
-/// While the square is above the least level and its outer grandchildren are blank, the square of its inner ones. Only the last one is joined.
+/// Takes the blank outer rings of a square away, and returns the square that is left. A square consists of sixteen squares two levels below it: four in the
+/// middle, and a ring of twelve around these. While the square is above the level `least` and the twelve are blank, the square of the four takes its place.
+/// Only the last one is joined.
 ///
 /// # Errors
 ///
