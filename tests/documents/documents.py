@@ -6,7 +6,9 @@ with their numbers (scripts/kinds says which places). Each figure with a unit in
 that gives the limit of squares gives that of a form too, and both are those of the code. Each tool that lists duplicates, and each page that says so, has the
 same form where none is named. Each check in the folders of tests/ is run, by tests/all or by another one. The files that docs/ADDING.md says to extend for a
 new command have the names that it gives, as those have that ARCHITECTURE follows a command through. Where a page names a file of a crate after a function, a
-constant or a definition, the file has it. And ARCHITECTURE has each crate of crates.txt, once.
+constant or a definition, the file has it. ARCHITECTURE has each crate of crates.txt, once. Where a page, the header for C or the help of the program quotes a
+sentence on a kind of fault, on a file that is no pattern, or of a warning, it is one of the code. Each type and each relation that CLAIMS, PROOFS and
+ARCHITECTURE name is in the code or the definitions of a crate. And a check refuses each altered copy of ALTERED.
 
 usage: tests/documents/documents.py
 """
@@ -49,7 +51,13 @@ NAME_OF_FILE = re.compile(r"`(?:\w+::)?([A-Za-z_]\w*)`\s(?:\(|in |of )`(\w+/(?:s
 NAMES = 30
 
 
+# The texts of files that are read in place of those on the disk, by their paths: a copy with a mistake that a check has to notice.
+copies = {}
+
+
 def text_of(path):
+    if path in copies:
+        return copies[path]
     with open(os.path.join(TOP, path), encoding="utf-8") as it:
         return it.read()
 
@@ -276,6 +284,121 @@ def in_file(document, path, said):
             yield f"{document}: {path} has {name}", bool(re.search(rf"\b{name}\b", text))
 
 
+# The files of the code that have the sentences of the program, and the page, the header and the help that quote some: each with the variants whose sentences
+# it quotes. Any other text that looks like a sentence of the program has to be one too.
+KIND_SENTENCES, HEADER = "crates/fault_sentences/src/sentences.rt", "include/golly_canon.h"
+SENTENCES = [KIND_SENTENCES, "crates/fault_sentences/src/foreign.rt", "crates/file_hints/src/warnings.rt"]
+QUOTED = {
+    "docs/LIBRARY.md": ["BadChild", "Gzip"],
+    "docs/FORMATS.md": ["BadChild", "Memory"],
+    HEADER: ["BadChild", "Gzip", "Cut"],
+    HELP: ["ZeroCount"],
+}
+# A text in backticks, the reason of an object of JSON, and the end of a line of Python. (A text that ends in `: N.` is a line with a number, and one that ends
+# in `..` isn't a whole sentence.)
+QUOTE = re.compile(r'`([A-Z][^`]* [^`]*[^`.]\.)(?<!: N\.)`|\\?"reason\\?":\\?"([^"\\]+)\\?"|# as: (.*?\.)(?= )')
+# The beginning of a sentence after its kind, as "`line 4: BadChild: A child number ..`", and a row that says of a kind what it means, in other words.
+BEGUN = re.compile(r"`[^`]*\b([A-Z][A-Za-z]+): ([A-Z][^`]*?)(?: \.\.)?`")
+MEANING = {
+    "docs/FORMATS.md": r"(?m)^\| `(\w+)` \| \d+ \| (.*) \|$",
+    HELP: r"(?m)^  ([A-Z]\w+)\s+(\S.*(?:\n {10,}\S.*)*)$",
+}
+# Why a file can't be opened: the texts that the man page lists.
+UNOPENED = re.compile(r"(?m)^\.IP \\\(bu 2\n\.B (.*)$")
+LIMIT = re.compile(r"\b2\^\d+")
+
+
+def sentences_in(path):
+    """The sentence of each variant in a file of the code, where a long one is written in pieces."""
+    arms = re.findall(r'\b(?:Kind|Foreign|Warning)::(\w+) => (?:\{|concat!\()?((?:\s*"[^"\n]*",?)+)', text_of(path))
+    return {name: "".join(re.findall(r'"([^"\n]*)"', said)).replace("\\\\", "\\") for name, said in arms}
+
+
+def of_sentences():
+    """Whether each sentence of the program that a page quotes is one of the code, as a whole or as far as it is quoted, and whether no limit is another one
+    where a page says in other words what a kind of fault means."""
+    of_kinds = sentences_in(KIND_SENTENCES)
+    known = {name: said for path in SENTENCES for name, said in sentences_in(path).items()}
+    yield f"{' '.join(SENTENCES)}: sentences of {len(known)} variants", len(known) > 60
+    allowed = {*known.values(), *UNOPENED.findall(text_of(PAGE))}
+    for path, names in QUOTED.items():
+        text = " ".join(re.sub(r"(?m)^ \* ?", "", text_of(path)).split())
+        for name in names:
+            yield f"{path}: the sentence of {name}: {known.get(name)}", known.get(name, "no sentence") in text
+        for found in QUOTE.finditer(text):
+            said = next(filter(None, found.groups()))
+            yield f"{path}: a sentence of the program: {said}", said in allowed
+    for path in DOCUMENTS:
+        for kind, said in BEGUN.findall(text_of(path)):
+            if kind in of_kinds:
+                yield f"{path}: the beginning of the sentence of {kind}: {said}", of_kinds[kind].startswith(said)
+    for path, row in MEANING.items():
+        rows = [(kind, said) for kind, said in re.findall(row, text_of(path)) if kind in of_kinds]
+        yield f"{path}: what {len(rows)} kinds of fault mean", len(rows) >= len(of_kinds) - 1
+        for kind, said in rows:
+            limits = set(LIMIT.findall(of_kinds[kind]))
+            yield f"{path}: the limits of {kind}: {said}", not limits or set(LIMIT.findall(said)) <= limits
+    part = re.search(r'(?m)^    grep -rniF "([^"]+)"', text_of(ADDING))
+    yield f"{ADDING}: a part of a sentence to look for: {part and part[1]}", bool(part) and any(part[1] in it for it in of_kinds.values())
+
+
+# The pages whose names of types and relations are looked up, and names that are none of the code's: two handles of the toolchain, and a rule of an example.
+TYPED = ["docs/CLAIMS.md", "docs/PROOFS.md", "docs/ARCHITECTURE.md"]
+FOREIGN_NAMES = {"Abort", "Wait", "Foo"}
+
+
+def words_of_code():
+    """The words of the code and of the definitions of all crates, without comments."""
+    words = set()
+    for pattern, comment in (("crates/*/src/**/*.rt", "//"), ("crates/*/specs/**/*.antt", "--")):
+        for path in glob.glob(pattern, root_dir=TOP, recursive=True):
+            words |= set(re.findall(r"\w+", re.sub(rf"(?m)(?:^|\s){comment}.*$", "", text_of(path))))
+    return words
+
+
+def of_types():
+    """Whether each name of a type, a trait, a variant or a relation in backticks is in the code or the definitions of a crate."""
+    words = words_of_code()
+    for document in TYPED:
+        prose = re.sub(r"(?ms)^```.*?^```|^    .*?$", "", text_of(document))
+        said = [it for it in re.findall(r"`([^`\n]+)`", prose) if "/" not in it]
+        names = {name for it in said for name in re.findall(r"(?<![\w.$-])([A-Z][a-z]\w*)\b(?!\.\w)", it)} - FOREIGN_NAMES
+        yield f"{document}: names of types, and not {len(names)}", len(names) >= NAMES
+        for name in sorted(names):
+            yield f"{document}: {name} is in the code or the definitions of a crate", name in words
+
+
+# Copies with a mistake: the check that has to refuse each, the file, and a text of it with the one that takes its place.
+ALTERED = [
+    (of_sentences, "docs/LIBRARY.md", "# as: A child number doesn't refer", "# as: A child number may not refer"),
+    (of_sentences, "docs/LIBRARY.md", "`This is a gzip file: unpack it first, with gunzip.`", "`It is a gzip file: unpack it first, with gunzip.`"),
+    (of_sentences, "docs/FORMATS.md", '"reason":"Memory was refused."', '"reason":"There is no memory."'),
+    (of_sentences, "docs/FORMATS.md", "BadChild: A child number ..`", "BadChild: A quarter ..`"),
+    (of_sentences, "docs/FORMATS.md", "or a count above 2^62. |", "or a count above 2^63. |"),
+    (of_sentences, "docs/COLLECTIONS.md", "BadChild: A child number ..`", "BadChild: A quarter ..`"),
+    (of_sentences, HEADER, "unpack it first, with gunzip.`", "unpack it, with gunzip.`"),
+    (of_sentences, HEADER, "file that was cut off before its end looks like this`", "file that was cut off looks like this`"),
+    (of_sentences, HELP, '\\"reason\\":\\"A count is 0.\\"', '\\"reason\\":\\"A count is zero.\\"'),
+    (of_sentences, HELP, "a line has more than 2^20 bytes", "a line has more than 2^21 bytes"),
+    (of_sentences, KIND_SENTENCES, '"A count is 0."', '"A count may not be 0."'),
+    (of_sentences, ADDING, 'grep -rniF "refer to an earlier', 'grep -rniF "be that of an earlier'),
+    (of_types, "docs/CLAIMS.md", "A `StoreOptions` has", "A `StoreChoices` has"),
+    (of_types, "docs/PROOFS.md", "`SharedSquares::seed`", "`SharedStores::seed`"),
+    (of_types, "docs/ARCHITECTURE.md", "A `Sixteen` is", "A `FourRows` is"),
+]
+
+
+def of_altered():
+    """Whether each altered copy is refused by the check that it is for, which passes the file itself."""
+    for check, path, old, new in ALTERED:
+        text = text_of(path)
+        before = {what for what, holds in check() if not holds}
+        copies[path] = text.replace(old, new, 1)
+        after = {what for what, holds in check() if not holds}
+        del copies[path]
+        yield f"{path}: {check.__name__} refuses {new!r} in place of {old!r}", text.count(old) >= 1 and bool(after - before)
+
+
 def findings():
     """What was looked at, and whether it holds."""
     for document in DOCUMENTS:
@@ -298,6 +421,9 @@ def findings():
     yield from of_kinds()
     yield from of_checks()
     yield from of_places()
+    yield from of_sentences()
+    yield from of_types()
+    yield from of_altered()
     yield from widths()
 
 
