@@ -16,8 +16,8 @@
 //! $$$$.....*$......*$....***$$    becomes    $$$$$....*.*$.....**$.....*$
 //! ```
 //!
-//! Inside, a `Nine` is a square amid its neighbours, and a `Sixteen` four rows of four squares, of which the middle four have all their neighbours. Nine blank
-//! squares have a blank answer. `leaf` reads sixteen squares of level 3 as words, `leaf_words` makes the words of their neighbours, and `counts` counts.
+//! Inside, `grid` has a `Nine` and a `Sixteen` of squares, `leaf` reads sixteen squares of level 3 as words, `leaf_words` makes the words of their
+//! neighbours, and `counts` counts. `docs/ARCHITECTURE.md` says how these go together ("One generation").
 //!
 //! It doesn't know pattern files, tables, or which generation it is. It calls `life_sweep` where a cell is at the edge of the plane. Above it, `life_step`
 //! makes one generation of a file, and `life_leap` makes many.

@@ -11,8 +11,7 @@
 //! An example: with the square of a glider, `later(alloc, &mut store, &rule, glider, 1_000_000)` returns the square of the glider 250,000 columns further east
 //! and 250,000 rows further south.
 //!
-//! Inside, n is divided into leaps, each a power of two. A leap is at most as long as the distance of the pattern to the edge of the plane, so that no cell can
-//! leave the plane unseen. Where that distance is 0, it makes a single generation of the whole plane.
+//! Inside, n is divided into leaps, each a power of two. `docs/ARCHITECTURE.md` says how long a leap may be ("Many generations").
 //!
 //! It doesn't know files, the generation that a pattern is in, or rules by tables. It uses the leaps of `life_leap`. Above it, `life_generations` takes a file
 //! further, and `life_phases` finds its period.
