@@ -1,14 +1,15 @@
 #!/usr/bin/env python3
-"""Holds the documents against the repository: each file, heading and line of code that they link to, and each file that they name, is there; the pages
-where a newcomer begins link to Golly and to what describes the formats; no clause is wider than 100 columns; no line of documents, definitions and proofs is
-too wide; the man page has a date; each place that repeats the version has that of the file VERSION; and each place that names the kinds of fault has them all,
-with their numbers (scripts/kinds says which places). Each figure with a unit in README is the one of the page that measures it. Each page and each `--help`
-that gives the limit of squares gives that of a form too, and both are those of the code. Each tool that lists duplicates, and each page that says so, has the
-same form where none is named. Each check in the folders of tests/ is run, by tests/all or by another one. The files that docs/ADDING.md says to extend for a
-new command have the names that it gives, as those have that ARCHITECTURE follows a command through. Where a page names a file of a crate after a function, a
-constant or a definition, the file has it. ARCHITECTURE has each crate of crates.txt, once. Where a page, the header for C or the help of the program quotes a
-sentence on a kind of fault, on a file that is no pattern, or of a warning, it is one of the code. Each type and each relation that CLAIMS, PROOFS and
-ARCHITECTURE name is in the code or the definitions of a crate. And a check refuses each altered copy of ALTERED.
+"""Holds the documents against the repository: each file, heading and line of code that they link to, and each file that they name, is there; the pages where a
+newcomer begins link to Golly and to what describes the formats; no clause is wider than 100 columns; no line of documents, definitions and proofs is too wide;
+the man page has a date; each place that repeats the version has that of the file VERSION; and each place that names the kinds of fault has them all, with their
+numbers (scripts/kinds says which places). Each figure with a unit in README is the one of the page that measures it. Each page and each `--help` that gives the
+limit of squares gives that of a form too, and both are those of the code. Each tool that lists duplicates, and each page that says so, has the same form where
+none is named. Each check in the folders of tests/ is run, by tests/all or by another one. The files that docs/ADDING.md says to extend for a new command have
+the names that it gives, as those have that ARCHITECTURE follows a command through. Where a page names a file of a crate after a function, a constant or a
+definition, the file has it. ARCHITECTURE has each crate of crates.txt, once, and the front page of a crate names no other crates above it than crates.txt does.
+Where a page, the header for C or the help of the program quotes a sentence on a kind of fault, on a file that is no pattern, or of a warning, it is one of the
+code. Each type and each relation that CLAIMS, PROOFS and ARCHITECTURE name is in the code or the definitions of a crate. And a check refuses each altered copy
+of ALTERED.
 
 usage: tests/documents/documents.py
 """
@@ -149,7 +150,7 @@ MEASURED = [
     ("README.md", r"Of the (\d+) pattern files that come with Golly ([\d.]+), `golly_canon` accepts (\d+)\.",
      [(PROOFS, r"It uses the (\d+) pattern files"), (PROOFS, r"`bgolly`, which is Golly ([\d.]+) without"), (PROOFS, r"- (\d+) of the \d+ pattern files are accepted")]),
     ("README.md", r"You need `make`, (\d+) GB of RAM, (\d+) GB of disk, .* The first `make` takes about (an hour) of one processor",
-     [("docs/INSTALL.md", r"(\d+) GB of RAM"), ("docs/INSTALL.md", r"(\d+) GB of disk"), ("CONTRIBUTING.md", r"`make` takes about (an hour) of one processor")]),
+     [("docs/INSTALL.md", r"(\d+) GB of RAM"), ("docs/INSTALL.md", r"(\d+) GB of disk"), ("docs/INSTALL.md", r"four processors, and (an hour) if you have one")]),
     (SPEED, r"For example, `canon` of a soup of 10 MB in RLE takes ([\d.]+) s and (\d+) MB of memory\. The fastest plain program .* takes ([\d.]+) s\.",
      [(SPEED, r"\| a soup of 10 MB in RLE \| ([\d.]+) s \|"), (SPEED, r"\| a soup of 10 MB in RLE \|[^|]+\|[^|]+\|[^|]+\| (\d+) MB \|"),
       (SPEED, r"\| a soup of 10 MB in RLE \|[^|]+\| ([\d.]+) s ")]),
@@ -234,6 +235,24 @@ def of_crates():
     rows = [name for row in re.findall(r"(?m)^\| ((?:`\w+`(?:, )?)+) \|", text_of("docs/ARCHITECTURE.md")) for name in re.findall(r"`(\w+)`", row)]
     for crate in re.findall(r"(?m)^(\w+)[^:\n]*:", text_of("crates.txt")):
         yield f"docs/ARCHITECTURE.md: {rows.count(crate)} rows for the crate {crate}", rows.count(crate) == 1
+
+
+def of_fronts():
+    """Whether the front page of each crate says what crates.txt says of the crates above it: those that it names after `Above it` use the crate, and where it
+    says that there is none, none does."""
+    uses = {crate: used.split() for crate, used in re.findall(r"(?m)^(\w+)[^:\n]*: (.*)$", text_of("crates.txt"))}
+    found = 0
+    for crate in uses:
+        lines = [line[4:] for path in (f"crates/{crate}/src/lib.rt", f"crates/{crate}/src/main.rt") if os.path.isfile(os.path.join(TOP, path))
+                 for line in text_of(path).splitlines() if line.startswith("//!")]
+        for paragraph in "\n".join(lines).split("\n\n"):
+            for sentence in re.split(r"(?<=[.:;])\s+", paragraph):
+                for other in re.findall(r"`(\w+)`", sentence) if sentence.startswith("Above it") else []:
+                    found += other in uses
+                    yield f"crates/{crate}/src: {other} is above it", other not in uses or crate in uses[other]
+            if "No crate is above it" in paragraph:
+                yield f"crates/{crate}/src: no crate is above it", not any(crate in used for used in uses.values())
+    yield f"the front pages of crates: {NAMES} crates or more that are above others, and not {found}", found >= NAMES
 
 
 def of_kinds():
@@ -385,6 +404,8 @@ ALTERED = [
     (of_types, "docs/CLAIMS.md", "A `StoreOptions` has", "A `StoreChoices` has"),
     (of_types, "docs/PROOFS.md", "`SharedSquares::seed`", "`SharedStores::seed`"),
     (of_types, "docs/ARCHITECTURE.md", "A `Sixteen` is", "A `FourRows` is"),
+    (of_fronts, "crates/key_sink/src/lib.rt", "Above it, `file_keys`", "Above it, `life_cli`"),
+    (of_fronts, "crates/life_lanes/src/lib.rt", "Above it, `life_strip`", "No crate is above it: `life_strip`"),
 ]
 
 
@@ -418,6 +439,7 @@ def findings():
     yield from of_squares()
     yield from of_defaults()
     yield from of_crates()
+    yield from of_fronts()
     yield from of_kinds()
     yield from of_checks()
     yield from of_places()
