@@ -351,6 +351,8 @@ def of_sentences():
         for kind, said in BEGUN.findall(text_of(path)):
             if kind in of_kinds:
                 yield f"{path}: the beginning of the sentence of {kind}: {said}", of_kinds[kind].startswith(said)
+        for said in re.findall(r"`(This is [^`]*?) \.\.`", text_of(path)):
+            yield f"{path}: the beginning of a sentence on a file: {said}", any(it.startswith(said) for it in known.values())
     for path, row in MEANING.items():
         rows = [(kind, said) for kind, said in re.findall(row, text_of(path)) if kind in of_kinds]
         yield f"{path}: what {len(rows)} kinds of fault mean", len(rows) >= len(of_kinds) - 1
@@ -395,6 +397,7 @@ ALTERED = [
     (of_sentences, "docs/FORMATS.md", "BadChild: A child number ..`", "BadChild: A quarter ..`"),
     (of_sentences, "docs/FORMATS.md", "or a count above 2^62. |", "or a count above 2^63. |"),
     (of_sentences, "docs/COLLECTIONS.md", "BadChild: A child number ..`", "BadChild: A quarter ..`"),
+    (of_sentences, "docs/COLLECTIONS.md", "`This is a zip file: ..`", "`This is a zip archive: ..`"),
     (of_sentences, HEADER, "unpack it first, with gunzip.`", "unpack it, with gunzip.`"),
     (of_sentences, HEADER, "file that was cut off before its end looks like this`", "file that was cut off looks like this`"),
     (of_sentences, HELP, '\\"reason\\":\\"A count is 0.\\"', '\\"reason\\":\\"A count is zero.\\"'),
