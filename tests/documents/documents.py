@@ -305,8 +305,8 @@ def in_file(document, path, said):
 
 # The files of the code that have the sentences of the program, and the page, the header and the help that quote some: each with the variants whose sentences
 # it quotes. Any other text that looks like a sentence of the program has to be one too.
-KIND_SENTENCES, HEADER = "crates/fault_sentences/src/sentences.rt", "include/golly_canon.h"
-SENTENCES = [KIND_SENTENCES, "crates/fault_sentences/src/foreign.rt", "crates/file_hints/src/warnings.rt"]
+KIND_SENTENCES, HEADER = "crates/file_hints/src/sentences.rt", "include/golly_canon.h"
+SENTENCES = [KIND_SENTENCES, "crates/file_hints/src/foreign.rt", "crates/file_hints/src/warnings.rt"]
 QUOTED = {
     "docs/LIBRARY.md": ["BadChild", "Gzip"],
     "docs/FORMATS.md": ["BadChild", "Memory"],

@@ -2,7 +2,7 @@
 use Rattle.std.proofs.Common.{◌≡◌, ◌∷◌, ◌++◌, [], true, false, None, Some, refl, codes}
 use Rattle.file_hints.specs.Recognition.{foreign_of}
 use Rattle.file_hints.specs.Damage.{warning_of}
-use Rattle.fault_sentences.specs.declared.foreign.Foreign.TheVariants as files
+use Rattle.file_hints.specs.declared.foreign.Foreign.TheVariants as files
 use Rattle.file_hints.specs.declared.warnings.Warning.TheVariants as warnings
 
 -- no bytes are an empty file, whatever was wanted

@@ -1,3 +1,5 @@
+pub mod Foreign
+pub mod Sentences
 pub mod Recognition
 pub mod Refused
 pub mod Warnings

@@ -4,8 +4,8 @@ use Rattle.std.specs.List.{list_all, list_any}
 use Rattle.std.specs.Char.{is_ascii_whitespace}
 use Rattle.std.specs.Str.{byte}
 use Rattle.life_base.specs.Text.{begins_with, is_empty, lines_of}
-use Rattle.fault_sentences.specs.declared.foreign.Foreign.{Foreign}
-use Rattle.fault_sentences.specs.declared.foreign.Foreign.TheVariants as files
+use Rattle.file_hints.specs.declared.foreign.Foreign.{Foreign}
+use Rattle.file_hints.specs.declared.foreign.Foreign.TheVariants as files
 
 -- the text has this byte
 abbrev pub has_byte : ℕ → List ℕ → Bool

@@ -1,7 +1,7 @@
 -- What is said of a refused file. The rules of this file are the project's own.
 use Rattle.std.specs.Prelude.{ℕ, Bool, List, [], take, Option, None, Some}
-use Rattle.fault_sentences.specs.Foreign.{advice_of}
-use Rattle.fault_sentences.specs.declared.foreign.Foreign.{Foreign}
+use Rattle.file_hints.specs.Foreign.{advice_of}
+use Rattle.file_hints.specs.declared.foreign.Foreign.{Foreign}
 use Rattle.life_base.specs.declared.kind.Kind.{Kind}
 use Rattle.life_base.specs.declared.kind.Kind.TheVariants as kinds
 use Rattle.file_hints.specs.Recognition.{foreign_of}

@@ -3,7 +3,7 @@
 ghost use Rattle.std.specs.Prelude.{◌≡◌, ◌<◌, length};
 ghost use Rattle.file_hints.specs.Words.{foreign_at_start, foreign_of, binary_of, text_kind_of, other_pattern_of, returns_of, first_item_line, first_text, has_byte, has_no_item, has_only, lines_but_first, lines_of, holds_text, is_headerless, is_image, is_plaintext, is_tar, without_space};
 
-use fault_sentences::Foreign;
+use crate::foreign::Foreign;
 use life_base::{begins_with, line_end};
 
 /// How many bytes of a file are looked at to recognize it: the mark of a tar file is among them. They are few, because `keys` looks at those of each file.

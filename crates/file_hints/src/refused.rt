@@ -3,8 +3,8 @@
 ghost use Rattle.std.specs.Prelude.{◌≡◌};
 ghost use Rattle.file_hints.specs.Words.{advice_on, advice_words, foreign_on};
 
+use crate::foreign::Foreign;
 use crate::recognizing::recognize;
-use fault_sentences::Foreign;
 use life_base::Kind;
 
 /// What is said of a file where a fault of this kind is reported: nothing where the fault isn't one of the bytes of the file.

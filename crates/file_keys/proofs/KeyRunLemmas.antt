@@ -7,7 +7,7 @@ use Rattle.std.proofs.lemmas.Grind.{flat_map-append}
 use Rattle.std.proofs.lemmas.List.{map-append}
 use Rattle.std.specs.declared.io.Error.{Error as IoError}
 use Rattle.std.specs.declared.io.ErrorKind.TheVariants as io
-use Rattle.fault_sentences.specs.declared.foreign.Foreign.{Foreign}
+use Rattle.file_hints.specs.declared.foreign.Foreign.{Foreign}
 use Rattle.life_base.specs.DeviceRuns.{sink_run, source_run, SourceRun}
 use Rattle.life_base.specs.Text.{is_empty}
 use Rattle.life_base.specs.Inputs.{CameBeyond, ReadAll}

@@ -1,6 +1,6 @@
 -- The patterns of a stream, and what is held of them.
 use Rattle.std.proofs.Common.{◌≡◌, ◌⊎◌, ◌↔◌, ◌∙◌, ◌+◌, ◌-◌, ◌<◌, ◌≤◌, ◌^◌, ◌==◌, ℕ, zero, suc, Bool, true, false, nat_lt, min, List, [], ◌∷◌, ◌++◌, length, take, drop, map, slice_index, get_or, Option, Some, None, Result, Ok, Err, IsTrue, not, is_err, OnOk, refl, sym, ap, ap₂, subst, subst₂, arith, inl, inr, append_assoc, append-nil, length-append, length-take, take_all, take-take, lt-ltb, le-ltb, ltb-false, ltb-true}
-use Rattle.fault_sentences.specs.declared.foreign.Foreign.{Foreign}
+use Rattle.file_hints.specs.declared.foreign.Foreign.{Foreign}
 use Rattle.file_hints.specs.Recognition.{foreign_of}
 use Rattle.file_hints.specs.Refused.{foreign_at_start, foreign_on}
 use Rattle.file_hints.specs.declared.warnings.Warning.{Warning}

@@ -5,7 +5,7 @@ use Rattle.std.specs.IoError.{error_kind}
 use Rattle.std.specs.Io.KnownBytes.{Appends}
 use Rattle.std.specs.declared.io.Error.{Error as IoError}
 use Rattle.std.specs.declared.io.ErrorKind.TheVariants as io
-use Rattle.fault_sentences.specs.declared.foreign.Foreign.{Foreign}
+use Rattle.file_hints.specs.declared.foreign.Foreign.{Foreign}
 use Rattle.life_base.specs.DeviceRuns.{SinkRun, SourceRun, source_run}
 use Rattle.life_base.specs.Inputs.{ReadAll}
 use Rattle.life_base.specs.Refusal.{fault_of}

@@ -4,8 +4,8 @@ use Rattle.std.specs.List.{list_any}
 use Rattle.std.specs.Str.{byte}
 use Rattle.std.specs.declared.io.ErrorKind.{ErrorKind}
 use Rattle.std.specs.declared.io.ErrorKind.TheVariants as io
-use Rattle.fault_sentences.specs.Sentences.{sentence_of}
-use Rattle.fault_sentences.specs.declared.foreign.Foreign.{Foreign}
+use Rattle.file_hints.specs.Sentences.{sentence_of}
+use Rattle.file_hints.specs.declared.foreign.Foreign.{Foreign}
 use Rattle.file_hints.specs.Refused.{advice_words}
 use Rattle.hex.specs.Hex.{encode_lower}
 use Rattle.sha2.specs.Sha256.{sha256}

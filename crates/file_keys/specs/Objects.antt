@@ -5,8 +5,8 @@ use Rattle.life_base.specs.Kinds.{kind_name}
 use Rattle.file_keys.specs.Json.{json_text, json_name}
 use Rattle.file_hints.specs.Refused.{advice_words}
 use Rattle.file_keys.specs.Keys.{advice_lead, reason_of}
-use Rattle.fault_sentences.specs.Sentences.{sentence_of}
-use Rattle.fault_sentences.specs.declared.foreign.Foreign.{Foreign}
+use Rattle.file_hints.specs.Sentences.{sentence_of}
+use Rattle.file_hints.specs.declared.foreign.Foreign.{Foreign}
 use Rattle.file_keys.specs.declared.keys.outcome.Outcome.{Outcome}
 use Rattle.file_keys.specs.declared.keys.outcome.Outcome.TheVariants.{Key, Refused, Unopened}
 

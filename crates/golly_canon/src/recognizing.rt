@@ -1,7 +1,6 @@
 //! Inputs whose first bytes are looked at before they are read, to see whether the file is something else than a pattern.
 
-use fault_sentences::Foreign;
-use file_hints::{HEAD, recognize};
+use file_hints::{Foreign, HEAD, recognize};
 use std::io::{Error, Read, Result as IoResult};
 
 /// An input, and its first bytes, which are read from it once more.

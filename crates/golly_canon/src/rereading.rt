@@ -1,7 +1,6 @@
 //! Files that are read again, to say more of a fault.
 
-use fault_sentences::Foreign;
-use file_hints::{HEAD, recognize};
+use file_hints::{Foreign, HEAD, recognize};
 use std::fs;
 use std::fs::File;
 use std::io::{ErrorKind, Read, Result as IoResult};

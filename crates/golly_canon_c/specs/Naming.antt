@@ -2,7 +2,7 @@
 use Rattle.std.specs.Prelude.{ℕ, Bool, ◌==◌, List, [], Option, Some, None, find, codes, if◌then◌else◌}
 use Rattle.life_base.specs.Kinds.{kind_number, kind_name}
 use Rattle.life_base.specs.declared.kind.Kind.{Kind}
-use Rattle.fault_sentences.specs.Sentences.{sentence_of}
+use Rattle.file_hints.specs.Sentences.{sentence_of}
 use Rattle.file_hints.specs.Refused.{advice_on}
 use Rattle.golly_canon_c.specs.declared.names.TheConstants.{KINDS}
 

@@ -9,7 +9,7 @@ pub use Rattle.library_calls.specs.Outputs.{text_in}
 pub use Rattle.library_calls.specs.InForm.{form_numbered, IsKeyInForm, IsTextInForm, AnswersInForm}
 pub use Rattle.life_generations.specs.Later.{IsTextLater}
 pub use Rattle.library_calls.specs.Stepping.{RefusesLater, RefusesStepWithin, StepsByTable}
-pub use Rattle.fault_sentences.specs.Sentences.{sentence_of}
+pub use Rattle.file_hints.specs.Sentences.{sentence_of}
 pub use Rattle.library_calls.specs.Streams.{Feeds, Finishes, IsSpent, OpensStream, sentence_of_stream, sentence_of_warning, session_of, TellsEnd, TellsKey, TellsNothing, TellsPiece}
 pub use Rattle.library_calls.specs.Reported.{Returns, ReturnsText, reply}
 pub use Rattle.library_calls.specs.declared.texts.Output.{Output as OutputValue}

@@ -4,7 +4,7 @@ ghost use Rattle.std.specs.Prelude.{◌≡◌, ◌≢◌, ◌==◌, [], codes, f
 ghost use Rattle.golly_canon_c.specs.Words.{KindValue, kind_number, kind_name, ReturnsText, reply, status_name, sentence_of, status_sentence};
 
 use crate::reported::tell_sentence;
-use fault_sentences::sentence;
+use file_hints::sentence;
 use library_calls::{NO_FORM, NO_ROOM, give};
 use life_base::Kind;
 

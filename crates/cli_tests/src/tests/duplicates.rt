@@ -2,7 +2,7 @@
 
 use super::devices::{assert_left, sink_with};
 use super::{EAST_GLIDER, GLIDER, LATER_TWINS, LINE, TWINS, TWINS_IN_RLE};
-use fault_sentences::Foreign;
+use file_hints::Foreign;
 use file_keys::{OpenedFile, write_duplicates, write_keys};
 use life_base::Device;
 use life_cli::plans::Request;

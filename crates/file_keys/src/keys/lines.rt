@@ -5,8 +5,7 @@ ghost use Rattle.file_keys.specs.Words.{list_any, LeavesSink, WritesText, error_
 
 use super::outcome::Outcome;
 use super::refusal::{FileRefusal, lead};
-use fault_sentences::sentence;
-use file_hints::{Warning, advice_words};
+use file_hints::{Warning, advice_words, sentence};
 use itoa::Buffer;
 use life_base::{Kind, Sink, append, write_text, write_texts};
 use memchr::memchr3;

@@ -3,7 +3,7 @@
 ghost use Rattle.std.specs.Prelude.{◌≡◌};
 ghost use Rattle.file_keys.specs.Words.{advice_lead, without_advice};
 
-use fault_sentences::Foreign;
+use file_hints::Foreign;
 use life_base::Fault;
 
 /// A file that was opened.

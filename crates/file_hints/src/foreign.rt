@@ -1,7 +1,7 @@
 //! What a file is that is no pattern in a format of the program.
 
 ghost use Rattle.std.specs.Prelude.{◌≡◌};
-ghost use Rattle.fault_sentences.specs.Foreign.{advice_of};
+ghost use Rattle.file_hints.specs.Foreign.{advice_of};
 
 /// What a file is, by its first bytes, that has no pattern in a format of the program or whose lines are wrong.
 #[derive(Clone, Copy)]

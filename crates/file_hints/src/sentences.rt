@@ -1,7 +1,7 @@
 //! The sentences.
 
 ghost use Rattle.std.specs.Prelude.{◌≡◌};
-ghost use Rattle.fault_sentences.specs.Sentences.{sentence_of};
+ghost use Rattle.file_hints.specs.Sentences.{sentence_of};
 
 use life_base::Kind;
 

@@ -1,7 +1,7 @@
 -- What a file is that is no pattern in a format of the program, and what to do, in a sentence. The project's own.
 use Rattle.std.specs.Prelude.{ℕ, List, codes}
-use Rattle.fault_sentences.specs.declared.foreign.Foreign.{Foreign}
-use Rattle.fault_sentences.specs.declared.foreign.Foreign.TheVariants as files
+use Rattle.file_hints.specs.declared.foreign.Foreign.{Foreign}
+use Rattle.file_hints.specs.declared.foreign.Foreign.TheVariants as files
 
 -- the sentence of such a file
 abbrev pub advice_of : Foreign → List ℕ

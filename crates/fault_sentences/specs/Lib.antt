@@ -1,2 +1,0 @@
-pub mod Foreign
-pub mod Sentences
