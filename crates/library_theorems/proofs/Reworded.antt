@@ -20,8 +20,8 @@ use Rattle.claims.specs.Generation.{IsUnstepped}
 use Rattle.claims.specs.Pattern.{Pattern}
 use Rattle.claims.specs.Shown.{IsClaimedShown as AreLines}
 use Rattle.claims.specs.Table.{Table, table_of}
-use Rattle.table_laws.specs.Laws.{TablesDecide, TablesRead, TablesRefuse}
-use Rattle.table_laws.specs.Tables.{IsTable}
+use Rattle.claims.specs.TableLaws.{TablesDecide, TablesRead, TablesRefuse}
+use Rattle.claims.specs.Tables.{IsTable}
 use Rattle.theorems.proofs.CanonicalLaw.{canonical_so}
 use Rattle.theorems.proofs.CellsLaw.{few_cells, says_more}
 use Rattle.theorems.proofs.FileLaw.{same_from, same_to, rle_format}

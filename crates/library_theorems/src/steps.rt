@@ -9,7 +9,7 @@ use life_canon::laws::{files_are_on_plane, files_are_unique};
 use life_quad::Shared;
 use life_table::laws::grammars_agree;
 use std::alloc::Global;
-use table_laws::laws::{tables_decide, tables_read, tables_refuse};
+use claims::laws::{tables_decide, tables_read, tables_refuse};
 
 /// A text of the next generation of a file under its B/S rule is at the beginning of the caller's memory, or its length is
 /// reported where it doesn't fit; or the number and the line of the file's fault are reported, or the first reason why it has none.

@@ -33,7 +33,7 @@ use Rattle.theorems.proofs.StreamLaw.{all_read, appended, at_end}
 use Rattle.step_theorems.proofs.StepLaw.{stepped_is}
 use Rattle.step_theorems.proofs.StepBy.{stepped_text}
 use Rattle.step_theorems.proofs.StepBy as by_table
-use Rattle.table_laws.specs.Tables.{IsTable}
+use Rattle.claims.specs.Tables.{IsTable}
 use Rattle.generation_theorems.proofs.FurtherLaw.{later-is}
 use Rattle.program_theorems.proofs.PeriodLaw.{shown-with_period}
 use Rattle.program_theorems.specs.Jobs.{AreClaimedSteps, HasClaimedSecond, WritesCanonical, IsOutcome, IsShortFile}

@@ -46,7 +46,7 @@ use Rattle.theorems.proofs.FileLaw.{files_agree}
 use Rattle.theorems.proofs.RefusalLaw.{refuses_agree, want_as, accepted_is_ok}
 use Rattle.theorems.proofs.StreamLaw.{all_read, appended, beyond}
 use Rattle.step_theorems.proofs.StepBy as by_table
-use Rattle.table_laws.specs.Tables.{IsTable}
+use Rattle.claims.specs.Tables.{IsTable}
 use Rattle.step_theorems.proofs.StepLaw.{unstepped_is}
 use Rattle.program_theorems.proofs.AnswerLaw.{own_times, times}
 use Rattle.program_theorems.proofs.PeriodLaw.{period-reason_of}

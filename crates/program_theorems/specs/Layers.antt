@@ -5,7 +5,7 @@ use Rattle.life_forms.specs.Laws.{ImagesStayOnPlane, MovedFormsAreOnPlane, Moved
 use Rattle.life_forms.specs.Laws.{TurnedFormsAreOnPlane, TurnedTextsAreFiles, TurnedTextsTellFiles}
 use Rattle.life_table.specs.Grammar.{TableGrammarsAgree}
 use Rattle.life_table.specs.Laws.{TableRefusalsHaveKinds}
-use Rattle.table_laws.specs.Laws.{TablesRead, TablesRefuse, TablesDecide}
+use Rattle.claims.specs.TableLaws.{TablesRead, TablesRefuse, TablesDecide}
 
 pub record LayersAgree : Type 0 where
   pub on_plane : FilesAreOnPlane 62

@@ -12,7 +12,7 @@ use life_forms::laws::{
     turned_forms_are_on_plane, turned_texts_are_files, turned_texts_tell_files,
 };
 use life_table::laws::{grammars_agree, refusals_have_kinds as table_refusals_have_kinds};
-use table_laws::laws::{tables_decide, tables_read, tables_refuse};
+use claims::laws::{tables_decide, tables_read, tables_refuse};
 
 /// What files, texts and tables are in the layers is what they are in the words of the formats.
 pub fn layers_agree()

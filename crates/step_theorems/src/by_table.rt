@@ -12,7 +12,7 @@ use life_step::step_table;
 use life_table::laws::grammars_agree;
 use life_table::{NameSeed, read_table_seeded};
 use std::alloc::Global;
-use table_laws::laws::{tables_decide, tables_read, tables_refuse};
+use claims::laws::{tables_decide, tables_read, tables_refuse};
 use theorems::{StoreOptions, are_equal};
 
 /// The text of the next generation of a file by a rule table has the table's name for its rule and one generation more, and

@@ -15,10 +15,10 @@ use Rattle.life_table.specs.declared.table.Var.{Var}
 use Rattle.life_table.specs.declared.table.Transition.{Transition as LayerTransition}
 use Rattle.life_table.specs.declared.table.Table.{Table as LayerTable}
 use Rattle.claims.specs.Table.{Variable, variable, Transition, Table, claimed_states_of, claimed_images, claimed_state_given, claimed_states_given, claimed_decision, ClaimedAnswer, becomes, ambiguous}
-use Rattle.table_laws.specs.Laws.{TablesDecide}
-use Rattle.table_laws.specs.Tables.{transition_in, answer_in, AreVariables, IsTable}
-use Rattle.table_laws.proofs.Given.{given_is_choice, choice_is_given}
-use Rattle.table_laws.proofs.Imaged.{images_agree, image_length, Agrees}
+use Rattle.claims.specs.TableLaws.{TablesDecide}
+use Rattle.claims.specs.Tables.{transition_in, answer_in, AreVariables, IsTable}
+use Rattle.claims.proofs.Tables.Given.{given_is_choice, choice_is_given}
+use Rattle.claims.proofs.Tables.Imaged.{images_agree, image_length, Agrees}
 
 -- ---- lists
 

@@ -16,8 +16,8 @@ use Rattle.life_table.specs.declared.table.Neighborhood.TheVariants.{VonNeumann,
 use Rattle.life_table.specs.declared.table.Symmetry.{Symmetry}
 use Rattle.life_table.specs.declared.table.Symmetry.TheVariants.{Identity, Rotate4, Rotate4Reflect, ReflectHorizontal, Permute, Rotate8, Rotate8Reflect}
 use Rattle.claims.specs.Table.{Variable, Table, claimed_symmetry_agrees, symmetries_of, neighbours_named, with_neighbours, with_descriptor}
-use Rattle.table_laws.specs.Tables.{transition_in, AreVariables}
-use Rattle.table_laws.proofs.Named.{Parsed, Directive}
+use Rattle.claims.specs.Tables.{transition_in, AreVariables}
+use Rattle.claims.proofs.Tables.Named.{Parsed, Directive}
 use Rattle.life_base.proofs.Texts.{same_bytes}
 use Rattle.life_table.proofs.Saying.{neighbors_alone}
 

@@ -20,7 +20,7 @@ use Rattle.life_table.specs.declared.table.Var.{Var}
 use Rattle.life_table.specs.declared.table.Entry.{Entry as LayerEntry}
 use Rattle.life_table.specs.declared.table.Entry.TheVariants as entries
 use Rattle.claims.specs.Table.{Variable, claimed_states_of}
-use Rattle.table_laws.specs.Tables.{entry_in, AreVariables}
+use Rattle.claims.specs.Tables.{entry_in, AreVariables}
 
 -- ---- tests
 

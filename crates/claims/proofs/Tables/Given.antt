@@ -14,7 +14,7 @@ use Rattle.life_table.specs.declared.table.Entry.{Entry as LayerEntry}
 use Rattle.life_table.specs.declared.table.Entry.TheVariants as entries
 use Rattle.life_table.specs.declared.table.Transition.{Transition as LayerTransition}
 use Rattle.claims.specs.Table.{Variable, variable, claimed_states_of, state_of_variable, allows, claimed_state_given}
-use Rattle.table_laws.specs.Tables.{entry_in, transition_in, AreVariables}
+use Rattle.claims.specs.Tables.{entry_in, transition_in, AreVariables}
 
 -- ---- tests
 

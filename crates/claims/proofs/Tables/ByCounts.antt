@@ -19,13 +19,13 @@ use Rattle.life_table.specs.declared.table.Entry.TheVariants as entries
 use Rattle.life_table.specs.declared.table.Transition.{Transition as LayerTransition}
 use Rattle.life_table.specs.declared.table.Table.{Table as LayerTable}
 use Rattle.claims.specs.Table.{variable, Transition, Table, claimed_states_of, claimed_states_given}
-use Rattle.table_laws.specs.ByCounts.{state_for, GivesByClaimedCounts, PermuteByClaimedCounts}
-use Rattle.table_laws.specs.Tables.{entry_in, transition_in, IsTable}
-use Rattle.table_laws.proofs.Decided.{gave, gets}
-use Rattle.table_laws.proofs.Given.{has_state_of, is_state_of}
-use Rattle.table_laws.proofs.Read.{tables_read}
-use Rattle.table_laws.proofs.Text.{word_listed}
-use Rattle.table_laws.proofs.Words.{length_is}
+use Rattle.claims.specs.ByCounts.{state_for, GivesByClaimedCounts, PermuteByClaimedCounts}
+use Rattle.claims.specs.Tables.{entry_in, transition_in, IsTable}
+use Rattle.claims.proofs.Tables.Decided.{gave, gets}
+use Rattle.claims.proofs.Tables.Given.{has_state_of, is_state_of}
+use Rattle.claims.proofs.Tables.Read.{tables_read}
+use Rattle.claims.proofs.Tables.Text.{word_listed}
+use Rattle.claims.proofs.Tables.Words.{length_is}
 use Rattle.life_base.proofs.Basics.{equal_swapped}
 
 -- ---- lists

@@ -23,11 +23,11 @@ use Rattle.life_table.proofs.Accepted.{accepted}
 use Rattle.claims.specs.Outcomes.{◌>>=◌}
 use Rattle.claims.specs.Files.{claimed_fault_at, on_line}
 use Rattle.claims.specs.Table.{Variable, Table, Section, ahead, with_table_line, end_of_table, read_table_lines, table_of}
-use Rattle.table_laws.specs.Laws.{TablesRead, TablesRefuse}
-use Rattle.table_laws.specs.Tables.{transition_in, AreVariables, IsTable}
-use Rattle.table_laws.proofs.Named.{Parsed, Place, Directive}
-use Rattle.table_laws.proofs.Text.{table_in}
-use Rattle.table_laws.proofs.Line.{Stands, is_ahead as stands_ahead, is_named, is_open, is_behind, Steps, steps, halts, section_fits, complete_is}
+use Rattle.claims.specs.TableLaws.{TablesRead, TablesRefuse}
+use Rattle.claims.specs.Tables.{transition_in, AreVariables, IsTable}
+use Rattle.claims.proofs.Tables.Named.{Parsed, Place, Directive}
+use Rattle.claims.proofs.Tables.Text.{table_in}
+use Rattle.claims.proofs.Tables.Line.{Stands, is_ahead as stands_ahead, is_named, is_open, is_behind, Steps, steps, halts, section_fits, complete_is}
 
 abbrev parsed_of : List (List ℕ) → Parsed
 parsed_of lines = parsed_by (numbered_from 1 lines)

@@ -7,7 +7,7 @@ use Rattle.life_table.specs.Meaning.{Answer, Decides}
 use Rattle.life_table.specs.Reading.{AreTable, RefusesTable}
 use Rattle.life_table.specs.Valid.{neighbour_count}
 use Rattle.life_table.specs.declared.table.Table.{Table as LayerTable}
-use Rattle.table_laws.specs.Tables.{IsTable, answer_in}
+use Rattle.claims.specs.Tables.{IsTable, answer_in}
 
 -- what a table decides for a cell and its neighbours is what the layer says that it decides
 abbrev pub TablesDecide : Type 0

@@ -17,11 +17,11 @@ use Rattle.life_table.specs.declared.table.Entry.{Entry as LayerEntry}
 use Rattle.life_table.proofs.Values.{is_entry}
 use Rattle.claims.specs.Rules.{has}
 use Rattle.claims.specs.Table.{Entry, Variable, Table, claimed_entries_of, claimed_states_of, is_name, with_variable}
-use Rattle.table_laws.specs.Tables.{entry_in, AreVariables}
-use Rattle.table_laws.proofs.Named.{Parsed}
-use Rattle.table_laws.proofs.Sets.{differs, set_of, set_is, states_are}
-use Rattle.table_laws.proofs.Text.{table_in, goes, stops, FitsAfter, moved}
-use Rattle.table_laws.proofs.Words.{all_more, all_of, is_there, length_is, entries_are}
+use Rattle.claims.specs.Tables.{entry_in, AreVariables}
+use Rattle.claims.proofs.Tables.Named.{Parsed}
+use Rattle.claims.proofs.Tables.Sets.{differs, set_of, set_is, states_are}
+use Rattle.claims.proofs.Tables.Text.{table_in, goes, stops, FitsAfter, moved}
+use Rattle.claims.proofs.Tables.Words.{all_more, all_of, is_there, length_is, entries_are}
 use Rattle.life_base.proofs.Basics.{equal_swapped}
 
 -- ---- names

@@ -23,11 +23,11 @@ use Rattle.claims.specs.Macrocell.{is_claimed_command}
 use Rattle.claims.specs.Rules.{claimed_rule_of}
 use Rattle.claims.specs.Table.{Variable, Table, Section, ahead, named_rule, in_table, after_table, is_complete, with_descriptor, with_variable, with_transition, with_text, with_rule_line, new_table, with_table_line}
 use Rattle.claims.proofs.RuleLaw.{rule_in, rule_of_is}
-use Rattle.table_laws.specs.Tables.{transition_in, AreVariables}
-use Rattle.table_laws.proofs.Named.{Parsed, Place, Directive, before_table, in_the_table, behind_table}
-use Rattle.table_laws.proofs.Text.{table_in, Fits, goes, stops, FitsAfter, moved, descriptor_fits}
-use Rattle.table_laws.proofs.Written.{variable_fits}
-use Rattle.table_laws.proofs.Transitions.{transition_fits}
+use Rattle.claims.specs.Tables.{transition_in, AreVariables}
+use Rattle.claims.proofs.Tables.Named.{Parsed, Place, Directive, before_table, in_the_table, behind_table}
+use Rattle.claims.proofs.Tables.Text.{table_in, Fits, goes, stops, FitsAfter, moved, descriptor_fits}
+use Rattle.claims.proofs.Tables.Written.{variable_fits}
+use Rattle.claims.proofs.Tables.Transitions.{transition_fits}
 
 -- ---- how far lines go, in both
 

@@ -18,10 +18,10 @@ use Rattle.life_table.specs.declared.table.Entry.{Entry as LayerEntry}
 use Rattle.life_table.specs.declared.table.Entry.TheVariants as entries
 use Rattle.life_table.specs.declared.table.Transition.{Transition as LayerTransition}
 use Rattle.claims.specs.Table.{Entry, variable, Variable, Transition, Table, claimed_entry_of, claimed_entries_of, claimed_states_of, transition_texts, is_claimed_bound, claimed_fits_zero, leaves_zero, with_entries, with_transition}
-use Rattle.table_laws.specs.Tables.{entry_in, transition_in, AreVariables}
-use Rattle.table_laws.proofs.Named.{Parsed}
-use Rattle.table_laws.proofs.Text.{table_in, goes, stops, FitsAfter, moved}
-use Rattle.table_laws.proofs.Words.{all_more, all_of, entry_is, entries_are}
+use Rattle.claims.specs.Tables.{entry_in, transition_in, AreVariables}
+use Rattle.claims.proofs.Tables.Named.{Parsed}
+use Rattle.claims.proofs.Tables.Text.{table_in, goes, stops, FitsAfter, moved}
+use Rattle.claims.proofs.Tables.Words.{all_more, all_of, entry_is, entries_are}
 use Rattle.life_base.proofs.Basics.{slice_get-last, equal_swapped}
 
 -- ---- tests of a transition

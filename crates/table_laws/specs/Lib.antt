@@ -1,3 +1,0 @@
-pub mod Tables
-pub mod ByCounts
-pub mod Laws
