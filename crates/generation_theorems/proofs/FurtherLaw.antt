@@ -28,8 +28,8 @@ use Rattle.theorems.proofs.FileLaw.{files_agree}
 use Rattle.theorems.proofs.PlaneLaw.{not_of_plane, outside_is}
 use Rattle.theorems.proofs.RefusalLaw.{refuses_agree, want_as}
 use Rattle.theorems.proofs.TextLaw.{text_of_pattern}
-use Rattle.step_theorems.proofs.NextLaw.{next_is}
-use Rattle.step_theorems.proofs.StepLaw.{none_some, some_of}
+use Rattle.theorems.proofs.NextLaw.{next_is}
+use Rattle.theorems.proofs.StepLaw.{none_some, some_of}
 use Rattle.generation_theorems.specs.ManyGenerations.{claimed_life_after, IsClaimedStateAfter, LeavesClaimedPlaneWithin, IsFirstReasonWithin, no_table_for, beyond_last_generation, leaves_plane_within, IsClaimedTextLater, IsNotAdvanced}
 
 -- ---- states

@@ -29,10 +29,10 @@ use Rattle.theorems.proofs.RefusalLaw.{accepted_is_ok, refuses_agree}
 use Rattle.theorems.proofs.ShownLaw.{shown_is}
 use Rattle.theorems.proofs.TextLaw.{rle_of_file}
 use Rattle.theorems.proofs.StreamLaw.{one_text}
-use Rattle.step_theorems.proofs.StepLaw.{unstepped_is}
+use Rattle.theorems.proofs.StepLaw.{unstepped_is}
 use Rattle.generation_theorems.specs.ManyGenerations.{IsNotAdvanced}
 use Rattle.generation_theorems.proofs.FurtherLaw.{reason-of}
-use Rattle.step_theorems.proofs.StepBy.{next_by_is_fixed, stepped_is, unstepped_is as unstepped_by_is}
+use Rattle.theorems.proofs.StepBy.{next_by_is_fixed, stepped_is, unstepped_is as unstepped_by_is}
 use Rattle.library_calls.specs.Texts.{IsTooLowFor, NeedsMore, IsLimitShortage, RefusesWithin, RefusesRleWithin, IsLeastCanonicalText as LayerText, IsRleText as LayerRle}
 use Rattle.library_calls.specs.declared.compared.Compared.{Compared}
 use Rattle.library_calls.specs.Comparing.{ComparesWithin, by_answer, IsAnswerOf, IsTooLowForBoth, RefusesEither}

@@ -30,9 +30,9 @@ use Rattle.theorems.proofs.RefusalLaw.{accepted_is_ok}
 use Rattle.theorems.proofs.ShownLaw.{shown_is}
 use Rattle.theorems.proofs.TextLaw.{rle_of_file}
 use Rattle.theorems.proofs.StreamLaw.{all_read, appended, at_end}
-use Rattle.step_theorems.proofs.StepLaw.{stepped_is}
-use Rattle.step_theorems.proofs.StepBy.{stepped_text}
-use Rattle.step_theorems.proofs.StepBy as by_table
+use Rattle.theorems.proofs.StepLaw.{stepped_is}
+use Rattle.theorems.proofs.StepBy.{stepped_text}
+use Rattle.theorems.proofs.StepBy as by_table
 use Rattle.claims.specs.Tables.{IsTable}
 use Rattle.generation_theorems.proofs.FurtherLaw.{later-is}
 use Rattle.program_theorems.proofs.PeriodLaw.{shown-with_period}

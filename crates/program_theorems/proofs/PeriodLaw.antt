@@ -23,7 +23,7 @@ use Rattle.claims.specs.Shown.{IsClaimedShown}
 use Rattle.claims.proofs.RuleLaw.{rule_in}
 use Rattle.theorems.proofs.FileLaw.{files_agree}
 use Rattle.theorems.proofs.ShownLaw.{shown_is}
-use Rattle.step_theorems.proofs.StepLaw.{none_some, some_of}
+use Rattle.theorems.proofs.StepLaw.{none_some, some_of}
 use Rattle.generation_theorems.proofs.FurtherLaw.{life-after_is, leaves-to, leaves-from}
 use Rattle.program_theorems.specs.Periods.{HasClaimedPeriod, IsClaimedPeriod, LeavesClaimedPlaneFirst, IsInClaimedMiddle, LeavesFromClaimedMiddle, IsPeriodReason, no_table_for_period, leaves_from_middle, claimed_period_line, IsClaimedShownWithPeriod, HasNoClaimedPeriod}
 

@@ -45,9 +45,9 @@ use Rattle.theorems.proofs.CellsLaw.{says_more}
 use Rattle.theorems.proofs.FileLaw.{files_agree}
 use Rattle.theorems.proofs.RefusalLaw.{refuses_agree, want_as, accepted_is_ok}
 use Rattle.theorems.proofs.StreamLaw.{all_read, appended, beyond}
-use Rattle.step_theorems.proofs.StepBy as by_table
+use Rattle.theorems.proofs.StepBy as by_table
 use Rattle.claims.specs.Tables.{IsTable}
-use Rattle.step_theorems.proofs.StepLaw.{unstepped_is}
+use Rattle.theorems.proofs.StepLaw.{unstepped_is}
 use Rattle.program_theorems.proofs.AnswerLaw.{own_times, times}
 use Rattle.program_theorems.proofs.PeriodLaw.{period-reason_of}
 use Rattle.program_theorems.specs.Jobs.{AreClaimedSteps, HasClaimedSecond, IsShortFile, RefusesTask, RefusesClaimedMany, IsReason, of_files, of_want, of_length, of_source, of_sink, DeviceHolds}

@@ -1,4 +1,4 @@
-use Rattle.step_theorems.proofs.StepLaw.{stepped_is}
+use Rattle.theorems.proofs.StepLaw.{stepped_is}
 use Rattle.library_theorems.proofs.Reworded.{reworded, unstepped}
 use Rattle.library_theorems.proofs.steps.next_is_reported.Goals as goal
 

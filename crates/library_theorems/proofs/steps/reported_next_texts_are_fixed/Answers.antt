@@ -1,5 +1,5 @@
 use Rattle.theorems.proofs.FileLaw.{map_ok}
-use Rattle.step_theorems.proofs.StepLaw.{next_is_fixed}
+use Rattle.theorems.proofs.StepLaw.{next_is_fixed}
 use Rattle.library_theorems.proofs.Reworded.{fixed_so, fixed_by_so}
 use Rattle.library_theorems.proofs.steps.reported_next_texts_are_fixed.Goals as goal
 

@@ -1,6 +1,6 @@
 use Rattle.std.proofs.Common.{inl}
 use Rattle.theorems.specs.Joined.{all_bytes}
-use Rattle.step_theorems.proofs.StepLaw.{stepped_is}
+use Rattle.theorems.proofs.StepLaw.{stepped_is}
 use Rattle.generation_theorems.proofs.FurtherLaw.{later-is}
 use Rattle.library_theorems.proofs.Pieces.{is_open, status_is}
 use Rattle.library_theorems.proofs.Reworded.{ended_so, canonical_to, rle_so, lines_so, unread, unread_at_all, unwritten, unstepped, not_advanced}

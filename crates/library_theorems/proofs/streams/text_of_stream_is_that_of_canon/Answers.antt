@@ -1,6 +1,6 @@
 use Rattle.theorems.specs.Joined.{all_bytes}
 use Rattle.theorems.proofs.FileLaw.{map_ok}
-use Rattle.step_theorems.proofs.StepLaw.{next_is_fixed}
+use Rattle.theorems.proofs.StepLaw.{next_is_fixed}
 use Rattle.library_theorems.proofs.Pieces.{is_open}
 use Rattle.library_theorems.proofs.Reworded.{text_so, counted_so, fixed_so, of_form}
 use Rattle.library_theorems.proofs.streams.text_of_stream_is_that_of_canon.Goals as goal

@@ -5,6 +5,9 @@ ghost use Rattle.claims.specs.ByTable.{IsClaimedStepBy, IsUnsteppedBy};
 ghost use Rattle.claims.specs.Files.{pattern_of, IsShortage};
 ghost use Rattle.claims.specs.Table.{Table, table_of};
 
+use crate::canonical::are_equal;
+use crate::space::StoreOptions;
+use claims::laws::{tables_decide, tables_read, tables_refuse};
 use life_base::Fault;
 use life_canon::canon;
 use life_canon::laws::{files_are_on_plane, files_are_unique};
@@ -12,8 +15,6 @@ use life_step::step_table;
 use life_table::laws::grammars_agree;
 use life_table::{NameSeed, read_table_seeded};
 use std::alloc::Global;
-use claims::laws::{tables_decide, tables_read, tables_refuse};
-use theorems::{StoreOptions, are_equal};
 
 /// The text of the next generation of a file by a rule table has the table's name for its rule and one generation more, and
 /// each cell has the state that the table decides for it.

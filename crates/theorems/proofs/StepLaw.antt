@@ -26,7 +26,7 @@ use Rattle.theorems.proofs.CellsLaw.{same_cells as of_layer}
 use Rattle.theorems.proofs.PlaneLaw.{not_of_plane, outside_is}
 use Rattle.theorems.proofs.RefusalLaw.{refuses_agree, want_as}
 use Rattle.theorems.proofs.TextLaw.{text_of_pattern}
-use Rattle.step_theorems.proofs.NextLaw.{next_is}
+use Rattle.theorems.proofs.NextLaw.{next_is}
 
 -- a reason that is not reported does not hold
 pub passes : {P A B : Type 0} → IfElse P A B → (A → ⊥) → (P → ⊥) × B

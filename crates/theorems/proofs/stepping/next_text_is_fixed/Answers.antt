@@ -1,6 +1,6 @@
 use Rattle.std.proofs.Common.{sym, ◌∙◌}
-use Rattle.step_theorems.proofs.StepLaw.{next_is_fixed}
-use Rattle.step_theorems.proofs.stepping.next_text_is_fixed.Goals as goal
+use Rattle.theorems.proofs.StepLaw.{next_is_fixed}
+use Rattle.theorems.proofs.stepping.next_text_is_fixed.Goals as goal
 
 pub returns : goal.returns
 returns c =

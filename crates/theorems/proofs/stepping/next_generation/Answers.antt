@@ -1,7 +1,7 @@
 use Rattle.theorems.proofs.FileLaw.{map_ok}
 use Rattle.theorems.proofs.RefusalLaw.{map_err}
-use Rattle.step_theorems.proofs.StepLaw.{stepped_is, unstepped_as}
-use Rattle.step_theorems.proofs.stepping.next_generation.Goals as goal
+use Rattle.theorems.proofs.StepLaw.{stepped_is, unstepped_as}
+use Rattle.theorems.proofs.stepping.next_generation.Goals as goal
 
 pub returns-clause-stepped : goal.returns-clause-stepped
 returns-clause-stepped c =

@@ -37,7 +37,7 @@ use Rattle.theorems.proofs.FileLaw.{Agrees, files_agree}
 use Rattle.theorems.proofs.RefusalLaw.{refuses_agree, want_as}
 use Rattle.theorems.proofs.TextLaw.{text_of_pattern}
 use Rattle.theorems.proofs.CellsLaw.{same_cells as of_layer}
-use Rattle.step_theorems.proofs.StepLaw.{none_some, passes, same_cells, some_of}
+use Rattle.theorems.proofs.StepLaw.{none_some, passes, same_cells, some_of}
 use Rattle.claims.specs.TableLaws.{TablesRead, TablesDecide}
 use Rattle.claims.specs.Tables.{IsTable, answer_in}
 

@@ -1,6 +1,6 @@
 use Rattle.std.proofs.Common.{sym, ◌∙◌}
-use Rattle.step_theorems.proofs.StepBy.{next_by_is_fixed}
-use Rattle.step_theorems.proofs.by_table.next_text_by_table_is_fixed.Goals as goal
+use Rattle.theorems.proofs.StepBy.{next_by_is_fixed}
+use Rattle.theorems.proofs.by_table.next_text_by_table_is_fixed.Goals as goal
 
 pub returns : goal.returns
 returns c =

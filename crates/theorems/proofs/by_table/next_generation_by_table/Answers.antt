@@ -1,8 +1,8 @@
 use Rattle.life_base.specs.Text.{lines_of}
 use Rattle.theorems.proofs.FileLaw.{map_ok}
 use Rattle.theorems.proofs.RefusalLaw.{map_err}
-use Rattle.step_theorems.proofs.StepBy.{stepped_text, unstepped_text}
-use Rattle.step_theorems.proofs.by_table.next_generation_by_table.Goals as goal
+use Rattle.theorems.proofs.StepBy.{stepped_text, unstepped_text}
+use Rattle.theorems.proofs.by_table.next_generation_by_table.Goals as goal
 
 pub returns-clause-stepped : goal.returns-clause-stepped
 returns-clause-stepped c =
