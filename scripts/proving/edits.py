@@ -2,15 +2,20 @@
 
 A must-fail edit is a deliberate bug: the prover has to refuse the crate with it. `rt ci` tries them one after the other, each in a copy of the crate. But the
 prover judges each function by itself. Its proof rests on its own body and on the contracts of the functions that it calls, and an edit changes no contract. So
-edits of different functions can be in one copy, which one check (a round) tries, over the work that the proof of the crate has left.
+one check (a round) can try many edits, over the work that the proof of the crate has left:
+
+- The first round leaves all functions as they are, and has a copy of a function for each edit of its body, under another name, with the function's contract
+  and proof files (scripts/proving/copies.py).
+- Later rounds change the functions themselves: for edits that can't be such a copy, at most one edit of a function.
 
 What makes a refusal count:
 
-1. An edit is refused if the prover says that a function which it changes fails *by itself*: it isn't proved, and not because it calls another function that
-   isn't; or it names a goal of this function that nothing proved; or a file of this function's own proof has an error.
+1. An edit is refused if the prover says that the copy, or a function which the edit changes, fails *by itself*: it isn't proved, and not because it calls
+   another function that isn't; or it names a goal of this function that nothing proved; or a file of this function's own proof has an error.
 2. If that function only waits for another one, the round says nothing of the edit, and a later round tries it again.
-3. The control: in each round every function that no edit changes has to be proved, or to wait for another one. If such a function fails by itself, nothing
-   that this round said counts. Its edits are tried again in two halves, and in the end one by one by the toolchain's rule, `must_fail` of `rt`.
+3. The control: in the first round every function of the crate has to be proved. In a later one every function that no edit changes has to be proved, or to wait
+   for another one. If such a function fails by itself, nothing that this round said counts. Its edits are tried again in two halves, those of the first round
+   as edits of the functions themselves, and in the end one by one by the toolchain's rule, `must_fail` of `rt`.
 4. An edit whose function is still proved is tried alone, also by the toolchain's rule. Only that rule says that an edit isn't refused.
 
 An edit that changes no function of `src/` is tried alone from the beginning."""
@@ -20,9 +25,10 @@ import json
 import os
 import re
 import shutil
+import subprocess
 import tempfile
 
-from proving import source, toolchain
+from proving import copies, source, toolchain
 
 rt = toolchain.load()
 
@@ -74,6 +80,7 @@ class Edit:
         self.label = f"must-fail {crate.name}/{os.path.basename(path)}"
         self.pairs, self.functions, self.refused, self.said = [], set(), None, ""
         self.had_company = False  # whether a round that refused another edit had this one too
+        self.was_copied = False  # whether a round that counts had a copy of its function
         _, problem = rt.read_edit(path, crate.folder)
         if problem:
             self.decide(False, f"BAD EDIT: {problem}")
@@ -127,8 +134,62 @@ def own_errors(function, lines):
     return [it for it in lines if re.match(rf"(\./)?proofs/{inside}/[^/]*:\d+:\d+: error", it)]
 
 
+class Check:
+    """One check of a crate with texts in place of its own, over a copy of kept work: what the prover says of each function."""
+
+    def __init__(self, crate, texts, kept, flags):
+        with copy_of(kept) as copy, tempfile.TemporaryDirectory(prefix=f"rt-edit-{os.getpid()}-") as place:
+            for part in rt.rtlib.PARTS:
+                if os.path.isdir(f"{crate.folder}/{part}"):
+                    shutil.copytree(f"{crate.folder}/{part}", f"{place}/{part}")
+            for path, text in texts.items():
+                os.makedirs(os.path.dirname(f"{place}/{path}"), exist_ok=True)
+                with open(f"{place}/{path}", "w", encoding="utf-8") as it:
+                    it.write(text)
+            words = [*rt.rtlib.guarded(), rt.rtlib.RATTLE, "check", *crate.words(flags, keeps=False), "--incremental", copy]
+            ran = subprocess.run(words, cwd=place, stdin=subprocess.DEVNULL, stdout=subprocess.PIPE, stderr=subprocess.STDOUT, text=True, errors="replace",
+                                 check=False)
+        self.lines = ran.stdout.rstrip("\n").split("\n")
+        self.verdicts = {it[1]: it[2] for it in map(VERDICT.match, self.lines) if it}
+        could_read = not any(rt.unread(it, texts) for it in self.lines) and not rt.rtlib.STALE.search(ran.stdout)
+        # (if no edit of a round is a bug, the crate is still proved)
+        self.has_verdict = could_read and (ran.returncode, self.lines[-1].split(" ")[0]) in ((1, "logic=not-proved"), (0, "logic=proved"))
+
+    def fails(self, function):
+        """Whether a function fails by itself."""
+        verdict = self.verdicts[function]
+        return bool(FAILS.fullmatch(verdict)) or (not verdict.startswith("proved") and bool(own_errors(function, self.lines)))
+
+    def refuses(self, edit, failing):
+        """Decides that an edit is refused, by its functions that fail by themselves."""
+        errors = [error for it in failing for error in own_errors(it, self.lines)]
+        real = [it for it in errors if not NAMES.match(it)]
+        is_open = any("search" in self.verdicts[it] for it in failing)
+        why = (real or errors or [f"{failing[0]}: {self.verdicts[failing[0]]}"])[0][:160]
+        says_little = errors and not real and not is_open
+        edit.decide(True, f"refused, as it must be{f' ({ONLY_NAMES})' if says_little else ''}: {why}")
+
+
+class RoundOfCopies:
+    """One check of a crate with a copy of a function for each edit."""
+
+    def __init__(self, crate, copied, texts, kept, flags):
+        self.copied, self.check = copied, Check(crate, texts, kept, flags)
+        names = {it.name for it in copied}
+        verdicts = self.check.verdicts
+        are_there = names <= set(map(name_of, verdicts))
+        self.counts = self.check.has_verdict and are_there and all(verdicts[it].startswith("proved") for it in verdicts if name_of(it) not in names)
+
+    def judge(self):
+        """Decides each edit whose copy the prover refuses."""
+        for it in self.copied:
+            failing = [name for name in self.check.verdicts if name_of(name) == it.name and self.check.fails(name)]
+            if failing:
+                self.check.refuses(it.edit, failing)
+
+
 class Round:
-    """One check of a crate with several edits: those that it tries, those that are left for a later round, and what the prover says of each function."""
+    """One check of a crate with several edits of its functions: those that it tries, and those that are left for a later round."""
 
     def __init__(self, crate, edits, kept, flags):
         self.edits, self.left, self.changed, texts = [], [], set(), {}
@@ -139,53 +200,37 @@ class Round:
             else:
                 texts, self.changed = more, self.changed | edit.functions
                 self.edits.append(edit)
-        with copy_of(kept) as copy:
-            ran = rt.checked(crate, texts, flags, copy)
-        self.lines = ran.stdout.rstrip("\n").split("\n")
-        self.verdicts = {it[1]: it[2] for it in map(VERDICT.match, self.lines) if it}
-        could_read = not any(rt.unread(it, texts) for it in self.lines) and not rt.rtlib.STALE.search(ran.stdout)
-        self.counts = could_read and self.has_verdict(ran.returncode) and not self.strays()
-
-    def has_verdict(self, status):
-        """Whether the prover came to an end. If no edit of the round is a bug, the crate is still proved."""
-        return (status, self.lines[-1].split(" ")[0]) in ((1, "logic=not-proved"), (0, "logic=proved"))
-
-    def fails(self, function):
-        """Whether a function fails by itself."""
-        verdict = self.verdicts[function]
-        return bool(FAILS.fullmatch(verdict)) or (not verdict.startswith("proved") and bool(own_errors(function, self.lines)))
+        self.check = Check(crate, texts, kept, flags)
+        self.counts = self.check.has_verdict and not self.strays()
 
     def strays(self):
         """The functions that fail by themselves though no edit changes them."""
-        return [it for it in self.verdicts if self.fails(it) and name_of(it) not in self.changed]
+        return [it for it in self.check.verdicts if self.check.fails(it) and name_of(it) not in self.changed]
 
     def judge(self, edit):
         """Decides the edit if the prover refuses it. Otherwise returns whether its function waits, so that a later round may decide."""
-        mine = [it for it in self.verdicts if name_of(it) in edit.functions]
-        failing = [it for it in mine if self.fails(it)]
+        mine = [it for it in self.check.verdicts if name_of(it) in edit.functions]
+        failing = [it for it in mine if self.check.fails(it)]
         if failing:
-            errors = [error for it in failing for error in own_errors(it, self.lines)]
-            real = [it for it in errors if not NAMES.match(it)]
-            is_open = any("search" in self.verdicts[it] for it in failing)
-            why = (real or errors or [f"{failing[0]}: {self.verdicts[failing[0]]}"])[0][:160]
-            says_little = errors and not real and not is_open
-            edit.decide(True, f"refused, as it must be{f' ({ONLY_NAMES})' if says_little else ''}: {why}")
+            self.check.refuses(edit, failing)
             return False
-        return any(not self.verdicts[it].startswith("proved") for it in mine)
+        return any(not self.check.verdicts[it].startswith("proved") for it in mine)
 
 
 class Trial:
     """All edits of a crate, tried in rounds over the work in `kept`."""
 
     def __init__(self, crate, paths, kept, flags):
-        groups = source.cycles(crate.folder)
+        self.groups = source.cycles(crate.folder)
         self.crate, self.kept, self.flags = crate, kept, flags
-        self.edits = [Edit(it, crate, groups) for it in paths]
+        self.edits = [Edit(it, crate, self.groups) for it in paths]
         self.checks = 0
 
     def run(self):
         """Decides each edit."""
-        waiting = [[it for it in self.edits if it.refused is None and it.functions]]
+        self.round_of_copies()
+        # (what is still proved as a copy would be proved again)
+        waiting = [[it for it in self.edits if it.refused is None and it.functions and not it.was_copied]]
         while waiting:
             edits = waiting.pop()
             if edits:
@@ -194,6 +239,19 @@ class Trial:
             if edit.refused is None:
                 self.alone(edit)
         return self.edits
+
+    def round_of_copies(self):
+        """Tries the edits together that can be copies of functions."""
+        copied, texts = copies.copied(self.crate.folder, [it for it in self.edits if it.refused is None], self.groups)
+        if len(copied) < 2:
+            return
+        made = RoundOfCopies(self.crate, copied, texts, self.kept, self.flags)
+        self.checks += 1
+        if made.counts:
+            made.judge()
+            for it in copied:
+                it.edit.had_company = any(other.edit.refused for other in copied)
+                it.edit.was_copied = True
 
     def round(self, edits):
         """Tries edits together, and returns the lists to try after that."""
