@@ -125,8 +125,10 @@ fn advice(kind: Kind) -> &'static str {
             "Let [M2] begin the file, or a line such as x = 0, y = 0, rule = B3/S23 come before the items; put # before text.",
         Kind::BadHeader =>
             "Write the header as x = 0, y = 0, rule = B3/S23: the sizes are numbers.",
-        Kind::BadRule | Kind::UnsupportedRule =>
+        Kind::BadRule =>
             "Write the rule as B3/S23 or as a name, with no space in it and nothing after it.",
+        Kind::UnsupportedRule =>
+            "Remove a comma or other text after the rule. Another rule in its place would make another pattern of the file.",
         Kind::BadNumber =>
             "Write the position as Pos=1,2, without a space, and the generation as Gen=3.",
         Kind::BadItem =>
