@@ -13,22 +13,18 @@ BLOCK = re.compile(r"^(impl|trait|mod)\b(.*)\{$")
 INHERENT = re.compile(r"(?:<.*?>)?\s*(\w+)(?:<.*>)?\s*(?:where.*)?$")
 
 
-def parts_of(text, first, last, name):
-    """The lines of a function with its attributes and comments: those before its body, and its body. None if it is written in one line."""
-    lines = text.split("\n")
+def parts_of(lines, first, last):
+    """A function with its attributes and comments: what comes before its body, and its body, which is empty where the function is written in one line."""
     above = first
     while above and re.match(r"\s*(///|#\[)", lines[above - 1]):
         above -= 1
     indent = re.match(r"\s*", lines[first])[0]
-    body = next((at for at in range(first, last) if lines[at] == indent + "{" or lines[at].endswith(" {")), None)
-    if body is None:
-        return None
-    return "\n".join(lines[above : body + 1]), "\n".join(lines[body + 1 : last + 1])
+    begin = next((at + 1 for at in range(first, last) if lines[at] == indent + "{" or lines[at].endswith(" {")), None)
+    return ("\n".join(lines[above:begin]), "\n".join(lines[begin : last + 1])) if begin else ("\n".join(lines[above : last + 1]), "")
 
 
-def block_around(text, first):
+def block_around(lines, first):
     """What stands around a function: an empty text at the top of a file, the name of the type of its `impl` block, or None if that is another block."""
-    lines = text.split("\n")
     if not lines[first].startswith(" "):
         return ""
     head = next((it for it in reversed(lines[:first]) if it and not it.startswith((" ", "}", "#", "/"))), "")
@@ -49,44 +45,43 @@ class Copied:
     """An edit as a copy of its function: where the copy stands, and its text and proof files. `is_possible` says whether there is one."""
 
     def __init__(self, folder, edit, number, in_cycles):
-        self.folder, self.edit, self.is_possible = folder, edit, False
-        paths = {it[0] for it in edit.pairs}
-        if len(paths) != 1 or not min(paths, default="").startswith("src/") or len(edit.functions) != 1 or edit.functions & in_cycles:
-            return
-        self.path, (self.function,) = min(paths), edit.functions
-        self.name = f"{self.function}_edit_{number}"
-        with open(f"{folder}/{self.path}", encoding="utf-8") as it:
+        self.folder, self.edit = folder, edit
+        self.is_possible = {it[0].startswith("src/") for it in edit.pairs} == {True} and len(edit.functions) == 1 and not edit.functions & in_cycles
+        if self.is_possible:
+            self.path, (self.function,) = edit.pairs[0][0], edit.functions
+            self.name = f"{self.function}_edit_{number}"
+            self.is_possible = all(it[0] == self.path for it in edit.pairs) and self.read()
+
+    def read(self):
+        """Finds the function in its file, and makes the text of the copy. Returns whether it can be one."""
+        with open(f"{self.folder}/{self.path}", encoding="utf-8") as it:
             text = it.read()
-        at = text.find(edit.pairs[0][1])
-        line = text.count("\n", 0, at)
-        around = [it for it in source.functions(text) if it[0] <= line <= it[1]]
-        if not around or around[-1][2] != self.function:
-            return
-        first, self.last, _ = around[-1]
-        block, parts = block_around(text, first), parts_of(text, first, self.last, self.function)
-        if block is None or parts is None or re.search(r"no_mangle|#\[test\]|extern \"C\"", parts[0]) or self.function == "main":
-            return
-        head, body = parts
-        for _, old, new in edit.pairs:
-            if body.count(old) != 1:
-                return
-            body = body.replace(old, new)
-        if re.search(rf"\b{self.function}\b\s*(::<|\()", parts[1] + body):
-            return
-        self.text = re.sub(rf"\bfn {self.function}\b", f"fn {self.name}", head, count=1) + "\n" + body
-        self.place = "/".join([*module_of(self.path), *([block] if block else [])])
-        self.is_possible = not os.path.exists(f"{folder}/proofs/{self.place}/{self.function}.antt")
+        lines, line = text.split("\n"), text.count("\n", 0, text.find(self.edit.pairs[0][1]))
+        first, self.last, name = next(it for it in reversed([(0, 0, ""), *source.functions(text)]) if it[0] <= line <= it[1] or not it[2])
+        block, (head, body) = block_around(lines, first), parts_of(lines, first, self.last)
+        if name != self.function or name == "main" or block is None or re.search(r"no_mangle|#\[test\]|extern \"C\"", head):
+            return False
+        self.place = [*module_of(self.path), *filter(None, [block])]
+        changed = body
+        for _, old, new in self.edit.pairs:
+            if changed.count(old) != 1:
+                return False
+            changed = changed.replace(old, new)
+        self.text = re.sub(rf"\bfn {name}\b", f"fn {self.name}", head, count=1) + "\n" + changed
+        calls_itself = re.search(rf"\b{name}\b\s*(::<|\()", body + changed)
+        return not calls_itself and not os.path.exists(f"{self.folder}/{self.proof_of(name)}.antt")
+
+    def proof_of(self, name):
+        """The folder of the proof files of a function beside the edited one."""
+        return "/".join(["proofs", *self.place, name])
 
     def files(self):
         """The proof files of the copy: those of the function, which name the copy."""
-        below = f"{self.folder}/proofs/{self.place}/{self.function}"
-        dots = ".".join(filter(None, [*self.place.split("/"), self.function]))
-        found = {}
+        below, found = f"{self.folder}/{self.proof_of(self.function)}", {}
+        named, copy = (".".join([*self.place, it]) for it in (self.function, self.name))
         for name in os.listdir(below) if os.path.isdir(below) else []:
             with open(f"{below}/{name}", encoding="utf-8") as it:
-                text = re.sub(rf"\.(proofs|contracts)\.{re.escape(dots)}\b(?!-)", lambda at: f".{at[1]}.{dots.rpartition('.')[0] + '.' if '.' in dots else ''}{self.name}",
-                              it.read())
-            found[f"proofs/{self.place}/{self.name}/{name}".replace("//", "/")] = text
+                found[f"{self.proof_of(self.name)}/{name}"] = re.sub(rf"\.(proofs|contracts)\.{re.escape(named)}\b(?!-)", rf".\1.{copy}", it.read())
         return found
 
 

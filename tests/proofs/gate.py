@@ -20,16 +20,24 @@ TOP = os.path.dirname(os.path.dirname(os.path.dirname(os.path.abspath(__file__))
 GATE = os.path.join(TOP, "scripts", "gate")
 
 SMALL = """\
-//! Three functions.
+//! Four functions.
 #![tactic(auto)]
 
-ghost use Rattle.std.specs.Prelude.{◌≡◌, ◌+◌};
+ghost use Rattle.std.specs.Prelude.{◌≡◌, ◌+◌, ◌<◌};
 
 /// The number after this one.
 pub fn after(number: u32) -> u64
     ensures { result ≡ number + 1 }
 {
     u64::from(number) + 1
+}
+
+/// The number two after this one.
+pub fn after_next(number: u32) -> u64
+    requires { number < 100 }
+    ensures { result ≡ number + 2 }
+{
+    after(number + 1)
 }
 
 /// The sum of two numbers.
@@ -64,6 +72,11 @@ FILES = {
     "crates.txt": "small:\nhello: small\n",
     "crates/small/src/lib.rt": SMALL,
     "crates/small/must-fail/after_is_two_more.edit": EDIT.format("    u64::from(number) + 1", "    u64::from(number) + 2"),
+    # (edits of one function, and of one that calls it)
+    "crates/small/must-fail/after_is_the_number.edit": EDIT.format("    u64::from(number) + 1", "    u64::from(number)"),
+    "crates/small/must-fail/next_is_not_passed.edit": EDIT.format("    after(number + 1)", "    after(number)"),
+    # (an edit that is no copy of a function, since it changes two)
+    "crates/small/must-fail/two_functions.edit": EDIT.format("    u64::from(number) + 1", "    u64::from(number) + 3") + EDIT.format("    10", "    11"),
     "crates/small/must-fail/sum_of_one_number.edit": EDIT.format("    u64::from(left) + u64::from(right)", "    u64::from(left) + u64::from(left)"),
     "crates/hello/src/main.rt": HELLO,
     "crates/hello/stdout": "10\n",
@@ -84,7 +97,15 @@ LOSES_AN_EDIT = "edits_of = gate.Gate.edits_of; gate.Gate.edits_of = lambda self
 LOSES_A_CRATE = "crates_of = gate.rt.crates_of; gate.rt.crates_of = lambda *given: crates_of(*given)[:1]"
 # An `rt` that has none of the parts that the gate calls.
 OTHER_RT = "#!/usr/bin/env python3\nimport sys\n\nif __name__ == '__main__':\n    print('this is rt', *sys.argv[1:])\n"
-REFUSES_ALL = "gate.trials.Round.judge = lambda self, edit: edit.decide(True, 'refused, as it must be')"
+REFUSES_ALL = """
+gate.trials.Round.judge = lambda self, edit: edit.decide(True, 'refused, as it must be')
+gate.trials.RoundOfCopies.judge = lambda self: [it.edit.decide(True, 'refused, as it must be') for it in self.copied]
+"""
+# The same only for edits that aren't copies of functions.
+REFUSES_CHANGED = """
+gate.trials.Round.judge = lambda self, edit: edit.decide(True, 'refused, as it must be')
+gate.trials.copies.copied = lambda *_: ([], {})
+"""
 
 
 def run(folder, *words, **variables):
@@ -134,7 +155,7 @@ def main():
                 it.write(text)
         subprocess.run(["git", "init", "-q", folder], check=True)
         os.chmod(folder, 0o755)
-        row("what is right passes", run(folder, GATE), 0, r"^small: 2 of 2 edits refused in 2 checks, and 1 harmless not refused ",
+        row("what is right passes", run(folder, GATE), 0, r"^small: 5 of 5 edits refused in 3 checks, and 1 harmless not refused ",
             r"^hello is proved \(1 functions\) ", r"^rt: hello ran, and wrote what its file stdout has$", r"^\d+ passed, 0 failed$")
         changed = os.path.join(folder, "crates/small/src/lib.rt")
         row("nothing changed", run(folder, GATE, "changed"), 0, r"^0 functions, 0 edits refused; ", r"^0 passed, 0 failed$")
@@ -143,7 +164,7 @@ def main():
             with open(changed, "w", encoding="utf-8") as it:
                 it.write(text)
             found = run(folder, GATE, "changed")
-            row(f"{name} changed", found, 0, r"^small is proved over kept work, in ", r"^small: 2 of 2 edits refused in ", r"^\d+ passed, 0 failed$")
+            row(f"{name} changed", found, 0, r"^small is proved over kept work, in ", r"^small: 5 of 5 edits refused in ", r"^\d+ passed, 0 failed$")
             counting.row(f"{name} changed: the crate above it", [] if ("hello is proved over kept work" in found[1]) == is_seen else [found[1][-900:]])
         with open(changed, "w", encoding="utf-8") as it:
             it.write(f"{SMALL}\n#[cfg(test)]\nmod tests;\n")
@@ -151,9 +172,10 @@ def main():
         with open(changed, "w", encoding="utf-8") as it:
             it.write(SMALL)
         row("a script that loses an edit", run(folder, "-c", BROKEN, LOSES_AN_EDIT, "edits"), 1,
-            r"^FAILED  the edit small/after_is_two_more.edit isn't refused$", r"^\d+ passed, [1-9]\d* failed$")
-        row("a script that refuses everything", run(folder, "-c", BROKEN, REFUSES_ALL, "edits"), 1,
-            r"^FAILED  must-fail small/ten_in_hexadecimal.edit: this harmless edit has to be proved", r"^\d+ passed, [1-9]\d* failed$")
+            r"^FAILED  the edit small/after_is_the_number.edit isn't refused$", r"^\d+ passed, [1-9]\d* failed$")
+        for name, text in (("everything", REFUSES_ALL), ("every edit that is no copy", REFUSES_CHANGED)):
+            row(f"a script that refuses {name}", run(folder, "-c", BROKEN, text, "edits"), 1,
+                r"^FAILED  must-fail small/ten_in_hexadecimal.edit: this harmless edit has to be proved", r"^\d+ passed, [1-9]\d* failed$")
         row("a script that loses a crate", run(folder, "-c", BROKEN, LOSES_A_CRATE), 1, r"^FAILED  the crate hello isn't proved$",
             r"^FAILED  the program hello didn't run", r"^\d+ passed, [1-9]\d* failed$")
         with tempfile.TemporaryDirectory(prefix="small-kits-") as kits:
