@@ -361,6 +361,8 @@ OTHERS = [
     (["show", "child.mc"], b"", 2, "line 4: BadChild", IN_PAIR),
     (["step", "child.mc"], b"", 2, "line 4: BadChild", IN_PAIR),
     (["canon", "-"], CHILD, 2, "line 4: BadChild", IN_INPUT),
+    (["canon", "-"], b"x = 3, y = 1, rule = 345/2/4\n3o!\n", 2, "line 1: UnsupportedRule",
+     ("standard input, line 1", None, "Remove a comma or other text after the rule. Another rule in its place would make another pattern of the file.")),
     (["same", "child.mc", "pair"], b"", 2, "line 4: BadChild", IN_PAIR),
     (["same", "pair", "child.mc"], b"", 2, "line 4: BadChild", IN_PAIR),
     (["same", "child.mc", "-"], PAIR_TEXT, 2, "line 4: BadChild", IN_PAIR),
