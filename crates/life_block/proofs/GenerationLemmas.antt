@@ -10,11 +10,12 @@ use Rattle.life_base.specs.declared.cell.TheConstants.{MAX_LEVEL}
 use Rattle.life_base.proofs.Squares.{Inside}
 use Rattle.life_strip.specs.Given.{IsRunOnPlane}
 use Rattle.life_table.specs.Meaning.{Becomes, Ambiguous}
-use Rattle.life_sweep.specs.Generation.{one_after, next_life, LifeAnswersAt, LifeAnswers}
+use Rattle.life_next.specs.Generation.{one_after, next_life}
+use Rattle.life_sweep.specs.Generation.{LifeAnswersAt, LifeAnswers}
 use Rattle.life_block.specs.Needed.{HasClearEdge}
 use Rattle.life_sweep.specs.Refused.{HasStateFrom, SomeAmbiguous, GenerationRefusal}
 use Rattle.life_sweep.specs.Sweep.{IsLeft}
-use Rattle.life_block.proofs.RootLemmas.{cell-outside}
+use Rattle.life_pieces.proofs.RootLemmas.{cell-outside}
 
 pub same-state : (a b : ℕ) → Becomes a ≡ Becomes b → a ≡ b
 same-state a b e = cc

@@ -11,15 +11,16 @@ use Rattle.life_quad.specs.Memory.{Recalls}
 use Rattle.life_quad.specs.declared.id.Id.{Id}
 use Rattle.life_quad.specs.declared.memory.Slot.{Slot}
 use Rattle.life_quad.proofs.KeepingLemmas.{keeps-then}
-use Rattle.life_sweep.specs.Generation.{one_before, one_after, states_at, zeros}
+use Rattle.life_next.specs.Generation.{one_before, one_after}
+use Rattle.life_sweep.specs.Generation.{states_at, zeros}
 use Rattle.life_table.specs.Meaning.{Answer, Becomes}
-use Rattle.life_block.specs.declared.grid.Three.{Three}
+use Rattle.life_pieces.specs.declared.grid.Three.{Three}
 use Rattle.life_block.specs.Laws.{IsPieceBy, IsNextAt, IsAnswerBy, RemembersBy}
 use Rattle.life_block.specs.Needed.{HasClearEdge}
-use Rattle.life_block.specs.Pieces.{Nine, IsPiece, IsOfLevel, InThree, InNine, AreThree, AreNine, step_back, step_ahead}
-use Rattle.life_block.specs.Remembered.{ids_of_nine}
-use Rattle.life_block.proofs.PieceLemmas.{IsAt-kept, zero-of_blank}
-use Rattle.life_block.proofs.RootLemmas.{cell-outside, corner, outer, piece-of_root}
+use Rattle.life_pieces.specs.Pieces.{Nine, IsPiece, IsOfLevel, InThree, InNine, AreThree, AreNine, step_back, step_ahead, ids_of_nine}
+use Rattle.life_pieces.proofs.PieceLemmas.{IsAt-kept, zero-of_blank, twice}
+use Rattle.life_pieces.proofs.RootLemmas.{cell-outside, corner, piece-of_root}
+use Rattle.life_block.proofs.RootLemmas.{outer}
 
 -- what a call's answer has, it has as an option
 pub if-some : {T E : Type 0} (P : T → Type 0) (r : Result T E) {o : Option T} → o ≡ result_ok r → IfOk r P → IfSome o P

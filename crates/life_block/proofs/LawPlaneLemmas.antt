@@ -11,12 +11,12 @@ use Rattle.life_sweep.specs.Refused.{GenerationRefusal, HasStateFrom, SomeAmbigu
 use Rattle.life_sweep.specs.Sweep.{IsLeft}
 use Rattle.life_table.specs.Meaning.{Answer}
 use Rattle.life_block.specs.Laws.{IsNextAt}
-use Rattle.life_block.specs.Needed.{square_from}
+use Rattle.life_pieces.specs.Pieces.{square_from}
 use Rattle.life_block.proofs.GenerationLemmas.{on-plane, same-state, one-state}
 use Rattle.life_block.proofs.LawPieceLemmas.{cell-small}
-use Rattle.life_block.proofs.NeedLemmas.{piece-is}
+use Rattle.life_pieces.proofs.NeedLemmas.{piece-is}
 use Rattle.life_block.proofs.PlaneLemmas.{whole-part}
-use Rattle.life_block.proofs.RootLemmas.{cell-outside, corner, piece-of_root}
+use Rattle.life_pieces.proofs.RootLemmas.{cell-outside, corner, piece-of_root}
 
 -- the image under the turn that changes nothing
 abbrev pub upright : Turn

@@ -5,7 +5,7 @@ use Rattle.life_quad.specs.Keeping.{KeepsSquares, AddsOnly}
 use Rattle.life_quad.specs.Refused.{SomePart}
 use Rattle.life_base.specs.declared.kind.Kind.{Kind}
 use Rattle.life_quad.specs.Store.{eight}
-use Rattle.life_block.specs.Pieces.{IsOfLevel}
+use Rattle.life_pieces.specs.Pieces.{IsOfLevel}
 use Rattle.life_quad.specs.declared.id.Id.{Id}
 use Rattle.life_quad.proofs.KeepingLemmas.{keeps-then, adds-as, adds-then}
 

@@ -3,26 +3,21 @@ use Rattle.std.proofs.Common.{◌≡◌, ℕ, zero, suc, ◌+◌, ◌*◌, ◌-�
 use Rattle.std.proofs.lemmas.Int.{ints}
 use Rattle.life_base.specs.Rules.{has_digit}
 use Rattle.life_base.specs.Sets.{OuterTotalistic}
-use Rattle.life_base.specs.Tree.{Tree, depth, half_side, tree_cell, IsFull}
+use Rattle.life_base.specs.Tree.{Tree, depth, half_side, tree_cell}
 use Rattle.life_base.specs.declared.cell.TheConstants.{MAX_LEVEL}
 use Rattle.life_quad.specs.Refused.{SomePart}
 use Rattle.life_strip.specs.Given.{half_plane, by_columns}
 use Rattle.life_strip.specs.Needed.{SomeSquare}
-use Rattle.life_sweep.specs.Generation.{next_life, LifeAnswersAt}
+use Rattle.life_next.specs.Generation.{next_life}
+use Rattle.life_sweep.specs.Generation.{LifeAnswersAt}
 use Rattle.life_sweep.specs.Refused.{of_plane as of_next}
-use Rattle.life_block.specs.Needed.{HasClearEdge, SomeOfNext, of_plane, next_plane, square_from}
-use Rattle.life_block.specs.Pieces.{step_ahead}
+use Rattle.life_block.specs.Needed.{HasClearEdge, SomeOfNext, of_plane, next_plane}
+use Rattle.life_pieces.specs.Pieces.{square_from, step_ahead}
 use Rattle.life_block.proofs.GenerationLemmas.{on-plane}
-use Rattle.life_block.proofs.NeedLemmas.{depth-square, square-piece}
-use Rattle.life_block.proofs.RootLemmas.{cells-of_piece, next-outside}
+use Rattle.life_pieces.proofs.NeedLemmas.{depth-square, square-piece, full-square}
+use Rattle.life_pieces.proofs.RootLemmas.{cells-of_piece, corner}
+use Rattle.life_block.proofs.RootLemmas.{next-outside}
 use Rattle.life_base.proofs.Basics.{double}
-
-pub full-square : (f : ℤ → ℤ → ℕ) → ((x y : ℤ) → f x y < 256) → (k : ℕ) (x y : ℤ) → IsFull (square_from f k x y)
-unfolding square_from
-full-square f small zero x y = small x y
-full-square f small (suc k) x y =
-    let same : (u v : ℤ) → depth (square_from f k u v) ≡ depth (square_from f k x y) = (λ u v. depth-square f k u v ∙ sym (depth-square f k x y)) in
-    (full-square f small k x y, full-square f small k _ y, full-square f small k x _, full-square f small k _ _, same _ y, same x _, same _ _)
 
 -- a column or a row of the plane, counted from its north-western corner
 abbrev at : ℕ → ℤ

@@ -6,11 +6,11 @@ use Rattle.life_quad.specs.Keeping.{KeepsSquares}
 use Rattle.life_quad.specs.Memory.{Recalls}
 use Rattle.life_quad.specs.declared.id.Id.{Id}
 use Rattle.life_quad.specs.declared.memory.Slot.{Slot}
-use Rattle.life_sweep.specs.Generation.{next_life}
-use Rattle.life_block.specs.declared.grid.Three.{Three}
-use Rattle.life_block.specs.Pieces.{Nine, Sixteen, IsPiece, IsBinary, IsOfLevel, InThree, InNine, AreThreeAt, AreNine, AreSixteen}
-use Rattle.life_block.specs.Remembered.{IsAnswer, RemembersBlocks, ids_of_nine}
-use Rattle.life_block.proofs.PieceLemmas.{IsAt-kept, IsPiece-kept}
+use Rattle.life_next.specs.Generation.{next_life}
+use Rattle.life_pieces.specs.declared.grid.Three.{Three}
+use Rattle.life_pieces.specs.Pieces.{Nine, Sixteen, IsPiece, IsBinary, IsOfLevel, InThree, InNine, AreThreeAt, AreNine, AreSixteen, ids_of_nine}
+use Rattle.life_block.specs.Remembered.{IsAnswer, RemembersBlocks}
+use Rattle.life_pieces.proofs.PieceLemmas.{IsAt-kept, IsPiece-kept}
 
 -- nine squares by their list
 nine_of : List Id → Nine

@@ -8,12 +8,13 @@ use Rattle.life_base.specs.Tree.{tree_cell, IsFull}
 use Rattle.life_quad.specs.Store.{two, four, eight}
 use Rattle.life_lanes.specs.Places.{place_in_leaf}
 use Rattle.life_lanes.proofs.WordLemmas.{bit-shr}
-use Rattle.life_block.specs.declared.grid.Three.{Three}
-use Rattle.life_block.specs.Bits.{HasSquareBits, HasRows, AreNineRows, AreFourRows, AreSixteenRows}
-use Rattle.life_block.specs.Pieces.{IsPiece, step_ahead, four_of}
-use Rattle.life_block.proofs.LeafWordLemmas.{rows-of_squares}
-use Rattle.life_block.proofs.RootLemmas.{IsAlone, alone-root, piece-of_root}
-use Rattle.life_block.proofs.SquareLemmas.{square-of_piece}
+use Rattle.life_pieces.specs.declared.grid.Three.{Three}
+use Rattle.life_pieces.specs.Bits.{HasSquareBits, HasRows}
+use Rattle.life_block.specs.Bits.{AreNineRows, AreFourRows, AreSixteenRows}
+use Rattle.life_pieces.specs.Pieces.{IsPiece, step_ahead, four_of}
+use Rattle.life_pieces.proofs.LeafWordLemmas.{rows-of_squares}
+use Rattle.life_pieces.proofs.RootLemmas.{IsAlone, alone-root, piece-of_root}
+use Rattle.life_pieces.proofs.SquareLemmas.{square-of_piece}
 
 -- squares of the states 0 and 1 are full
 full-two : (n : ℕ) → n < 16 → IsFull (two n)

@@ -6,8 +6,7 @@ use Rattle.life_quad.specs.declared.id.Id.{Id}
 use Rattle.life_quad.specs.declared.memory.Slot.{Slot}
 use Rattle.life_sweep.specs.Generation.{states_at}
 use Rattle.life_table.specs.Meaning.{Answer, Becomes}
-use Rattle.life_block.specs.Pieces.{Nine, IsOfLevel, InNine, AreNine}
-use Rattle.life_block.specs.Remembered.{ids_of_nine}
+use Rattle.life_pieces.specs.Pieces.{Nine, IsOfLevel, InNine, AreNine, ids_of_nine}
 
 -- each cell of the square, which begins in the column x and the row y, has a state that fits its place
 abbrev pub IsPieceBy : (ℤ → ℤ → ℕ → Type 0) → ℤ → ℤ → Tree → Type 0

@@ -1,6 +1,6 @@
 pub mod Bits
+pub mod Corners
 pub mod Laws
 pub mod Needed
-pub mod Pieces
 pub mod Remembered
 pub mod Words

@@ -1,23 +1,14 @@
 -- Which squares of the next generation a call stores, and which one a refused call had to store.
-use Rattle.std.specs.Prelude.{◌≡◌, ◌≢◌, ℕ, zero, suc, ◌+◌, ◌^◌, ◌<◌, ℤ, ◌<ℤ◌, pos, neg_ℤ, min}
+use Rattle.std.specs.Prelude.{◌≡◌, ◌≢◌, ℕ, suc, ◌+◌, ◌^◌, ◌<◌, ℤ, ◌<ℤ◌, pos, neg_ℤ, min}
 use Rattle.life_base.specs.Sets.{OuterTotalistic}
-use Rattle.life_base.specs.Tree.{Tree, point, quad, depth, half_side, tree_cell}
+use Rattle.life_base.specs.Tree.{Tree, depth, half_side, tree_cell}
 use Rattle.life_base.specs.declared.cell.TheConstants.{MAX_LEVEL}
 use Rattle.life_quad.specs.declared.id.Id.{Id}
 use Rattle.life_quad.specs.Refused.{SomePart}
-use Rattle.life_sweep.specs.Generation.{one_after, next_life, LifeAnswers}
+use Rattle.life_next.specs.Generation.{one_after, next_life}
+use Rattle.life_sweep.specs.Generation.{LifeAnswers}
 use Rattle.life_sweep.specs.Refused.{SomeNext}
-use Rattle.life_block.specs.Pieces.{AreNine, AreSixteen, IsBinary, Nine, Sixteen, step_ahead}
-
--- the square of level k with the states of the plane from the column x and the row y on
-unfoldable pub square_from : (ℤ → ℤ → ℕ) → ℕ → ℤ → ℤ → Tree
-square_from cells zero x y = point (cells x y)
-square_from cells (suc k) x y =
-    quad
-    (square_from cells k x y)
-    (square_from cells k (step_ahead x (2 ^ k)) y)
-    (square_from cells k x (step_ahead y (2 ^ k)))
-    (square_from cells k (step_ahead x (2 ^ k)) (step_ahead y (2 ^ k)))
+use Rattle.life_pieces.specs.Pieces.{AreNine, AreSixteen, IsBinary, Nine, Sixteen, square_from}
 
 -- The next two say that a square has a property which is part of some next states under a B/S rule, wherever on a plane the squares are: of a square of
 -- level k amid its eight neighbours, or of four squares of that level amid twelve others.

@@ -1,19 +1,12 @@
 -- What is remembered of the next states of squares.
-use Rattle.std.specs.Prelude.{ℕ, ◌^◌, ℤ, List, [], ◌∷◌}
+use Rattle.std.specs.Prelude.{ℕ, ◌^◌, ℤ, List}
 use Rattle.life_base.specs.Sets.{OuterTotalistic}
 use Rattle.life_base.specs.Tree.{Tree}
 use Rattle.life_quad.specs.Memory.{Recalls}
 use Rattle.life_quad.specs.declared.id.Id.{Id}
 use Rattle.life_quad.specs.declared.memory.Slot.{Slot}
-use Rattle.life_sweep.specs.Generation.{next_life}
-use Rattle.life_block.specs.Pieces.{Nine, IsPiece, IsBinary, IsOfLevel, InNine, AreNine}
-
--- the nine squares, row by row
-abbrev pub ids_of_nine : Nine → List Id
-ids_of_nine nine =
-    nine.before.before ∷ nine.before.here ∷ nine.before.after
-    ∷ nine.here.before ∷ nine.here.here ∷ nine.here.after
-    ∷ nine.after.before ∷ nine.after.here ∷ nine.after.after ∷ []
+use Rattle.life_next.specs.Generation.{next_life}
+use Rattle.life_pieces.specs.Pieces.{Nine, IsPiece, IsBinary, IsOfLevel, InNine, AreNine, ids_of_nine}
 
 module _ (knows : Id → Type 0) (content : Id → Tree) (rule : OuterTotalistic) where
   -- known squares of one level, of which the last has the next states of the one amid the nine, wherever on a plane these stand

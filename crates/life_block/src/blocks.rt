@@ -2,10 +2,11 @@
 ghost use Rattle.std.specs.Prelude.{◌≡◌, ℕ, ℤ, ◌+◌, ◌^◌, ◌<◌, ◌≤◌, false, IfOk, IfErr, OnErr};
 ghost use Rattle.life_block.specs.Words.{has_digit, depth, tree_cell, SomePart, SomeOfNine, SomeOfSixteen, next_life, IsNextLife, HasClearEdge, next_plane, next_square, RemembersBlocks, IsPiece, IsBinary, IsOfLevel, InNine, InSixteen, AreNine, AreSixteen, AddsOnly, KeepsStore, IsShortageIn};
 
-use crate::grid::{Corner, Nine, Sixteen, in_middle};
+use crate::corner::{Corner, in_middle};
 use crate::leaf::{next_of_leaves, next_of_small};
 use crate::remembered::{recalled, remember};
 use life_base::{Kind, LifeRule, MAX_LEVEL};
+use life_pieces::{Nine, Sixteen};
 use life_quad::{Id, NeighbourhoodMemory, SharedSquares, Squares, divide};
 use std::alloc::Global;
 

@@ -2,9 +2,10 @@
 ghost use Rattle.std.specs.Prelude.{◌≡◌, ℕ, ℤ, ◌+◌, ◌^◌, ◌<◌, ◌≤◌, IfSome, All, IsTrue};
 ghost use Rattle.life_block.specs.Words.{depth, point, tree_cell, HasClearEdge, Becomes, states_at, IsNextAt, IsNextOfNine, IsPieceBy, RemembersBy, IsOfLevel, InNine, InSixteen, AreNine, AreSixteen, KeepsStore};
 
-use crate::grid::{Corner, Nine, Sixteen, in_middle};
+use crate::corner::{Corner, in_middle};
 use crate::remembered::{recalled, remember};
 use life_base::{MAX_LEVEL, State};
+use life_pieces::{Nine, Sixteen};
 use life_quad::laws::growing_keeps_cells;
 use life_quad::{Id, NeighbourhoodMemory, SharedSquares, Squares, divide, grow};
 use life_sweep::Law;

@@ -2,10 +2,10 @@
 ghost use Rattle.std.specs.Prelude.{◌≡◌, ◌+◌, ◌*◌, ℕ, ℤ, ◌<◌, ◌≤◌, IfOk, IfErr, OnErr};
 ghost use Rattle.life_block.specs.Words.{point, tree_cell, depth, SomePart, two, four, eight, next_life, next_square, HasRows, AreFourRows, leaf_of_cells, square_of_leaves, SomeOfSixteen, IsPiece, IsBinary, IsWhereBinary, IsOfLevel, InFour, InSixteen, AreFour, AreSixteen, AddsOnly, KeepsStore, IsShortageIn};
 
-use crate::grid::{Four, Sixteen};
 use crate::leaf_words::{next_leaves, next_of_eight, next_of_four};
 use life_base::{Kind, LifeRule};
 use life_lanes::by_rows;
+use life_pieces::{Four, Sixteen};
 use life_quad::{Id, Quarters, Squares, divide};
 
 // The state of a cell that is 0 or 1.

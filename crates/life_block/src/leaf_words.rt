@@ -3,10 +3,10 @@
 ghost use Rattle.std.specs.Prelude.{◌≡◌, ℕ, ℤ, ◌<◌, ◌==◌, if◌then◌else◌};
 ghost use Rattle.life_block.specs.Words.{bit_at, one_before, one_after, next_life, HasRows, AreThreeRows, AreNineRows, AreSixteenRows, leaf_of_cells, square_of_leaves, square_from, step_back, step_ahead, four, eight, next_square};
 
-use crate::counts::{NineWords, next_word};
-use crate::grid::{Four, Three};
 use life_base::LifeRule;
 use life_lanes::{by_quarters, by_rows};
+use life_next::{NineWords, next_word};
+use life_pieces::{Four, Three};
 
 // The bits of one word where a mask has 1, and those of another where it has 0.
 #[inline(always)]

@@ -2,7 +2,7 @@
 ghost use Rattle.std.specs.Prelude.{◌≡◌, ◌⊎◌, IfSome};
 ghost use Rattle.life_block.specs.Words.{Recalls, IdValue, NineValue, ids_of_nine};
 
-use crate::grid::Nine;
+use life_pieces::Nine;
 use life_quad::{Id, NeighbourhoodMemory};
 
 /// The least level of squares that are remembered: lower ones are computed as fast again.

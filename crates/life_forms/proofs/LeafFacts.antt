@@ -13,11 +13,11 @@ use Rattle.life_mc.specs.Writing.{header_lines_text, node_text}
 use Rattle.life_mc.specs.declared.line.Line.TheVariants.{Leaf}
 use Rattle.life_quad.specs.Moves.{trimmed_square}
 use Rattle.life_quad.proofs.LawLemmas.{cells_lie_inside, trimmed_is_fixed, trimmed_is_lowest, trimming_keeps_cells, trimming_stops}
-use Rattle.life_block.specs.Needed.{square_from}
-use Rattle.life_block.specs.Pieces.{step_ahead}
-use Rattle.life_block.proofs.NeedLemmas.{depth-square, piece-is}
-use Rattle.life_block.proofs.PieceLemmas.{blank-of_zero}
-use Rattle.life_block.proofs.PlaneLemmas.{full-square}
+use Rattle.life_pieces.specs.Pieces.{square_from}
+use Rattle.life_pieces.specs.Pieces.{step_ahead}
+use Rattle.life_pieces.proofs.NeedLemmas.{depth-square, piece-is}
+use Rattle.life_pieces.proofs.PieceLemmas.{blank-of_zero}
+use Rattle.life_pieces.proofs.NeedLemmas.{full-square}
 use Rattle.life_canon.specs.Laws.{SquaresAreCentred}
 use Rattle.life_canon.specs.Lesser.{IsUpTo}
 use Rattle.life_canon.specs.Listing.{is_small, line_of, is_in, listed_squares, rows_of, square_text, walk, with_all, with_new}

@@ -12,9 +12,9 @@ use Rattle.life_quad.specs.Cells as square
 use Rattle.life_quad.specs.Moves.{trimmed_square}
 use Rattle.life_quad.specs.Refused.{SomePart}
 use Rattle.life_quad.proofs.LawLemmas.{cells_lie_inside, trimmed_by_cells, trimming_stops}
-use Rattle.life_block.specs.Needed.{square_from}
-use Rattle.life_block.proofs.NeedLemmas.{depth-square}
-use Rattle.life_block.proofs.PlaneLemmas.{full-square}
+use Rattle.life_pieces.specs.Pieces.{square_from}
+use Rattle.life_pieces.proofs.NeedLemmas.{depth-square}
+use Rattle.life_pieces.proofs.NeedLemmas.{full-square}
 use Rattle.life_canon.specs.Universe.{Universe, IsSame, IsBlankOutside, centred_square, corner, least_level, square_universe, whole}
 use Rattle.life_canon.specs.Universe as canon
 use Rattle.life_slide.specs.Pieces.{cells_from, plane_from, root_from}

@@ -4,7 +4,7 @@ use Rattle.std.specs.Int.{bit_at}
 use Rattle.life_base.proofs.RoundTrip.{all_below, all_below_at}
 use Rattle.life_lanes.specs.Places.{exchanged, place_in_leaf}
 use Rattle.life_lanes.proofs.PlaceLemmas.{equal}
-use Rattle.life_block.specs.Needed.{square_from}
+use Rattle.life_pieces.specs.Pieces.{square_from}
 use Rattle.life_quad.specs.Store.{eight}
 use Rattle.life_quad.specs.Turning.{turned_tree}
 use Rattle.life_slide.proofs.LeafLemmas.{leaf-of_bits}

@@ -5,12 +5,12 @@ use Rattle.life_base.specs.Sets.{OuterTotalistic}
 use Rattle.life_base.specs.Tree.{Tree, depth, half_side, is_blank_tree, tree_cell, IsFull}
 use Rattle.life_base.proofs.Basics.{halves}
 use Rattle.life_base.proofs.Squares.{blank_is}
-use Rattle.life_block.proofs.PieceLemmas.{zero-of_blank}
-use Rattle.life_block.proofs.RootLemmas.{alone-root, corner, piece-of_root}
+use Rattle.life_pieces.proofs.PieceLemmas.{zero-of_blank}
+use Rattle.life_pieces.proofs.RootLemmas.{alone-root, corner, piece-of_root}
 use Rattle.life_base.specs.declared.bounds.Bounds.{Bounds}
 use Rattle.std.proofs.Math.Pow.{pow_mono}
 use Rattle.life_base.specs.Rules.{has_digit}
-use Rattle.life_block.specs.Pieces.{IsPiece, step_ahead}
+use Rattle.life_pieces.specs.Pieces.{IsPiece, step_ahead}
 use Rattle.life_quad.proofs.LawLemmas.{cells_lie_inside}
 use Rattle.life_quad.specs.Cells.{IsBoundingBoxOfTree}
 use Rattle.life_leap.specs.After.{after}

@@ -10,7 +10,7 @@ use Rattle.life_base.specs.Tree.{Tree, tree_cell}
 use Rattle.life_base.specs.declared.bounds.Bounds.{Bounds}
 use Rattle.life_base.specs.declared.fault.Fault.{Fault}
 use Rattle.life_base.specs.declared.kind.Kind.TheVariants as kinds
-use Rattle.life_block.specs.Pieces.{step_ahead, step_back}
+use Rattle.life_pieces.specs.Pieces.{step_ahead, step_back}
 use Rattle.life_base.specs.declared.kind.Kind.{Kind}
 use Rattle.life_quad.specs.Keeping.{IsShortageKind}
 use Rattle.life_quad.specs.Cells.{IsBoundingBoxOfTree}

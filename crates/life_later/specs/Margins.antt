@@ -1,7 +1,7 @@
 -- Boxes on the plane, and their distance to its edge.
 use Rattle.std.specs.Prelude.{ℕ, ◌^◌, pos, neg_ℤ, ◌≤ℤ◌, ◌<ℤ◌}
 use Rattle.life_base.specs.declared.bounds.Bounds.{Bounds}
-use Rattle.life_block.specs.Pieces.{step_ahead, step_back}
+use Rattle.life_pieces.specs.Pieces.{step_ahead, step_back}
 use Rattle.life_leap.specs.Edge.{IsPlaneCoordinate}
 
 -- the box is on the plane

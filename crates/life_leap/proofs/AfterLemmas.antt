@@ -5,10 +5,10 @@ use Rattle.life_base.specs.Rules.{has_digit}
 use Rattle.life_base.specs.Sets.{OuterTotalistic}
 use Rattle.life_base.specs.declared.rule.Near.{Near}
 use Rattle.life_base.specs.declared.rule.Near.TheVariants.{Moore, VonNeumann}
-use Rattle.life_sweep.specs.Generation.{one_before, one_after, next_by_count, next_life}
-use Rattle.life_table.specs.Meaning.{count_of}
-use Rattle.life_block.specs.Pieces.{IsBinary, step_back, step_ahead}
-use Rattle.life_block.proofs.PieceLemmas.{next-zero, IsZero}
+use Rattle.life_next.specs.Generation.{one_before, one_after, next_by_count, next_life, live_in}
+use Rattle.life_pieces.specs.Pieces.{IsBinary, step_back, step_ahead}
+use Rattle.life_next.proofs.NextLemmas.{next-zero}
+use Rattle.life_pieces.proofs.PieceLemmas.{IsZero}
 use Rattle.life_leap.specs.After.{after, DependsOnNear, AfterAdds, IsBlankBeyond}
 
 pub after-none : (rule : OuterTotalistic) (cells : ℤ → ℤ → ℕ) → after rule 0 cells ≡ cells
@@ -84,8 +84,8 @@ next-same rule f g x y h = by rule.near
         let se = at (one_after x) (one_after y) (one_more x) (one_more y) in
         let sw = at (one_before x) (one_after y) (one_less x) (one_more y) in
         let nw = at (one_before x) (one_before y) (one_less x) (one_less y) in
-        (λ i. next_by_count rule.sets (c i) (count_of 1 (n i ∷ ne i ∷ e i ∷ se i ∷ s i ∷ sw i ∷ w i ∷ nw i ∷ [])))
-    by VonNeumann = (λ i. next_by_count rule.sets (c i) (count_of 1 (n i ∷ e i ∷ s i ∷ w i ∷ [])))
+        (λ i. next_by_count rule.sets (c i) (live_in (n i ∷ ne i ∷ e i ∷ se i ∷ s i ∷ sw i ∷ w i ∷ nw i ∷ [])))
+    by VonNeumann = (λ i. next_by_count rule.sets (c i) (live_in (n i ∷ e i ∷ s i ∷ w i ∷ [])))
 
 pub depends-near : DependsOnNear
 depends-near rule zero f g west north east south h =

@@ -3,8 +3,8 @@ use Rattle.std.proofs.Common.{◌≡◌, ℕ, ◌+◌, ◌^◌, ℤ, ◌≤ℤ�
 use Rattle.std.proofs.lemmas.Int.{ints}
 use Rattle.life_base.specs.Tree.{Tree, quad, depth, blank}
 use Rattle.life_quad.specs.declared.id.Id.{Id}
-use Rattle.life_block.specs.Pieces.{IsPiece, step_ahead, step_back}
-use Rattle.life_block.proofs.PieceLemmas.{twice, IsPiece-moved, pieces-of, blank-of_zero}
+use Rattle.life_pieces.specs.Pieces.{IsPiece, step_ahead, step_back}
+use Rattle.life_pieces.proofs.PieceLemmas.{twice, IsPiece-moved, pieces-of, blank-of_zero}
 use Rattle.life_leap.specs.Grid.{AreSixteenSquares}
 use Rattle.life_leap.specs.Leaps.{IsBlankSquareBeyond}
 

@@ -6,8 +6,8 @@ use Rattle.life_base.proofs.Squares.{blank_is}
 use Rattle.life_base.proofs.Basics.{double, left_of_and, right_of_and}
 use Rattle.life_quad.specs.declared.id.Id.{Id}
 use Rattle.life_quad.specs.declared.moves.Quarters.{Quarters}
-use Rattle.life_block.specs.Pieces.{IsPiece, step_ahead, step_back}
-use Rattle.life_block.proofs.PieceLemmas.{twice, pieces-of, zero-of_blank}
+use Rattle.life_pieces.specs.Pieces.{IsPiece, step_ahead, step_back}
+use Rattle.life_pieces.proofs.PieceLemmas.{twice, pieces-of, zero-of_blank}
 use Rattle.life_leap.specs.Edge.{HasNonzeroCell, IsInBox, IsInRing, TestsBlank, three_ahead}
 use Rattle.life_leap.specs.Grid.{AreThreeSquares, AreTripleFrom}
 use Rattle.life_leap.specs.declared.grid.Triple.{Triple}

@@ -4,8 +4,8 @@ use Rattle.life_base.specs.Tree.{Tree, quad, depth}
 use Rattle.life_quad.specs.Keeping.{KeepsSquares}
 use Rattle.life_quad.specs.declared.id.Id.{Id}
 use Rattle.life_quad.specs.declared.moves.Quarters.{Quarters}
-use Rattle.life_block.specs.Pieces.{IsPiece, IsOfLevel, step_ahead}
-use Rattle.life_block.proofs.PieceLemmas.{IsAt-kept, IsPiece-kept, IsPiece-joined}
+use Rattle.life_pieces.specs.Pieces.{IsPiece, IsOfLevel, step_ahead}
+use Rattle.life_pieces.proofs.PieceLemmas.{IsAt-kept, IsPiece-kept, IsPiece-joined}
 use Rattle.life_leap.specs.declared.grid.Triple.{Triple}
 use Rattle.life_leap.specs.declared.grid.Row.{Row}
 use Rattle.life_leap.specs.Grid.{InTriple, InRow, InFourIds, AreThreeSquares, AreFourSquares, IsBlockAt, western_block, eastern_block, blocks_of_rows}

@@ -1,5 +1,6 @@
 pub mod EdgeSteps
 pub mod EdgeTests
+pub mod PlaceLemmas
 pub mod PlaneEdge
 pub mod AfterLemmas
 pub mod BandSteps

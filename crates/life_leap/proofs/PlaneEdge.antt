@@ -5,9 +5,9 @@ use Rattle.life_base.specs.Rules.{has_digit}
 use Rattle.life_base.specs.Sets.{OuterTotalistic}
 use Rattle.life_base.specs.Tree.{Tree, depth, half_side, tree_cell, IsFull}
 use Rattle.life_quad.specs.declared.id.Id.{Id}
-use Rattle.life_block.specs.Pieces.{IsBinary, IsPiece, step_ahead, step_back}
-use Rattle.life_block.proofs.PieceLemmas.{IsPiece-moved}
-use Rattle.life_block.proofs.RootLemmas.{corner, cells-of_root, piece-of_root}
+use Rattle.life_pieces.specs.Pieces.{IsBinary, IsPiece, step_ahead, step_back}
+use Rattle.life_pieces.proofs.PieceLemmas.{IsPiece-moved}
+use Rattle.life_pieces.proofs.RootLemmas.{corner, cells-of_root, piece-of_root}
 use Rattle.life_leap.specs.After.{after, IsBlankBeyond}
 use Rattle.life_leap.specs.Edge.{HasCellOutside, HasNonzeroCell, IsInRing, IsInSquare, IsPlaneCoordinate}
 use Rattle.life_leap.specs.Grid.{AreNineSquares, AreSixteenSquares, NineIds, SixteenIds}

@@ -9,9 +9,9 @@ use Rattle.life_base.proofs.Squares.{Inside}
 use Rattle.life_base.proofs.Basics.{halves}
 use Rattle.life_quad.specs.Keeping.{KeepsSquares}
 use Rattle.life_quad.specs.declared.id.Id.{Id}
-use Rattle.life_block.specs.Pieces.{IsPiece, IsOfLevel, step_ahead, step_back}
-use Rattle.life_block.proofs.PieceLemmas.{twice, IsPiece-kept, IsPiece-joined, IsPiece-moved, blank-of_zero}
-use Rattle.life_block.proofs.RootLemmas.{alone-root, corner, cells-of_root}
+use Rattle.life_pieces.specs.Pieces.{IsPiece, IsOfLevel, step_ahead, step_back}
+use Rattle.life_pieces.proofs.PieceLemmas.{twice, IsPiece-kept, IsPiece-joined, IsPiece-moved, blank-of_zero}
+use Rattle.life_pieces.proofs.RootLemmas.{alone-root, corner, cells-of_root}
 use Rattle.life_leap.specs.declared.grid.Row.{Row}
 use Rattle.life_leap.specs.After.{after, IsBlankBeyond}
 use Rattle.life_leap.specs.Grid.{InRow, AreFourSquares}

@@ -7,7 +7,7 @@ use Rattle.life_quad.specs.Moves.{quad_of}
 use Rattle.life_quad.proofs.KeepingLemmas.{keeps-same, keeps-then}
 use Rattle.life_quad.specs.declared.id.Id.{Id}
 use Rattle.life_quad.specs.declared.moves.Quarters.{Quarters}
-use Rattle.life_block.specs.Pieces.{IsOfLevel, IsPiece, step_ahead}
+use Rattle.life_pieces.specs.Pieces.{IsOfLevel, IsPiece, step_ahead}
 use Rattle.life_leap.specs.declared.grid.Triple.{Triple}
 use Rattle.life_leap.specs.declared.grid.Row.{Row}
 use Rattle.life_leap.specs.Grid.{western_block, eastern_block, NineIds, SixteenIds, NineBlocks, nine_blocks_of, InTriple, InRow, InFourIds, AreThreeInner, AreThreeJoined, AreNineJoined, AreFourJoined, IsInnerBlock, blocks_of_rows}

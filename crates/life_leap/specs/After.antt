@@ -1,8 +1,8 @@
 -- Many generations of the whole plane under a B/S rule (Golly Help, QuickLife), and what they depend on.
 use Rattle.std.specs.Prelude.{◌≡◌, ℕ, zero, suc, ◌+◌, ◌^◌, min, ◌-◌, ℤ, ◌≤ℤ◌, ◌<ℤ◌}
 use Rattle.life_base.specs.Sets.{OuterTotalistic}
-use Rattle.life_sweep.specs.Generation.{next_life}
-use Rattle.life_block.specs.Pieces.{step_back, step_ahead}
+use Rattle.life_next.specs.Generation.{next_life}
+use Rattle.life_pieces.specs.Pieces.{step_back, step_ahead}
 
 -- the states of the plane n generations later
 unfoldable pub after : OuterTotalistic → ℕ → (ℤ → ℤ → ℕ) → ℤ → ℤ → ℕ

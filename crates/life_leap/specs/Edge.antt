@@ -1,6 +1,6 @@
 -- The next generation of the whole plane, and whether a cell is born outside it.
 use Rattle.std.specs.Prelude.{◌≡◌, ◌≢◌, ℕ, ◌^◌, Bool, true, false, ℤ, pos, neg_ℤ, ◌≤ℤ◌, ◌<ℤ◌}
-use Rattle.life_block.specs.Pieces.{step_ahead, step_back}
+use Rattle.life_pieces.specs.Pieces.{step_ahead, step_back}
 
 -- a coordinate of the plane
 pub record IsPlaneCoordinate (x : ℤ) : Type 0 where

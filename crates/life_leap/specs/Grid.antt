@@ -4,7 +4,7 @@ use Rattle.life_base.specs.Tree.{Tree}
 use Rattle.life_quad.specs.declared.id.Id.{Id}
 use Rattle.life_quad.specs.declared.moves.Quarters.{Quarters}
 use Rattle.life_quad.specs.Moves.{quad_of}
-use Rattle.life_block.specs.Pieces.{IsOfLevel, IsPiece, step_ahead}
+use Rattle.life_pieces.specs.Pieces.{IsOfLevel, IsPiece, step_ahead}
 use Rattle.life_leap.specs.declared.grid.Triple.{Triple}
 use Rattle.life_leap.specs.declared.grid.Row.{Row}
 

@@ -3,7 +3,7 @@ use Rattle.std.specs.Prelude.{◌≡◌, ◌≢◌, ℕ, ◌+◌, ◌-◌, ◌^�
 use Rattle.life_base.specs.Sets.{OuterTotalistic}
 use Rattle.life_base.specs.Tree.{Tree, half_side, tree_cell}
 use Rattle.life_quad.specs.declared.id.Id.{Id}
-use Rattle.life_block.specs.Pieces.{IsPiece, IsBinary, IsOfLevel, step_ahead, step_back}
+use Rattle.life_pieces.specs.Pieces.{IsPiece, IsBinary, IsOfLevel, step_ahead, step_back}
 use Rattle.life_leap.specs.After.{after, leap_length, IsBlankBeyond}
 use Rattle.life_leap.specs.Grid.{NineIds, SixteenIds, AreNineSquares, AreSixteenSquares, AreThreeSquares, AreFourSquares, IsBlockAt}
 use Rattle.life_quad.specs.declared.moves.Quarters.{Quarters}

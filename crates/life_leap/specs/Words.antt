@@ -1,7 +1,7 @@
 -- The words of the contracts of this crate.
 pub use Rattle.life_base.specs.Rules.{has_digit}
 pub use Rattle.life_base.specs.Tree.{depth, is_blank_tree, tree_cell, quad}
-pub use Rattle.life_block.specs.Pieces.{IsBinary, IsOfLevel, IsPiece, step_ahead, step_back}
+pub use Rattle.life_pieces.specs.Pieces.{IsBinary, IsOfLevel, IsPiece, step_ahead, step_back}
 pub use Rattle.life_leap.specs.After.{after, AfterAdds, DependsOnNear, leap_length, IsBlankBeyond}
 pub use Rattle.life_leap.specs.Edge.{HasCellOutside, IsInBox, IsInRing, TestsBlank, three_ahead}
 pub use Rattle.life_leap.specs.Grid.{AreCorners, AreKnownCorners, AreFourJoined, AreFourSquares, AreNineJoined, AreThreeInner, AreThreeJoined, IsInnerBlock, NineBlocks, nine_blocks_of, AreNineSquares, AreSixteenSquares, AreThreeBlocks, AreThreeSquares, blocks_of_rows, eastern_block, InFourIds, InRow, InTriple, IsBlockAt, AreTripleFrom, IsTwoAt, western_block}
@@ -15,9 +15,9 @@ pub use Rattle.life_base.specs.Sets.{OuterTotalistic}
 pub use Rattle.life_leap.specs.Bands.{AreBandsWithin, HasBandWithin}
 pub use Rattle.life_base.specs.Tree.{point}
 pub use Rattle.life_base.specs.declared.kind.Kind.TheVariants.{OutOfPlane}
-pub use Rattle.life_block.specs.Bits.{HasSquareBits}
-pub use Rattle.life_block.specs.Pieces.{IsWhereBinary}
+pub use Rattle.life_pieces.specs.Bits.{HasSquareBits}
+pub use Rattle.life_pieces.specs.Pieces.{IsWhereBinary}
 pub use Rattle.life_lanes.specs.Places.{place_in}
 pub use Rattle.life_quad.specs.Store.{eight, four, two}
-pub use Rattle.life_sweep.specs.Generation.{next_life}
+pub use Rattle.life_next.specs.Generation.{next_life}
 pub use Rattle.std.specs.Int.{bit_at}

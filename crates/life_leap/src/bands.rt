@@ -4,8 +4,9 @@ ghost use Rattle.life_leap.specs.Words.{after, bit_at, four, eight, place_in, po
 
 use crate::grid::{Row, sixteenths};
 use life_base::{Kind, LifeRule};
-use life_block::{NineWords, Three, next_word};
 use life_lanes::exchange;
+use life_next::{NineWords, next_word};
+use life_pieces::Three;
 use life_quad::{Id, Quarters, Squares, divide};
 
 /// Four rows of sixteen cells, from the cells of four squares of level 2 side by side. The squares are in the order of `Squares::small_cells`, and the western

@@ -17,7 +17,7 @@
 //!
 //! The states of a plane after n generations are `after rule n cells`, for all pairs of whole numbers.
 //!
-//! It doesn't know files, rules by tables, or how many generations a caller wants in all. It uses `life_block` for single generations. Above it, `life_later`
+//! It doesn't know files, rules by tables, or how many generations a caller wants in all. It uses `life_next` for single generations. Above it, `life_later`
 //! divides any number of generations into leaps.
 //!
 //! Read first: `specs/After.antt` (later generations), `specs/Leaps.antt`, `src/growing.rt`, and `src/leap.rt`.

@@ -8,8 +8,8 @@ use Rattle.life_base.proofs.Basics.{zero_unless}
 use Rattle.life_quad.specs.Cells.{IsBoundingBoxOfTree}
 use Rattle.life_quad.specs.Moves.{trimmed_square}
 use Rattle.life_quad.proofs.LawLemmas.{cells_lie_inside, trimmed_by_cells, trimmed_is_fixed, trimming_keeps_cells, trimming_stops}
-use Rattle.life_block.specs.Pieces.{IsPiece}
-use Rattle.life_block.proofs.RootLemmas.{cells-of_root, corner}
+use Rattle.life_pieces.specs.Pieces.{IsPiece}
+use Rattle.life_pieces.proofs.RootLemmas.{cells-of_root, corner}
 use Rattle.life_later.specs.Margins.{IsBoxOnPlane}
 use Rattle.life_slide.specs.Pieces.{IsNearMiddle}
 use Rattle.life_slide.proofs.MovedLemmas.{piece-from}

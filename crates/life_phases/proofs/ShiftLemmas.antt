@@ -4,8 +4,7 @@ use Rattle.std.proofs.lemmas.Int.{ints}
 use Rattle.life_base.specs.Sets.{OuterTotalistic}
 use Rattle.life_base.specs.declared.rule.Near.{Near}
 use Rattle.life_base.specs.declared.rule.Near.TheVariants.{Moore, VonNeumann}
-use Rattle.life_sweep.specs.Generation.{one_before, one_after, next_by_count, next_life}
-use Rattle.life_table.specs.Meaning.{count_of}
+use Rattle.life_next.specs.Generation.{one_before, one_after, next_by_count, next_life, live_in}
 use Rattle.life_leap.specs.After.{after}
 use Rattle.life_leap.proofs.AfterLemmas.{after-none, after-next}
 use Rattle.life_phases.specs.Laws.{GenerationsKeepShifts, ShiftsKeepPeriods}
@@ -34,7 +33,7 @@ next-from rule f a b x y = by rule.near
         let s = behind y b in
         let w = before x a in
         (λ i. next_by_count rule.sets (f (x +ℤ a) (y +ℤ b))
-        (count_of 1 (f (x +ℤ a) (n i) ∷ f (e i) (n i) ∷ f (e i) (y +ℤ b) ∷ f (e i) (s i) ∷ f (x +ℤ a) (s i) ∷ f (w i) (s i) ∷ f (w i) (y +ℤ b)
+        (live_in (f (x +ℤ a) (n i) ∷ f (e i) (n i) ∷ f (e i) (y +ℤ b) ∷ f (e i) (s i) ∷ f (x +ℤ a) (s i) ∷ f (w i) (s i) ∷ f (w i) (y +ℤ b)
         ∷ f (w i) (n i) ∷ [])))
     by VonNeumann =
         let n = before y b in
@@ -42,7 +41,7 @@ next-from rule f a b x y = by rule.near
         let s = behind y b in
         let w = before x a in
         (λ i. next_by_count rule.sets (f (x +ℤ a) (y +ℤ b))
-        (count_of 1 (f (x +ℤ a) (n i) ∷ f (e i) (y +ℤ b) ∷ f (x +ℤ a) (s i) ∷ f (w i) (y +ℤ b) ∷ [])))
+        (live_in (f (x +ℤ a) (n i) ∷ f (e i) (y +ℤ b) ∷ f (x +ℤ a) (s i) ∷ f (w i) (y +ℤ b) ∷ [])))
 
 after-from : (rule : OuterTotalistic) (n : ℕ) (f : ℤ → ℤ → ℕ) (a b : ℤ) → after rule n (from f a b) ≡ from (after rule n f) a b
 after-from rule zero f a b = after-none rule (from f a b) ∙ ap (λ g. from g a b) (sym (after-none rule f))

@@ -5,11 +5,10 @@ use Rattle.life_base.specs.Rules.{has_digit}
 use Rattle.life_base.specs.Sets.{OuterTotalistic}
 use Rattle.life_base.specs.declared.rule.Near.{Near}
 use Rattle.life_base.specs.declared.rule.Near.TheVariants.{Moore, VonNeumann}
-use Rattle.life_block.proofs.PieceLemmas.{next-zero}
+use Rattle.life_next.proofs.NextLemmas.{next-zero}
 use Rattle.life_rows.specs.RowCells.{cells_around, next_in_row}
 use Rattle.life_strip.specs.Given.{half_plane}
-use Rattle.life_sweep.specs.Generation.{next_by_count, next_life, one_after, one_before}
-use Rattle.life_table.specs.Meaning.{count_of}
+use Rattle.life_next.specs.Generation.{next_by_count, next_life, one_after, one_before, live_in}
 
 -- a cell amid three rows
 pub next-in_row : (rule : OuterTotalistic) (cells : ℤ → ℤ → ℕ) (x y : ℤ) (north here south : ℕ → ℕ) (west : ℕ)
@@ -20,9 +19,9 @@ pub next-in_row : (rule : OuterTotalistic) (cells : ℤ → ℤ → ℕ) (x y : 
 next-in_row rule cells x y north here south west nw n ne w c e sw s se = by rule.near
   where
     by : (near : Near) → next_life (record { sets = rule.sets; near = near }) cells x y
-        ≡ next_by_count rule.sets (here (suc west)) (count_of 1 (cells_around near north here south west))
-    by Moore = (λ i. next_by_count rule.sets (c i) (count_of 1 (n i ∷ ne i ∷ e i ∷ se i ∷ s i ∷ sw i ∷ w i ∷ nw i ∷ [])))
-    by VonNeumann = (λ i. next_by_count rule.sets (c i) (count_of 1 (n i ∷ e i ∷ s i ∷ w i ∷ [])))
+        ≡ next_by_count rule.sets (here (suc west)) (live_in (cells_around near north here south west))
+    by Moore = (λ i. next_by_count rule.sets (c i) (live_in (n i ∷ ne i ∷ e i ∷ se i ∷ s i ∷ sw i ∷ w i ∷ nw i ∷ [])))
+    by VonNeumann = (λ i. next_by_count rule.sets (c i) (live_in (n i ∷ e i ∷ s i ∷ w i ∷ [])))
 
 -- the next state depends on no row after the next one
 pub next-alike : (rule : OuterTotalistic) (f g : ℤ → ℤ → ℕ) (x y : ℤ) → ((u v : ℤ) → v ≤ℤ one_after y → f u v ≡ g u v)
@@ -41,9 +40,9 @@ next-alike rule f g x y same = by rule.near
     by : (near : Near) → next_life (record { sets = rule.sets; near = near }) f x y ≡ next_life (record { sets = rule.sets; near = near }) g x y
     by Moore =
         (λ i. next_by_count rule.sets (c x i)
-        (count_of 1 (n x i ∷ n (one_after x) i ∷ c (one_after x) i ∷ s (one_after x) i ∷ s x i ∷ s (one_before x) i ∷ c (one_before x) i
+        (live_in (n x i ∷ n (one_after x) i ∷ c (one_after x) i ∷ s (one_after x) i ∷ s x i ∷ s (one_before x) i ∷ c (one_before x) i
         ∷ n (one_before x) i ∷ [])))
-    by VonNeumann = (λ i. next_by_count rule.sets (c x i) (count_of 1 (n x i ∷ c (one_after x) i ∷ s x i ∷ c (one_before x) i ∷ [])))
+    by VonNeumann = (λ i. next_by_count rule.sets (c x i) (live_in (n x i ∷ c (one_after x) i ∷ s x i ∷ c (one_before x) i ∷ [])))
 
 -- after a row from which on there is no cell, none is born
 pub next-blank : (rule : OuterTotalistic) (cells : ℤ → ℤ → ℕ) (row : ℕ) → has_digit rule.sets.births 0 ≡ false

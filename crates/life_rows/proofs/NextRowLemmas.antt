@@ -9,8 +9,8 @@ use Rattle.life_base.specs.Sets.{DigitSets, OuterTotalistic}
 use Rattle.life_base.specs.declared.cell.TheConstants.{MAX_LEVEL}
 use Rattle.life_base.specs.declared.rule.Near.{Near}
 use Rattle.life_base.specs.declared.rule.Near.TheVariants.{Moore, VonNeumann}
-use Rattle.life_block.specs.Bits.{NineWords, counted_in}
-use Rattle.life_block.specs.declared.grid.Three.{Three}
+use Rattle.life_next.specs.Counts.{NineWords, counted_in}
+use Rattle.life_pieces.specs.declared.grid.Three.{Three}
 use Rattle.life_lanes.proofs.WordLemmas.{bit-mod, bit-shr, shl-high, shl-low}
 use Rattle.life_rows.specs.declared.row_cells.RowPlace.{RowPlace}
 use Rattle.life_rows.specs.RowCells.{AddsWord, AreAt, AreBlankAt, AreColumns, AreInner, IsRowAt, IsBlankAt, IsBlankFrom, HasNoCells, IsNextTo, IsVisited, next_cell, next_in_row, place_ahead}
@@ -18,8 +18,7 @@ use Rattle.life_rows.proofs.RowWordLemmas.{ahead-later, ahead-over, ahead-within
 use Rattle.life_strip.specs.Blocks.{cell_in_word}
 use Rattle.life_strip.specs.RowWords.{cell_in_words, cells_at_place}
 use Rattle.life_strip.specs.declared.row_builder.RowWord.{RowWord}
-use Rattle.life_sweep.specs.Generation.{next_by_count}
-use Rattle.life_table.specs.Meaning.{count_of}
+use Rattle.life_next.specs.Generation.{next_by_count, live_in}
 
 -- ---- words without cells
 
@@ -126,14 +125,14 @@ next-by_bits : (rule : OuterTotalistic) (north here south : ℕ → ℕ) (w : Ni
     → bit_at w.before.before i ≡ north west → bit_at w.before.here i ≡ north (suc west) → bit_at w.before.after i ≡ north (west + 2)
     → bit_at w.here.before i ≡ here west → bit_at w.here.here i ≡ here (suc west) → bit_at w.here.after i ≡ here (west + 2)
     → bit_at w.after.before i ≡ south west → bit_at w.after.here i ≡ south (suc west) → bit_at w.after.after i ≡ south (west + 2)
-    → next_by_count rule.sets (bit_at w.here.here i) (count_of 1 (counted_in rule.near w i)) ≡ next_in_row rule north here south west
+    → next_by_count rule.sets (bit_at w.here.here i) (live_in (counted_in rule.near w i)) ≡ next_in_row rule north here south west
 next-by_bits rule north here south w i west nw n ne we c e sw s se = by rule.near
   where
     by : (near : Near)
-        → next_by_count rule.sets (bit_at w.here.here i) (count_of 1 (counted_in near w i))
+        → next_by_count rule.sets (bit_at w.here.here i) (live_in (counted_in near w i))
         ≡ next_in_row (record { sets = rule.sets; near = near }) north here south west
-    by Moore = (λ j. next_by_count rule.sets (c j) (count_of 1 (n j ∷ ne j ∷ e j ∷ se j ∷ s j ∷ sw j ∷ we j ∷ nw j ∷ [])))
-    by VonNeumann = (λ j. next_by_count rule.sets (c j) (count_of 1 (n j ∷ e j ∷ s j ∷ we j ∷ [])))
+    by Moore = (λ j. next_by_count rule.sets (c j) (live_in (n j ∷ ne j ∷ e j ∷ se j ∷ s j ∷ sw j ∷ we j ∷ nw j ∷ [])))
+    by VonNeumann = (λ j. next_by_count rule.sets (c j) (live_in (n j ∷ e j ∷ s j ∷ we j ∷ [])))
 
 -- no cell is born where none is around
 quiet-next : (sets : DigitSets) → has_digit sets.births 0 ≡ false → next_by_count sets 0 0 ≡ 0
@@ -148,19 +147,19 @@ none-around : (rule : OuterTotalistic) (north here south : ℕ → ℕ) (west : 
 none-around rule north here south west quiet nw n ne we c e sw s se = by rule.near ∙ quiet-next rule.sets quiet
   where
     by : (near : Near) → next_in_row (record { sets = rule.sets; near = near }) north here south west ≡ next_by_count rule.sets 0 0
-    by Moore = (λ j. next_by_count rule.sets (c j) (count_of 1 (n j ∷ ne j ∷ e j ∷ se j ∷ s j ∷ sw j ∷ we j ∷ nw j ∷ [])))
-    by VonNeumann = (λ j. next_by_count rule.sets (c j) (count_of 1 (n j ∷ e j ∷ s j ∷ we j ∷ [])))
+    by Moore = (λ j. next_by_count rule.sets (c j) (live_in (n j ∷ ne j ∷ e j ∷ se j ∷ s j ∷ sw j ∷ we j ∷ nw j ∷ [])))
+    by VonNeumann = (λ j. next_by_count rule.sets (c j) (live_in (n j ∷ e j ∷ s j ∷ we j ∷ [])))
 
 none-counted : (rule : OuterTotalistic) (w : NineWords) (i : ℕ) → has_digit rule.sets.births 0 ≡ false
     → bit_at w.before.before i ≡ 0 → bit_at w.before.here i ≡ 0 → bit_at w.before.after i ≡ 0
     → bit_at w.here.before i ≡ 0 → bit_at w.here.here i ≡ 0 → bit_at w.here.after i ≡ 0
     → bit_at w.after.before i ≡ 0 → bit_at w.after.here i ≡ 0 → bit_at w.after.after i ≡ 0
-    → next_by_count rule.sets (bit_at w.here.here i) (count_of 1 (counted_in rule.near w i)) ≡ 0
+    → next_by_count rule.sets (bit_at w.here.here i) (live_in (counted_in rule.near w i)) ≡ 0
 none-counted rule w i quiet nw n ne we c e sw s se = by rule.near ∙ quiet-next rule.sets quiet
   where
-    by : (near : Near) → next_by_count rule.sets (bit_at w.here.here i) (count_of 1 (counted_in near w i)) ≡ next_by_count rule.sets 0 0
-    by Moore = (λ j. next_by_count rule.sets (c j) (count_of 1 (n j ∷ ne j ∷ e j ∷ se j ∷ s j ∷ sw j ∷ we j ∷ nw j ∷ [])))
-    by VonNeumann = (λ j. next_by_count rule.sets (c j) (count_of 1 (n j ∷ e j ∷ s j ∷ we j ∷ [])))
+    by : (near : Near) → next_by_count rule.sets (bit_at w.here.here i) (live_in (counted_in near w i)) ≡ next_by_count rule.sets 0 0
+    by Moore = (λ j. next_by_count rule.sets (c j) (live_in (n j ∷ ne j ∷ e j ∷ se j ∷ s j ∷ sw j ∷ we j ∷ nw j ∷ [])))
+    by VonNeumann = (λ j. next_by_count rule.sets (c j) (live_in (n j ∷ e j ∷ s j ∷ we j ∷ [])))
 
 -- no cell in the first 64 columns of an inner row
 first-none : (words : List RowWord) → AreInner words → (c : ℕ) → c / 64 ≡ 0 → cell_in_words words c ≡ 0
@@ -169,7 +168,7 @@ first-none words inner c e =
 
 -- the word has the next states of the cells of the place
 pub next-states : (rule : OuterTotalistic) (w : NineWords) (word place : ℕ) (north here south : List RowWord) → has_digit rule.sets.births 0 ≡ false
-    → ((i : ℕ) → i < 64 → bit_at word i ≡ next_by_count rule.sets (bit_at w.here.here i) (count_of 1 (counted_in rule.near w i)))
+    → ((i : ℕ) → i < 64 → bit_at word i ≡ next_by_count rule.sets (bit_at w.here.here i) (live_in (counted_in rule.near w i)))
     → AreInner north → AreInner here → AreInner south
     → AreColumns north place w.before → AreColumns here place w.here → AreColumns south place w.after
     → (c : ℕ) → c / 64 ≡ place → bit_at word (63 - c % 64) ≡ next_cell rule (cell_in_words north) (cell_in_words here) (cell_in_words south) c

@@ -11,7 +11,7 @@ use Rattle.life_base.specs.Tree.{Tree}
 use Rattle.life_base.specs.declared.cell.Run.{Run}
 use Rattle.life_base.specs.declared.cell.TheConstants.{MAX_LEVEL}
 use Rattle.life_base.proofs.Squares.{inside_facts, inside_offset, inside_test, is_inside}
-use Rattle.life_block.proofs.PieceLemmas.{next-zero}
+use Rattle.life_next.proofs.NextLemmas.{next-zero}
 use Rattle.life_quad.specs.Cells.{IsInRun}
 use Rattle.life_quad.specs.declared.id.Id.{Id}
 use Rattle.life_rows.specs.RowCells.{AreInner, AreWordsBefore, PutsCells, next_in_row}
@@ -29,7 +29,7 @@ use Rattle.life_strip.proofs.FillingLemmas.{empty-fills}
 use Rattle.life_strip.proofs.GivenLemmas.{next-last, order-push, state_by-push}
 use Rattle.life_strip.proofs.PlaneLemmas.{plane_inside, plane_outside}
 use Rattle.life_strip.proofs.RowLemmas.{with-blank, with-none}
-use Rattle.life_sweep.specs.Generation.{next_life, one_after, one_before}
+use Rattle.life_next.specs.Generation.{next_life, one_after, one_before}
 use Rattle.life_rows.proofs.PutLemmas.{words-before_later}
 
 -- ---- words

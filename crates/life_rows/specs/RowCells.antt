@@ -5,12 +5,11 @@ use Rattle.life_base.specs.Sets.{OuterTotalistic}
 use Rattle.life_base.specs.declared.cell.TheConstants.{MAX_LEVEL}
 use Rattle.life_base.specs.declared.rule.Near.{Near}
 use Rattle.life_base.specs.declared.rule.Near.TheVariants.{Moore, VonNeumann}
-use Rattle.life_block.specs.declared.grid.Three.{Three}
+use Rattle.life_pieces.specs.declared.grid.Three.{Three}
 use Rattle.life_rows.specs.declared.row_cells.RowPlace.{RowPlace}
 use Rattle.life_strip.specs.RowWords.{AreRowWords, cell_in_words, cells_at_place}
 use Rattle.life_strip.specs.declared.row_builder.RowWord.{RowWord}
-use Rattle.life_sweep.specs.Generation.{next_by_count}
-use Rattle.life_table.specs.Meaning.{count_of}
+use Rattle.life_next.specs.Generation.{next_by_count, live_in}
 
 -- no cell of a word is in this column or east of it
 abbrev pub IsWordBefore : ℕ → RowWord → Type 0
@@ -75,7 +74,7 @@ cells_around VonNeumann north here south west = north (suc west) ∷ here (west 
 
 -- the next state of that cell under a B/S rule
 abbrev pub next_in_row : OuterTotalistic → (north here south : ℕ → ℕ) → ℕ → ℕ
-next_in_row rule north here south west = next_by_count rule.sets (here (suc west)) (count_of 1 (cells_around rule.near north here south west))
+next_in_row rule north here south west = next_by_count rule.sets (here (suc west)) (live_in (cells_around rule.near north here south west))
 
 -- the next state of the cell in a column; at the western edge of the plane there is none
 abbrev pub next_cell : OuterTotalistic → (north here south : ℕ → ℕ) → ℕ → ℕ

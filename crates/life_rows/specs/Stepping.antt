@@ -13,7 +13,7 @@ use Rattle.life_strip.specs.Plane.{cell_so_far}
 use Rattle.life_strip.specs.RowWords.{AreRowWords, IsFilledAbove, cell_in_words}
 use Rattle.life_strip.specs.declared.plane.Plane.{Plane}
 use Rattle.life_strip.specs.declared.row_builder.RowWord.{RowWord}
-use Rattle.life_sweep.specs.Generation.{next_life}
+use Rattle.life_next.specs.Generation.{next_life}
 
 -- what contracts see of a step: its rule, the runs that it was given, and what it keeps of them, of which no public contract says more
 pub record Stepping : Type 0 where

@@ -10,4 +10,4 @@ pub use Rattle.life_strip.specs.Given.{AreNext, half_plane, IsNextRunStart, IsRu
 pub use Rattle.life_strip.specs.Plane.{state_so_far}
 pub use Rattle.life_strip.specs.RowWords.{AreRowWords, cell_in_words, IsFilledAbove}
 pub use Rattle.life_strip.specs.declared.row_builder.RowWord.{RowWord as RowWordValue}
-pub use Rattle.life_sweep.specs.Generation.{next_life}
+pub use Rattle.life_next.specs.Generation.{next_life}

@@ -19,7 +19,7 @@
 //! If the step stops, that says nothing about the pattern: step it in another way, which answers or says why not. Inside, `row_cells` puts the cells of a row
 //! into words and walks along them, and `next_row` makes a row of three.
 //!
-//! It doesn't know how a file is read, or which generation it is. It uses `life_block` for the cells of a word, and the `RowBuilder` of `life_strip`. Above it,
+//! It doesn't know how a file is read, or which generation it is. It uses `life_next` for the cells of a word, and the `RowBuilder` of `life_strip`. Above it,
 //! `next_by_rows` of `life_step` steps an RLE file by it.
 //!
 //! Read first: `specs/Stepping.antt` (what a step has done so far), `src/row_step.rt`, and `src/next_row.rt`.

@@ -6,7 +6,8 @@ use crate::row_cells::{
     NEVER, RowPlace, at_edge, columns_around, next_place, one_place_on, push_word,
 };
 use life_base::{Kind, LifeRule, MAX_LEVEL};
-use life_block::{Three, next_word};
+use life_next::next_word;
+use life_pieces::Three;
 use life_strip::RowWord;
 
 // Three rows at one place.

@@ -3,7 +3,7 @@ ghost use Rattle.std.specs.Prelude.{◌≡◌, ℕ, suc, ◌+◌, ◌-◌, ◌^�
 ghost use Rattle.life_rows.specs.Words.{AddsWord, AreWestOf, AreColumns, AreInner, AreRowWords, AreWordsBefore, IsRowAt, IsMemory, place_ahead, PutsCells, RowWordValue};
 
 use life_base::{Kind, MAX_LEVEL};
-use life_block::Three;
+use life_pieces::Three;
 use life_strip::{RowWord, bits_of_columns};
 
 // The place of the next word where none is left.

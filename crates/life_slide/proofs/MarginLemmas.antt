@@ -2,8 +2,8 @@
 use Rattle.std.proofs.Common.{◌≡◌, ◌⊎◌, inl, inr, ℕ, suc, ◌+◌, ◌^◌, Bool, true, false, ℤ, ◌≤ℤ◌, ◌<ℤ◌, sym, ◌∙◌, ap, subst, arith}
 use Rattle.std.proofs.lemmas.Int.{ints, by_lt_z}
 use Rattle.life_base.specs.Tree.{Tree, quad, depth, blank}
-use Rattle.life_block.specs.Pieces.{IsPiece, step_ahead}
-use Rattle.life_block.proofs.PieceLemmas.{zero-of_blank}
+use Rattle.life_pieces.specs.Pieces.{IsPiece, step_ahead}
+use Rattle.life_pieces.proofs.PieceLemmas.{zero-of_blank}
 use Rattle.life_slide.specs.declared.margins.Margins.{Margins}
 use Rattle.life_slide.specs.Margins.{AreMarginsAt, AreMarginsOf, AreMarginsOfFour, IsAlong, IsOnSide, Misses}
 

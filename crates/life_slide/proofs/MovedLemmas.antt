@@ -12,12 +12,12 @@ use Rattle.life_base.specs.declared.cell.TheConstants.{MAX_LEVEL}
 use Rattle.life_quad.specs.Moves.{trimmed_square}
 use Rattle.life_quad.specs.Refused.{SomePart}
 use Rattle.life_quad.proofs.LawLemmas.{cells_lie_inside, equal_by_plane, trimmed_by_cells, trimmed_is_fixed, trimming_keeps_cells, trimming_stops}
-use Rattle.life_block.specs.Needed.{square_from}
-use Rattle.life_block.specs.Pieces.{IsPiece, step_ahead}
-use Rattle.life_block.proofs.NeedLemmas.{depth-square, own-part, piece-is, square-piece}
-use Rattle.life_block.proofs.PieceLemmas.{IsPiece-moved}
-use Rattle.life_block.proofs.RootLemmas.{cells-of_root}
-use Rattle.life_block.proofs.PlaneLemmas.{full-square}
+use Rattle.life_pieces.specs.Pieces.{square_from}
+use Rattle.life_pieces.specs.Pieces.{IsPiece, step_ahead}
+use Rattle.life_pieces.proofs.NeedLemmas.{depth-square, own-part, piece-is, square-piece}
+use Rattle.life_pieces.proofs.PieceLemmas.{IsPiece-moved}
+use Rattle.life_pieces.proofs.RootLemmas.{cells-of_root}
+use Rattle.life_pieces.proofs.NeedLemmas.{full-square}
 use Rattle.life_slide.specs.Pieces.{cells_from, IsNearMiddle, plane_from, root_from, side_origin, side_start}
 use Rattle.life_slide.proofs.QuarterLemmas.{AreInQuarter, corner-is, corner-part, corner_square, far-from-origin, far_end, middle_start, quarter-inside, quarter_start, side-begins, side-in-quarter}
 

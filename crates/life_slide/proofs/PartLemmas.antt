@@ -8,8 +8,8 @@ use Rattle.life_base.proofs.Basics.{double}
 use Rattle.life_base.proofs.Squares.{state_nw, state_ne, state_sw, state_se}
 use Rattle.life_quad.specs.declared.id.Id.{Id}
 use Rattle.life_quad.specs.declared.moves.Quarters.{Quarters}
-use Rattle.life_block.specs.Pieces.{IsPiece, step_ahead}
-use Rattle.life_block.proofs.RootLemmas.{cells-of_piece, piece-of_cells}
+use Rattle.life_pieces.specs.Pieces.{IsPiece, step_ahead}
+use Rattle.life_pieces.proofs.RootLemmas.{cells-of_piece, piece-of_cells}
 use Rattle.life_slide.specs.Margins.{IsSeenAs}
 use Rattle.life_slide.specs.Parts.{AreAlike, AreFirstsByFour, AreFirstsBySquare, IsLike, IsSeenOn, TableGives, first_side, key_of_quarters, second_side}
 use Rattle.life_slide.specs.Pieces.{InBlock, IsBlock}

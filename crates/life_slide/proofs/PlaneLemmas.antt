@@ -4,9 +4,9 @@ use Rattle.std.proofs.lemmas.Int.{ints}
 use Rattle.std.proofs.Math.Nat.{mod-eq_of_lt}
 use Rattle.life_base.specs.Tree.{Tree, depth, blank, half_side, tree_cell, IsFull}
 use Rattle.life_quad.specs.declared.id.Id.{Id}
-use Rattle.life_block.specs.Pieces.{IsPiece, step_ahead, step_back}
-use Rattle.life_block.proofs.PieceLemmas.{IsPiece-moved, blank-of_zero}
-use Rattle.life_block.proofs.RootLemmas.{corner, piece-of_root, cell-outside}
+use Rattle.life_pieces.specs.Pieces.{IsPiece, step_ahead, step_back}
+use Rattle.life_pieces.proofs.PieceLemmas.{IsPiece-moved, blank-of_zero}
+use Rattle.life_pieces.proofs.RootLemmas.{corner, piece-of_root, cell-outside}
 use Rattle.life_slide.specs.Pieces.{InBlock, IsBlock, in_corner}
 use Rattle.life_base.proofs.Basics.{halves}
 

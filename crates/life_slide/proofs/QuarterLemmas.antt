@@ -6,10 +6,10 @@ use Rattle.life_base.proofs.Basics.{zero_unless}
 use Rattle.life_base.proofs.Squares.{depth-blank, full-blank}
 use Rattle.life_quad.specs.Refused.{SomePart}
 use Rattle.life_quad.specs.declared.id.Id.{Id}
-use Rattle.life_block.specs.Needed.{square_from}
-use Rattle.life_block.specs.Pieces.{IsPiece, step_ahead}
-use Rattle.life_block.proofs.NeedLemmas.{joined-is, piece-is, quarter-part}
-use Rattle.life_block.proofs.PieceLemmas.{blank-of_zero}
+use Rattle.life_pieces.specs.Pieces.{square_from}
+use Rattle.life_pieces.specs.Pieces.{IsPiece, step_ahead}
+use Rattle.life_pieces.proofs.NeedLemmas.{joined-is, piece-is, quarter-part}
+use Rattle.life_pieces.proofs.PieceLemmas.{blank-of_zero}
 use Rattle.life_slide.specs.Pieces.{in_corner, side_origin, side_start, start}
 
 -- where the four squares of level j about the middle of the plane begin

@@ -6,10 +6,10 @@ use Rattle.life_base.proofs.Basics.{lt-int_lt}
 use Rattle.life_base.proofs.Squares.{same_quads}
 use Rattle.life_quad.specs.declared.id.Id.{Id}
 use Rattle.life_quad.specs.declared.moves.Quarters.{Quarters}
-use Rattle.life_block.specs.Needed.{square_from}
-use Rattle.life_block.specs.Pieces.{IsPiece, step_ahead}
-use Rattle.life_block.proofs.NeedLemmas.{is-piece, piece-is}
-use Rattle.life_block.proofs.PieceLemmas.{blank-of_zero}
+use Rattle.life_pieces.specs.Pieces.{square_from}
+use Rattle.life_pieces.specs.Pieces.{IsPiece, step_ahead}
+use Rattle.life_pieces.proofs.NeedLemmas.{is-piece, piece-is}
+use Rattle.life_pieces.proofs.PieceLemmas.{blank-of_zero}
 use Rattle.life_slide.specs.declared.margins.Margins.{Margins}
 use Rattle.life_slide.specs.Margins.{AreMarginsOf, IsOnSide, IsSeenOrOther}
 use Rattle.life_slide.specs.Pieces.{InBlock, IsBlock}

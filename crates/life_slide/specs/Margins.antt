@@ -3,8 +3,8 @@ use Rattle.std.specs.Prelude.{◌≡◌, ◌⊎◌, ℕ, ◌+◌, ◌%◌, ◌^�
 use Rattle.life_base.specs.Tree.{Tree, depth}
 use Rattle.life_quad.specs.declared.id.Id.{Id}
 use Rattle.life_quad.specs.declared.moves.Quarters.{Quarters}
-use Rattle.life_block.specs.Needed.{square_from}
-use Rattle.life_block.specs.Pieces.{IsPiece, step_ahead}
+use Rattle.life_pieces.specs.Pieces.{square_from}
+use Rattle.life_pieces.specs.Pieces.{IsPiece, step_ahead}
 use Rattle.life_slide.specs.declared.margins.Margins.{Margins}
 use Rattle.life_slide.specs.declared.margins.MarginTable.{MarginTable}
 use Rattle.life_slide.specs.Pieces.{IsBlock}

@@ -5,24 +5,13 @@ use Rattle.life_base.specs.declared.cell.TheConstants.{MAX_LEVEL}
 use Rattle.life_quad.specs.Moves.{trimmed_square}
 use Rattle.life_quad.specs.declared.id.Id.{Id}
 use Rattle.life_quad.specs.declared.moves.Quarters.{Quarters}
-use Rattle.life_block.specs.Needed.{square_from}
-use Rattle.life_block.specs.Pieces.{IsPiece, step_ahead}
-use Rattle.life_slide.specs.declared.grid.Three.{Three}
-use Rattle.life_slide.specs.declared.grid.Four.{Four}
-
--- three rows of three squares
-abbrev pub NineSquares : Type 0
-NineSquares = Three (Three Id)
-
--- four values side by side
-abbrev pub four_values : {T : Type 0} → T → T → T → T → Four T
-four_values a b c d = record { first = a; second = b; third = c; fourth = d }
+use Rattle.life_pieces.specs.Pieces.{IsPiece, Nine, first_three, last_three, square_from, step_ahead}
+use Rattle.life_pieces.specs.declared.grid.Three.{Three}
+use Rattle.life_pieces.specs.declared.grid.Four.{Four}
 
 -- the last three of four, or the first three
 abbrev pub three_from : {T : Type 0} → Bool → Four T → Three T
-three_from last four =
-    if last then record { first = four.second; second = four.third; third = four.fourth }
-    else record { first = four.first; second = four.second; third = four.third }
+three_from last four = if last then last_three four else first_three four
 
 -- where they begin
 abbrev pub start : Bool → ℤ → ℕ → ℤ
@@ -30,38 +19,24 @@ start last place side = if last then step_ahead place side else place
 
 -- the four western and the four eastern squares of two rows of three
 abbrev pub western_quarters : Three Id → Three Id → Quarters
-western_quarters north south = record { nw = north.first; ne = north.second; sw = south.first; se = south.second }
+western_quarters north south = record { nw = north.before; ne = north.here; sw = south.before; se = south.here }
 
 abbrev pub eastern_quarters : Three Id → Three Id → Quarters
-eastern_quarters north south = record { nw = north.second; ne = north.third; sw = south.second; se = south.third }
+eastern_quarters north south = record { nw = north.here; ne = north.after; sw = south.here; se = south.after }
 
--- each of the values has a property
-pub record AllOfThree {T : Type 0} (P : T → Type 0) (three : Three T) : Type 0 where
-  pub first : P three.first
-  pub second : P three.second
-  pub third : P three.third
-
-pub record AllOfFour {T : Type 0} (P : T → Type 0) (four : Four T) : Type 0 where
-  pub first : P four.first
-  pub second : P four.second
-  pub third : P four.third
-  pub fourth : P four.fourth
-
+-- each of four squares, two by two, has a property
 pub record InBlock (P : Id → Type 0) (block : Quarters) : Type 0 where
   pub nw : P block.nw
   pub ne : P block.ne
   pub sw : P block.sw
   pub se : P block.se
 
-abbrev pub AllOfNine : (Id → Type 0) → NineSquares → Type 0
-AllOfNine P = AllOfThree (AllOfThree P)
-
 -- each of the values has a property of its place: the first is at this one, and each of the others a side length further
 module _ {T : Type 0} (P : ℤ → T → Type 0) (side : ℕ) (place : ℤ) where
   pub record AreThreeAlong (three : Three T) : Type 0 where
-    pub first : P place three.first
-    pub second : P (step_ahead place side) three.second
-    pub third : P (step_ahead (step_ahead place side) side) three.third
+    pub before : P place three.before
+    pub here : P (step_ahead place side) three.here
+    pub after : P (step_ahead (step_ahead place side) side) three.after
 
   pub record AreFourAlong (four : Four T) : Type 0 where
     pub first : P place four.first
@@ -74,7 +49,7 @@ module _ (content : Id → Tree) (cells : ℤ → ℤ → ℕ) (side : ℕ) (x :
   abbrev pub AreThreePieces : ℤ → Three Id → Type 0
   AreThreePieces y = AreThreeAlong (λ column id. IsPiece cells column y (content id)) side x
 
-  abbrev pub AreNinePieces : ℤ → NineSquares → Type 0
+  abbrev pub AreNinePieces : ℤ → Nine → Type 0
   AreNinePieces = AreThreeAlong AreThreePieces side
 
   abbrev pub AreFourPieces : ℤ → Four Id → Type 0

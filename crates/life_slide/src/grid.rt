@@ -1,60 +1,15 @@
 //! Squares of one level side by side.
 ghost use Rattle.std.specs.Prelude.{◌≡◌, ℕ, ℤ, ◌+◌, ◌^◌, true};
-ghost use Rattle.life_slide.specs.Words.{IsOfLevel, AllOfThree, AllOfFour, AllOfNine, InBlock, IsBlock, AreNinePieces, AreFourPieces, AreTwo, step_ahead, start, four_values, three_from, western_quarters, eastern_quarters};
+ghost use Rattle.life_slide.specs.Words.{IsOfLevel, InFour, InNine, InBlock, IsBlock, AreNinePieces, AreFourPieces, AreTwo, step_ahead, start, three_from, western_quarters, eastern_quarters};
 
+use life_pieces::{Four, Nine, Three};
 use life_quad::{Id, Quarters, Squares, divide};
 
-/// Three values side by side, from west to east or from north to south.
-#[derive(Clone, Copy)]
-pub(crate) struct Three<T> {
-    pub(crate) first: T,
-    pub(crate) second: T,
-    pub(crate) third: T,
-}
-
-/// Four values side by side, from west to east or from north to south.
-#[derive(Clone, Copy)]
-pub(crate) struct Four<T> {
-    pub(crate) first: T,
-    pub(crate) second: T,
-    pub(crate) third: T,
-    pub(crate) fourth: T,
-}
-
-/// Three rows of three squares.
-pub(crate) type Nine = Three<Three<Id>>;
-
-impl<T: Copy> Four<T> {
-    // These four, in order.
-    fn of(first: T, second: T, third: T, fourth: T) -> Four<T>
-        ensures { result ≡ four_values first second third fourth }
-    {
-        Four {
-            first,
-            second,
-            third,
-            fourth,
-        }
-    }
-
-    // The last three of them, or the first three.
-    fn three(&self, last: bool) -> Three<T>
-        ensures { result ≡ three_from last self.now }
-    {
-        if last {
-            Three {
-                first: self.second,
-                second: self.third,
-                third: self.fourth,
-            }
-        } else {
-            Three {
-                first: self.first,
-                second: self.second,
-                third: self.third,
-            }
-        }
-    }
+// The last three of four, or the first three.
+fn three_of<T: Copy>(four: &Four<T>, last: bool) -> Three<T>
+    ensures { result ≡ three_from last four.now }
+{
+    if last { four.rear() } else { four.north() }
 }
 
 // The northern halves of two squares side by side, and their southern halves.
@@ -62,9 +17,9 @@ impl<T: Copy> Four<T> {
 fn halves<S: Squares>(squares: &S, level: u8, west: Id, east: Id) -> (Four<Id>, Four<Id>)
     requires west { IsOfLevel (S.knows squares.now) (S.content squares.now) (level + 1) west }
     requires east { IsOfLevel (S.knows squares.now) (S.content squares.now) (level + 1) east }
-    ensures northern { AllOfFour (IsOfLevel (S.knows squares.now) (S.content squares.now) level)
+    ensures northern { InFour (IsOfLevel (S.knows squares.now) (S.content squares.now) level)
         result.0 }
-    ensures southern { AllOfFour (IsOfLevel (S.knows squares.now) (S.content squares.now) level)
+    ensures southern { InFour (IsOfLevel (S.knows squares.now) (S.content squares.now) level)
         result.1 }
     ensures north { (cells : ℤ → ℤ → ℕ) (x y : ℤ)
         → AreTwo (S.content squares.now) cells (2 ^ (level + 1)) x y west east
@@ -92,7 +47,7 @@ pub(crate) fn quarters<S: Squares>(
 ) -> Nine
     requires { InBlock (IsOfLevel (S.knows squares.now) (S.content squares.now) (level + 1))
         block.now }
-    ensures known { AllOfNine (IsOfLevel (S.knows squares.now) (S.content squares.now) level)
+    ensures known { InNine (IsOfLevel (S.knows squares.now) (S.content squares.now) level)
         result }
     ensures pieces { (cells : ℤ → ℤ → ℕ) (x y : ℤ)
         → IsBlock (S.content squares.now) cells (2 ^ (level + 1)) x y block.now
@@ -101,8 +56,13 @@ pub(crate) fn quarters<S: Squares>(
 {
     let (a, b) = halves(squares, level, block.nw, block.ne);
     let (c, d) = halves(squares, level, block.sw, block.se);
-    let rows = Four::of(a.three(east), b.three(east), c.three(east), d.three(east));
-    rows.three(south)
+    let rows = Four::of(
+        three_of(&a, east),
+        three_of(&b, east),
+        three_of(&c, east),
+        three_of(&d, east),
+    );
+    three_of(&rows, south)
 }
 
 // The four western squares of two rows of three.
@@ -110,10 +70,10 @@ pub(crate) fn western(north: &Three<Id>, south: &Three<Id>) -> Quarters
     ensures { result ≡ western_quarters north.now south.now }
 {
     Quarters {
-        nw: north.first,
-        ne: north.second,
-        sw: south.first,
-        se: south.second,
+        nw: north.before,
+        ne: north.here,
+        sw: south.before,
+        se: south.here,
     }
 }
 
@@ -122,10 +82,10 @@ pub(crate) fn eastern(north: &Three<Id>, south: &Three<Id>) -> Quarters
     ensures { result ≡ eastern_quarters north.now south.now }
 {
     Quarters {
-        nw: north.second,
-        ne: north.third,
-        sw: south.second,
-        se: south.third,
+        nw: north.here,
+        ne: north.after,
+        sw: south.here,
+        se: south.after,
     }
 }
 

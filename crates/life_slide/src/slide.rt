@@ -1,12 +1,13 @@
 //! The square that begins at another place.
 ghost use Rattle.std.specs.Prelude.{◌≡◌, ℕ, ℤ, ◌+◌, ◌^◌, ◌%◌, ◌/◌, ◌==◌, ◌<◌, ◌≤◌, IfOk, IfErr, OnErr};
-ghost use Rattle.life_slide.specs.Words.{MAX_LEVEL, SomeOfBlock, SomeOfNineSquares, RemembersSlides, IsPiece, IsOfLevel, InBlock, AllOfNine, IsBlock, AreNinePieces, HasBlockAt, step_ahead, AreViews, AddsOnly, KeepsStore, IsShortageIn};
+ghost use Rattle.life_slide.specs.Words.{MAX_LEVEL, SomeOfBlock, SomeOfNineSquares, RemembersSlides, IsPiece, IsOfLevel, InBlock, InNine, IsBlock, AreNinePieces, HasBlockAt, step_ahead, AreViews, AddsOnly, KeepsStore, IsShortageIn};
 
-use crate::grid::{Nine, are_all, eastern, quarters, western};
+use crate::grid::{are_all, eastern, quarters, western};
 use crate::leaf::{leaf_cells, leaf_of_block};
 use crate::remembered::{Answers, recalled, remember};
 use crate::seen::{Views, seen};
 use life_base::{Kind, MAX_LEVEL};
+use life_pieces::Nine;
 use life_quad::{Id, Quarters, SharedSquares, Squares};
 use std::alloc::Global;
 
@@ -186,7 +187,7 @@ fn slid_of_nine<S: Squares, T: Squares>(
         (T.content to.old) offset.columns offset.rows answers.old.table }
     requires right { AreViews (S.knows from.now) (S.content from.now) offset.columns offset.rows
         views.old }
-    requires known { AllOfNine (IsOfLevel (S.knows from.now) (S.content from.now) level) nine.now }
+    requires known { InNine (IsOfLevel (S.knows from.now) (S.content from.now) level) nine.now }
     requires high { level < MAX_LEVEL }
     ensures at { IfOk result (IsOfLevel (T.knows to.new) (T.content to.new) (level + 1)) }
     ensures remembers { IfOk result (λ _. RemembersSlides (S.knows from.now) (S.content from.now)
@@ -213,7 +214,7 @@ fn slid_of_nine<S: Squares, T: Squares>(
         views,
         offset,
         level,
-        &western(&nine.first, &nine.second),
+        &western(&nine.before, &nine.here),
     )?;
     let ne = slid_of(
         from,
@@ -222,7 +223,7 @@ fn slid_of_nine<S: Squares, T: Squares>(
         views,
         offset,
         level,
-        &eastern(&nine.first, &nine.second),
+        &eastern(&nine.before, &nine.here),
     )?;
     let sw = slid_of(
         from,
@@ -231,7 +232,7 @@ fn slid_of_nine<S: Squares, T: Squares>(
         views,
         offset,
         level,
-        &western(&nine.second, &nine.third),
+        &western(&nine.here, &nine.after),
     )?;
     let se = slid_of(
         from,
@@ -240,7 +241,7 @@ fn slid_of_nine<S: Squares, T: Squares>(
         views,
         offset,
         level,
-        &eastern(&nine.second, &nine.third),
+        &eastern(&nine.here, &nine.after),
     )?;
     to.join(nw, ne, sw, se)
 }
@@ -281,7 +282,7 @@ pub(crate) fn window<S: Squares>(
         offset,
         below,
         low,
-        &western(&nine.first, &nine.second),
+        &western(&nine.before, &nine.here),
     )
 }
 

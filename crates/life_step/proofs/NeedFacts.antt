@@ -12,7 +12,8 @@ use Rattle.life_quad.specs.Refused.{TrimmedTo}
 use Rattle.life_quad.specs.Store.{Nodes}
 use Rattle.life_table.specs.Meaning.{Becomes}
 use Rattle.life_table.specs.declared.table.Table.{Table}
-use Rattle.life_sweep.specs.Generation.{next_life, states_at, AnswersAt, TableAnswers, TableAnswersAt}
+use Rattle.life_next.specs.Generation.{next_life}
+use Rattle.life_sweep.specs.Generation.{states_at, AnswersAt, TableAnswers, TableAnswersAt}
 use Rattle.life_block.specs.Needed.{level_after}
 use Rattle.life_canon.specs.Files.{Reads}
 use Rattle.life_canon.specs.Store.{content, IsRead}

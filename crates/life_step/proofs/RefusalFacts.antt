@@ -14,7 +14,8 @@ use Rattle.life_quad.specs.Cells.{IsCellList, population}
 use Rattle.life_quad.proofs.LawLemmas.{cells_are_listed, list_is_population, cells_lie_inside}
 use Rattle.life_strip.specs.Given.{IsRunOnPlane}
 use Rattle.life_table.specs.Meaning.{Answer, Becomes, Ambiguous}
-use Rattle.life_sweep.specs.Generation.{next_life, states_at}
+use Rattle.life_next.specs.Generation.{next_life}
+use Rattle.life_sweep.specs.Generation.{states_at}
 use Rattle.life_sweep.specs.Refused.{IfElse, HasStateFrom, fault_on, GenerationRefusal}
 use Rattle.life_sweep.specs.Sweep as sweep_words
 use Rattle.life_sweep.specs.Sweep.{IsLeft}

@@ -15,7 +15,7 @@ use Rattle.life_rle.specs.Grammar.{IsRle}
 use Rattle.life_rle.specs.Pattern.{Rle}
 use Rattle.life_rows.specs.Stepping.{run_cells}
 use Rattle.life_strip.specs.Given.{state_by}
-use Rattle.life_sweep.specs.Generation.{next_life}
+use Rattle.life_next.specs.Generation.{next_life}
 use Rattle.life_canon.specs.Files.{Says, as_rle}
 use Rattle.life_canon.specs.Store.{IsKnown, content}
 use Rattle.life_canon.specs.Universe.{Universe, IsSame, rle_universe, square_universe}

@@ -21,7 +21,8 @@ use Rattle.life_table.specs.Laws.{OneAnswer}
 use Rattle.life_table.specs.Meaning.{Answer, Becomes, count_of}
 use Rattle.life_table.specs.declared.table.Neighborhood.TheVariants as of_tables
 use Rattle.life_table.specs.declared.table.Table.{Table}
-use Rattle.life_sweep.specs.Generation.{one_before, one_after, next_by_count, next_life, AnswersAt, LifeAnswersAt, TableAnswersAt, states_at, neighbours_among, LifeAnswers, TableAnswers}
+use Rattle.life_next.specs.Generation.{one_before, one_after, next_by_count, next_life}
+use Rattle.life_sweep.specs.Generation.{AnswersAt, LifeAnswersAt, TableAnswersAt, states_at, neighbours_among, LifeAnswers, TableAnswers}
 use Rattle.life_sweep.specs.Refused.{GenerationRefusal}
 use Rattle.life_canon.specs.Files.{Reads, Refuses, as_macrocell}
 use Rattle.life_canon.specs.Laws.{FilesAreOnPlane, PatternsFit, TextsAreFiles, TextsTellUniverses}

@@ -8,7 +8,7 @@ use Rattle.life_quad.specs.Store.{Nodes}
 use Rattle.life_quad.specs.declared.id.Id.{Id}
 use Rattle.life_rle.specs.File.{HasRuns}
 use Rattle.life_rows.specs.Stepping.{IsStepping, Stepping}
-use Rattle.life_sweep.specs.Generation.{next_life}
+use Rattle.life_next.specs.Generation.{next_life}
 use Rattle.life_canon.specs.Files.{Reads}
 use Rattle.life_canon.specs.Store.{IsKnown, content}
 use Rattle.life_canon.specs.Universe.{Universe}

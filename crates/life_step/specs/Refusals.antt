@@ -15,7 +15,8 @@ use Rattle.life_quad.specs.Refused.{TrimmedTo}
 use Rattle.life_quad.specs.Store.{Nodes}
 use Rattle.life_table.specs.Meaning.{Answer, Becomes, Ambiguous}
 use Rattle.life_table.specs.declared.table.Table.{Table}
-use Rattle.life_sweep.specs.Generation.{next_life, AnswersAt, TableAnswers}
+use Rattle.life_next.specs.Generation.{next_life}
+use Rattle.life_sweep.specs.Generation.{AnswersAt, TableAnswers}
 use Rattle.life_sweep.specs.Refused.{IfElse, HasStateFrom, fault_on, SomeNext}
 use Rattle.life_sweep.specs.Rows.{Precedes}
 use Rattle.life_block.specs.Needed.{SomeOfNext, level_after}

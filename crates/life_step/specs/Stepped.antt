@@ -6,7 +6,8 @@ use Rattle.life_base.specs.Sets.{OuterTotalistic}
 use Rattle.life_base.specs.declared.rule.Rule.TheVariants.{Life, Named}
 use Rattle.life_table.specs.Meaning.{Becomes}
 use Rattle.life_table.specs.declared.table.Table.{Table}
-use Rattle.life_sweep.specs.Generation.{next_life, AnswersAt}
+use Rattle.life_next.specs.Generation.{next_life}
+use Rattle.life_sweep.specs.Generation.{AnswersAt}
 use Rattle.life_canon.specs.Files.{Reads}
 use Rattle.life_canon.specs.Listing.{canon_text}
 use Rattle.life_canon.specs.Universe.{Universe}

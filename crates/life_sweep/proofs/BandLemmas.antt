@@ -4,7 +4,7 @@ use Rattle.std.proofs.lemmas.Int.{ints}
 use Rattle.std.proofs.lemmas.Bool.Decides.{eqb_tells}
 use Rattle.std.proofs.lemmas.List.Elements.{All-head, All-tail}
 use Rattle.life_base.specs.declared.cell.Cell.{Cell}
-use Rattle.life_sweep.specs.Generation.{one_before, one_after}
+use Rattle.life_next.specs.Generation.{one_before, one_after}
 use Rattle.life_sweep.specs.Rows.{Rows, IsRest, IsRestOf, IsFrom, BeginsAt, IsInside, IsBlankBefore, AreRows, IsBandOfRows, IsNextRow, IsFarRow, GoesSouth, rows_left, first_coordinate, far}
 use Rattle.life_sweep.specs.declared.band.Band.{Band}
 use Rattle.life_sweep.proofs.RowLemmas.{less-or-not, column-is, IsRest-none}

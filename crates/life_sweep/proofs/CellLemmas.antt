@@ -10,7 +10,7 @@ use Rattle.life_base.specs.declared.cell.TheConstants.{MAX_LEVEL}
 use Rattle.life_base.specs.Tree.{Tree, depth, half_side, tree_cell}
 use Rattle.life_quad.specs.Cells.{IsBefore, IsCellList}
 use Rattle.life_quad.proofs.LawLemmas.{cells_lie_inside}
-use Rattle.life_sweep.specs.Generation.{one_after}
+use Rattle.life_next.specs.Generation.{one_after}
 use Rattle.life_sweep.specs.Rows.{IsRestOf, IsFrom, Precedes, IsInside, IsBlankBefore, first_coordinate}
 use Rattle.life_base.proofs.Members.{in_cases, in_tail}
 

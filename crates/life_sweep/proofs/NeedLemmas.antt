@@ -8,9 +8,7 @@ use Rattle.life_base.specs.declared.kind.Kind.{Kind}
 use Rattle.life_base.specs.declared.kind.Kind.TheVariants.{Full, Ambiguous}
 use Rattle.life_base.proofs.Squares.{is_inside, inside_facts}
 use Rattle.life_quad.specs.Cells.{IsInRun}
-use Rattle.life_quad.specs.Keeping.{AddsOnly}
 use Rattle.life_quad.specs.declared.id.Id.{Id}
-use Rattle.life_quad.proofs.KeepingLemmas.{adds-then}
 use Rattle.life_strip.specs.Filling.{Building, IsFilling}
 use Rattle.life_strip.specs.Given.{AreInOrder, IsRunOnPlane, state_by, by_columns, half_plane}
 use Rattle.life_strip.specs.Needed.{SomeSquare}
@@ -126,8 +124,3 @@ not-full f kind e = absurd (other (sym kind ∙ ap (λ (d : Fault). d.kind) (err
     other k = cc
 
 -- ---- what calls add
-
--- a call after others
-pub adds-more : {S : Type 0} {stored : S → List Tree} {M N : (Tree → Type 0) → Type 0} {old mid new : S} → AddsOnly stored M old mid
-    → AddsOnly stored N mid new → ((P : Tree → Type 0) → N P → M P) → AddsOnly stored M old new
-adds-more {M = M} first second more = adds-then M first second (λ P m. m) more

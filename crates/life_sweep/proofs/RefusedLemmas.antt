@@ -5,7 +5,6 @@ use Rattle.std.proofs.lemmas.Bool.Decides.{eqb_tells}
 use Rattle.life_base.specs.declared.cell.TheConstants.{MAX_LEVEL}
 use Rattle.life_base.specs.declared.cell.Cell.{Cell}
 use Rattle.life_base.specs.declared.fault.Fault.{Fault}
-use Rattle.life_base.specs.declared.kind.Kind.TheVariants as kinds
 use Rattle.life_base.specs.Refusal.{fault_of}
 use Rattle.life_base.specs.Tree.{Tree, depth, half_side, tree_cell}
 use Rattle.life_quad.specs.Cells.{IsCellList, population}
@@ -15,6 +14,7 @@ use Rattle.life_sweep.specs.Generation.{states_at}
 use Rattle.life_sweep.specs.Sweep.{RefusesStep, IsLeft}
 use Rattle.life_sweep.proofs.CellLemmas.{nonzero-inside}
 use Rattle.life_base.proofs.Members.{in_tail}
+use Rattle.life_base.specs.declared.kind.Kind.TheVariants as kinds
 
 all-more : (n : ℕ) (cell : Cell) (rest : List Cell) → cell.state < n → All (λ c. c.state < n) rest → All (λ c. c.state < n) (cell ∷ rest)
 all-more n cell rest l h zero d m = l

@@ -1,10 +1,11 @@
 -- Worked examples of a generation, computed.
 use Rattle.std.proofs.Common.{◌≡◌, ℕ, ◌^◌, ◌-◌, ℤ, pos, negsuc, List, [], ◌∷◌, refl, Bool, ◌&&◌, int_le, if◌then◌else◌}
 use Rattle.life_base.specs.Sets.{OuterTotalistic}
-use Rattle.life_base.specs.declared.rule.Near.TheVariants as near
 use Rattle.life_base.specs.declared.cell.Cell.{Cell}
 use Rattle.life_table.specs.declared.table.Neighborhood.TheVariants.{VonNeumann, Moore}
-use Rattle.life_sweep.specs.Generation.{next_life, neighbours_at}
+use Rattle.life_next.specs.Generation.{next_life}
+use Rattle.life_sweep.specs.Generation.{neighbours_at}
+use Rattle.life_base.specs.declared.rule.Near.TheVariants as near
 
 -- B3/S23
 abbrev life : OuterTotalistic

@@ -4,7 +4,8 @@ use Rattle.std.proofs.lemmas.Int.{ints}
 use Rattle.life_table.specs.Meaning.{Answer, Becomes, Ambiguous}
 use Rattle.life_base.specs.declared.cell.Run.{Run}
 use Rattle.life_strip.specs.Given.{IsNextRunStart, state_by}
-use Rattle.life_sweep.specs.Generation.{one_before, one_after, states_at, zeros}
+use Rattle.life_next.specs.Generation.{one_before, one_after}
+use Rattle.life_sweep.specs.Generation.{states_at, zeros}
 use Rattle.life_sweep.specs.Rows.{IsFrom, Precedes, IsFar, IsFarRow, IsBlankBefore, column_at, no_column, first_coordinate, IsWindow, GoesOn, states_of_window}
 use Rattle.life_sweep.specs.Sweep.{IsDrawnAt, IsFirstAmbiguous, IsSwept, IsSweptRows, IsPut, IsReadyFrom, IsReadyRow}
 use Rattle.life_sweep.specs.declared.column.Column.{Column}

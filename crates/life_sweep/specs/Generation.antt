@@ -1,32 +1,14 @@
 -- The next state of every pair of whole numbers: under a B/S rule (Golly Help, QuickLife) and by a rule table (Golly Help, File Formats,
 -- "@TABLE"). North is y - 1, east is x + 1. And the same by the states of a cell and its neighbours alone, which is what laws answer.
-use Rattle.std.specs.Prelude.{◌≡◌, ◌↔◌, ℕ, ◌==◌, ◌&&◌, ◌||◌, if◌then◌else◌, ℤ, pos, negsuc, ◌+ℤ◌, List, [], ◌∷◌, drop, slice_index}
-use Rattle.life_base.specs.Sets.{DigitSets, OuterTotalistic}
-use Rattle.life_base.specs.Rules.{has_digit}
-use Rattle.life_base.specs.Tree.{Tree, tree_cell}
+use Rattle.std.specs.Prelude.{◌≡◌, ◌↔◌, ℕ, ℤ, List, [], ◌∷◌, drop, slice_index}
+use Rattle.life_base.specs.Sets.{OuterTotalistic}
 use Rattle.life_base.specs.declared.rule.Near.{Near}
-use Rattle.life_base.specs.declared.rule.Near.TheVariants as near
 use Rattle.life_table.specs.Meaning.{Answer, Becomes, Decides, count_of}
 use Rattle.life_table.specs.declared.table.Table.{Table}
 use Rattle.life_table.specs.declared.table.Neighborhood.{Neighborhood}
 use Rattle.life_table.specs.declared.table.Neighborhood.TheVariants.{VonNeumann, Moore}
-
--- one less, and one more
-abbrev pub one_before : ℤ → ℤ
-one_before x = x +ℤ negsuc 0
-
-abbrev pub one_after : ℤ → ℤ
-one_after x = x +ℤ pos 1
-
--- the states of the eight neighbours of a cell, from north clockwise
-abbrev pub eight_around : (ℤ → ℤ → ℕ) → ℤ → ℤ → List ℕ
-eight_around cells x y =
-    cells x (one_before y) ∷ cells (one_after x) (one_before y) ∷ cells (one_after x) y ∷ cells (one_after x) (one_after y)
-    ∷ cells x (one_after y) ∷ cells (one_before x) (one_after y) ∷ cells (one_before x) y ∷ cells (one_before x) (one_before y) ∷ []
-
--- of the four that share a side with it, from north clockwise
-abbrev pub four_around : (ℤ → ℤ → ℕ) → ℤ → ℤ → List ℕ
-four_around cells x y = cells x (one_before y) ∷ cells (one_after x) y ∷ cells x (one_after y) ∷ cells (one_before x) y ∷ []
+use Rattle.life_next.specs.Generation.{eight_around, four_around, next_by_count, next_life}
+use Rattle.life_base.specs.declared.rule.Near.TheVariants as near
 
 -- the states of the neighbours that a neighbourhood names
 abbrev pub neighbours_at : Neighborhood → (ℤ → ℤ → ℕ) → ℤ → ℤ → List ℕ
@@ -37,19 +19,6 @@ neighbours_at Moore = eight_around
 abbrev pub neighborhood_of_rule : Near → Neighborhood
 neighborhood_of_rule near.VonNeumann = VonNeumann
 neighborhood_of_rule near.Moore = Moore
-
--- a cell of state 0 is born, and one of state 1 survives, by the number of its neighbours in state 1
-abbrev pub next_by_count : DigitSets → ℕ → ℕ → ℕ
-next_by_count sets state count =
-    if (state == 0 && has_digit sets.births count) || (state == 1 && has_digit sets.survivals count) then 1 else 0
-
--- the next state of the cell (x, y) under a B/S rule, by the neighbours that it counts
-abbrev pub next_life : OuterTotalistic → (ℤ → ℤ → ℕ) → ℤ → ℤ → ℕ
-next_life rule cells x y = next_by_count rule.sets (cells x y) (count_of 1 (neighbours_at (neighborhood_of_rule rule.near) cells x y))
-
--- the second square has the cells of the first one's next generation under a B/S rule
-abbrev pub IsNextLife : OuterTotalistic → Tree → Tree → Type 0
-IsNextLife rule t next = (x y : ℤ) → tree_cell next x y ≡ next_life rule (tree_cell t) x y
 
 -- what a table answers for the cell (x, y)
 abbrev pub AnswersAt : Table → (ℤ → ℤ → ℕ) → ℤ → ℤ → Answer → Type 0

@@ -4,7 +4,6 @@ use Rattle.std.specs.Prelude.{if◌then◌else◌, replicate, All, Contains, ◌
 use Rattle.life_base.specs.Rules.{has_digit}
 use Rattle.life_base.specs.Sets.{DigitSets}
 use Rattle.life_base.specs.declared.rule.Near.{Near}
-use Rattle.life_base.specs.declared.rule.Near.TheVariants as near
 use Rattle.life_table.specs.Meaning.{Becomes, Decides}
 use Rattle.life_table.specs.Valid.{neighbour_count}
 use Rattle.life_table.specs.Orders.{images}
@@ -15,6 +14,7 @@ use Rattle.life_table.specs.declared.table.Neighborhood.TheVariants.{VonNeumann,
 use Rattle.life_table.proofs.Quiet.{zero_law}
 use Rattle.life_sweep.specs.Generation.{LifeAnswers, TableAnswers, neighbours_among, zeros}
 use Rattle.life_sweep.specs.declared.law.Known.{Known}
+use Rattle.life_base.specs.declared.rule.Near.TheVariants as near
 
 -- each order in which a symmetry lets the one list be read is one of the other's
 abbrev pub SameImages : Symmetry → List ℕ → List ℕ → Type 0

@@ -6,13 +6,13 @@ use Rattle.life_base.specs.Tree.{Tree, tree_cell}
 use Rattle.life_base.specs.declared.cell.Run.{Run}
 use Rattle.life_base.specs.declared.cell.TheConstants.{MAX_LEVEL}
 use Rattle.life_base.specs.declared.fault.Fault.{Fault}
-use Rattle.life_base.specs.declared.kind.Kind.TheVariants as kinds
 use Rattle.life_quad.specs.Cells.{population}
 use Rattle.life_strip.specs.Given.{IsRunOnPlane, half_plane, state_by, by_columns}
 use Rattle.life_strip.specs.Needed.{SomeSquare}
 use Rattle.life_table.specs.Meaning.{Answer, Becomes, Ambiguous}
 use Rattle.life_sweep.specs.Generation.{states_at}
 use Rattle.life_sweep.specs.Sweep.{IsFirstAmbiguous, IsLeft}
+use Rattle.life_base.specs.declared.kind.Kind.TheVariants as kinds
 
 -- the condition holds and this follows; or it doesn't, and that does
 abbrev pub IfElse : Type 0 → Type 0 → Type 0 → Type 0

@@ -2,7 +2,7 @@
 use Rattle.std.specs.Prelude.{◌≡◌, ◌⊎◌, ℕ, ◌+◌, ◌*◌, ◌<◌, ◌==◌, ◌^◌, Bool, true, false, ◌&&◌, if◌then◌else◌, ℤ, pos, neg_ℤ, ◌+ℤ◌, ◌<ℤ◌, ◌≤ℤ◌, List, [], ◌∷◌, length, All}
 use Rattle.std.specs.Borrow.{Bor}
 use Rattle.life_base.specs.declared.cell.Cell.{Cell}
-use Rattle.life_sweep.specs.Generation.{one_before, one_after}
+use Rattle.life_next.specs.Generation.{one_before, one_after}
 use Rattle.life_sweep.specs.declared.column.Column.{Column}
 use Rattle.life_sweep.specs.declared.window.Window.{Window}
 use Rattle.life_sweep.specs.declared.band.Band.{Band}

@@ -5,10 +5,10 @@ use Rattle.life_strip.specs.Given.{IsNextRunStart, IsRunOnPlane}
 use Rattle.life_table.specs.Meaning.{Answer, Becomes, Ambiguous}
 use Rattle.life_sweep.specs.Generation.{states_at}
 use Rattle.life_base.specs.declared.cell.Cell.{Cell}
-use Rattle.life_base.specs.declared.kind.Kind.TheVariants as kinds
 use Rattle.life_base.specs.declared.fault.Fault.{Fault}
 use Rattle.life_base.specs.Refusal.{fault_of}
 use Rattle.life_sweep.specs.Rows.{Rows, IsFrom, Precedes, AreRows, IsBlankBefore, IsRestOf, first_coordinate}
+use Rattle.life_base.specs.declared.kind.Kind.TheVariants as kinds
 
 -- the laws of a generation: what they answer for a cell and its neighbours
 module _ (answers : List ℕ → Answer → Type 0) (cells : ℤ → ℤ → ℕ) where

@@ -6,7 +6,8 @@ pub use Rattle.life_quad.specs.Grows.{IsShortageIn, KeepsStore}
 pub use Rattle.life_quad.specs.Keeping.{AddsOnly, IsShortageFault}
 pub use Rattle.life_strip.specs.Filling.{IsEmpty, IsFilling}
 pub use Rattle.life_strip.specs.Given.{IsAfterRun, IsNextRunStart, IsRunOnPlane, state_by}
-pub use Rattle.life_sweep.specs.Generation.{one_after, LifeAnswers, LifeAnswersAt, neighbours_among, neighborhood_of_rule, states_at, TableAnswers, TableAnswersAt}
+pub use Rattle.life_next.specs.Generation.{one_after}
+pub use Rattle.life_sweep.specs.Generation.{LifeAnswers, LifeAnswersAt, neighbours_among, neighborhood_of_rule, states_at, TableAnswers, TableAnswersAt}
 pub use Rattle.life_sweep.specs.LawFacts.{life_quiet, SameImages, table_positive, table_quiet, two_positive}
 pub use Rattle.life_sweep.specs.RunBuilder.{drawn_runs, IsHolding, one_cell}
 pub use Rattle.life_sweep.specs.Refused.{GenerationRefusal, SomeAbove, SomeNext, SomeOfAll}

@@ -20,10 +20,10 @@
 //! Inside, a `band` keeps three rows and goes from row to row, and a `window` keeps three columns of these and goes from place to place. The results go to the
 //! builder of `life_strip`.
 //!
-//! It doesn't know pattern files, or which generation it is. It uses `life_table`, `life_strip`, `life_quad` and `life_base`. Above it, `life_block` does the
-//! same square by square, and calls this crate where that isn't possible.
+//! It doesn't know pattern files, or which generation it is. It uses `life_next`, `life_table`, `life_strip`, `life_quad` and `life_base`. Above it, `life_block`
+//! does the same square by square, and calls this crate where that isn't possible.
 //!
-//! Read first: `specs/Generation.antt` (the next state of a cell), `src/generation.rt`, and `src/sweep.rt`.
+//! Read first: `specs/Generation.antt` of this crate and of `life_next` (the next state of a cell), `src/generation.rt`, and `src/sweep.rt`.
 #![tactic(auto)]
 
 mod band;

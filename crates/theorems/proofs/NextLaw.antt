@@ -10,8 +10,7 @@ use Rattle.life_base.specs.Rules.{counts, has_digit, most_neighbours, IsLifeRule
 use Rattle.life_base.specs.Sets.{OuterTotalistic}
 use Rattle.life_base.specs.declared.rule.Near.{Near}
 use Rattle.life_base.specs.declared.rule.Near.TheVariants.{Moore, VonNeumann}
-use Rattle.life_table.specs.Meaning.{count_of}
-use Rattle.life_sweep.specs.Generation.{next_by_count, neighbours_at, neighborhood_of_rule, next_life as layer_next, eight_around as layer_eight, four_around as layer_four}
+use Rattle.life_next.specs.Generation.{live_in, counted_around, next_by_count, next_life as layer_next, eight_around as layer_eight, four_around as layer_four}
 use Rattle.claims.specs.Generation.{claimed_next_life}
 
 -- a count is in a set exactly if it is in the list of the set
@@ -29,7 +28,7 @@ in_is set n h l =
 ones_step : (n : ℕ) → (n == 1) ≡ nat_eq 1 n
 ones_step n = grind (arith, nat_tests)
 
-ones_are : (around : List ℕ) → count_by (λ state. state == 1) around ≡ count_of 1 around
+ones_are : (around : List ℕ) → count_by (λ state. state == 1) around ≡ live_in around
 ones_are around = λ i. count_by (λ state. ones_step state i) around
 
 not_both : (n : ℕ) → (n == 0) ≡ true → (n == 1) ≡ false
@@ -65,7 +64,7 @@ next_is rule valid cell x y = by rule.near (set_below_512 rule.near rule.sets.bi
   where
     by : (near : Near) → rule.sets.births < 512 → rule.sets.survivals < 512
         → claimed_next_life (most_neighbours near) (filter (has_digit rule.sets.births) counts) (filter (has_digit rule.sets.survivals) counts) cell x y
-        ≡ next_by_count rule.sets (cell x y) (count_of 1 (neighbours_at (neighborhood_of_rule near) cell x y))
+        ≡ next_by_count rule.sets (cell x y) (live_in (counted_around near cell x y))
     by Moore h l =
         by_count rule.sets.births rule.sets.survivals (cell x y) _ h l (few_ones (layer_eight cell x y) (omega arith))
         ∙ ap (next_by_count rule.sets (cell x y)) (ones_are (layer_eight cell x y))

@@ -9,7 +9,7 @@ use Rattle.life_base.specs.Rules.{IsRule, IsLifeRule, has_digit, counts, most_ne
 use Rattle.life_base.specs.declared.rule.Rule.{Rule as LayerRule}
 use Rattle.life_base.specs.declared.rule.Rule.TheVariants.{Life, Named}
 use Rattle.life_sweep.specs.Refused.{IfElse}
-use Rattle.life_sweep.specs.Generation.{next_life as layer_next}
+use Rattle.life_next.specs.Generation.{next_life as layer_next}
 use Rattle.life_canon.specs.Universe.{Universe}
 use Rattle.life_canon.specs.Files.{Reads, Refuses}
 use Rattle.life_canon.specs.Listing.{canon_text}

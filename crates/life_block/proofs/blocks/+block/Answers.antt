@@ -2,12 +2,13 @@ use Rattle.std.proofs.Common.{◌≡◌, ℤ, ℕ, ◌+◌, ◌-◌, ◌^◌, re
 use Rattle.std.proofs.lemmas.Result.{IfOk-weaker}
 use Rattle.life_base.proofs.Results.{on_err_any, on_err_both}
 use Rattle.life_quad.proofs.KeepingLemmas.{keeps-then, adds-as}
-use Rattle.life_sweep.specs.Generation.{next_life}
-use Rattle.life_sweep.proofs.NeedLemmas.{adds-more}
+use Rattle.life_next.specs.Generation.{next_life}
+use Rattle.life_pieces.proofs.NeedLemmas.{adds-more, AreParts, is-piece, joined-is, parts-of_pieces, own-part, still-needs}
 use Rattle.life_block.specs.Needed.{SomeOfSixteen}
-use Rattle.life_block.specs.Pieces.{IsBinary, AreSixteen}
-use Rattle.life_block.proofs.NeedLemmas.{AreParts, is-piece, joined-is, parts-of_pieces, own-part, still-needs, of_north_west, of_north_east, of_south_west, of_south_east, of_quarters}
-use Rattle.life_block.proofs.PieceLemmas.{AreSixteen-kept, first-of_four, last-of_four, western-nine, eastern-nine, next-of_blank}
+use Rattle.life_pieces.specs.Pieces.{IsBinary, AreSixteen, western, eastern}
+use Rattle.life_block.proofs.NeedLemmas.{of_north_west, of_north_east, of_south_west, of_south_east, of_quarters}
+use Rattle.life_pieces.proofs.PieceLemmas.{AreSixteen-kept, first-of_four, last-of_four, western-nine, eastern-nine}
+use Rattle.life_block.proofs.BlankLemmas.{next-of_blank}
 use Rattle.life_block.proofs.RememberedLemmas.{Remembers-kept, Remembers-more, new-answer, recalled-at, recalled-next}
 use Rattle.life_block.proofs.blocks.+block.Given.{Over}
 use Rattle.life_block.proofs.blocks.+block.Goals as goal

@@ -5,13 +5,14 @@ use Rattle.life_base.specs.Sets.{OuterTotalistic}
 use Rattle.life_base.specs.Tree.{tree_cell}
 use Rattle.life_quad.specs.Refused.{SomePart}
 use Rattle.life_quad.proofs.KeepingLemmas.{adds-as}
-use Rattle.life_sweep.specs.Generation.{next_life}
-use Rattle.life_block.specs.Needed.{square_from}
+use Rattle.life_next.specs.Generation.{next_life}
+use Rattle.life_pieces.specs.Pieces.{square_from}
 use Rattle.life_block.proofs.RememberedLemmas.{Remembers-none}
-use Rattle.life_block.proofs.RootLemmas.{IsDivided, around-in_middle, corner, plane-next, quarters-at}
+use Rattle.life_block.proofs.RootLemmas.{IsDivided, around-in_middle, plane-next, quarters-at}
+use Rattle.life_pieces.proofs.RootLemmas.{corner}
 use Rattle.life_block.proofs.blocks.next_life_plane.Given.{Over}
-use Rattle.life_block.proofs.blocks.next_life_plane.Goals as goal
 use Rattle.life_block.proofs.blocks.next_life_plane.Goals.{After-empty-blank}
+use Rattle.life_block.proofs.blocks.next_life_plane.Goals as goal
 
 -- the square's quarters, and a blank one of their level
 divided : (g : Over) (c : After-empty-blank g)

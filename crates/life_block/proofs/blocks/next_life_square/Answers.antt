@@ -1,19 +1,18 @@
 use Rattle.std.proofs.Common.{◌≡◌, inl, inr, suc, ◌+◌, ◌-◌, sym, ◌∙◌, ap, arith, add-one}
 use Rattle.std.proofs.lemmas.Result.{IfOk-weaker}
-use Rattle.life_sweep.proofs.NeedLemmas.{adds-more}
+use Rattle.life_pieces.proofs.NeedLemmas.{adds-more, AreParts, depth-square, is-piece, joined-is, parts-of_pieces, own-part, still-needs}
 use Rattle.life_base.proofs.Results.{on_err_any, on_err_both, if_ok_two}
 use Rattle.life_base.specs.Rules.{has_digit}
 use Rattle.life_base.specs.Sets.{OuterTotalistic}
 use Rattle.life_base.specs.Tree.{depth, tree_cell}
 use Rattle.life_quad.proofs.KeepingLemmas.{keeps-then, adds-as}
-use Rattle.life_sweep.specs.Generation.{next_life}
-use Rattle.life_block.specs.Needed.{square_from}
-use Rattle.life_block.proofs.NeedLemmas.{AreParts, depth-square, is-piece, joined-is, parts-of_pieces, own-part, still-needs}
+use Rattle.life_next.specs.Generation.{next_life}
+use Rattle.life_pieces.specs.Pieces.{square_from}
 use Rattle.life_block.proofs.RememberedLemmas.{Remembers-none}
 use Rattle.life_block.proofs.RootLemmas.{IsDivided, IsDivided-kept, quarters-at, outer, root-next, known-north_west, known-north_east, known-south_west, known-south_east, around-north_west, around-north_east, around-south_west, around-south_east, corner-part}
 use Rattle.life_block.proofs.blocks.next_life_square.Given.{Over}
-use Rattle.life_block.proofs.blocks.next_life_square.Goals as goal
 use Rattle.life_block.proofs.blocks.next_life_square.Goals.{After-empty-blank, After-join}
+use Rattle.life_block.proofs.blocks.next_life_square.Goals as goal
 
 pub returns-then-level-le3-clause-level : goal.returns-then-level-le3-clause-level
 returns-then-level-le3-clause-level g c =

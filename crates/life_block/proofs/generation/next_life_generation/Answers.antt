@@ -6,7 +6,8 @@ use Rattle.life_base.specs.declared.cell.TheConstants.{MAX_LEVEL}
 use Rattle.life_quad.specs.Cells.{population}
 use Rattle.life_quad.specs.Keeping.{IsShortageFault}
 use Rattle.life_quad.proofs.KeepingLemmas.{adds-as}
-use Rattle.life_sweep.specs.Generation.{next_life, LifeAnswers}
+use Rattle.life_next.specs.Generation.{next_life}
+use Rattle.life_sweep.specs.Generation.{LifeAnswers}
 use Rattle.life_sweep.specs.Refused.{SomeNext, GenerationRefusal}
 use Rattle.life_block.specs.Needed.{of_plane, of_square}
 use Rattle.life_block.proofs.GenerationLemmas.{accepted, same-state}

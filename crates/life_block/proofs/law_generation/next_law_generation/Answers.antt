@@ -5,8 +5,8 @@ use Rattle.life_quad.specs.Cells.{population}
 use Rattle.life_quad.specs.Keeping.{AddsOnly, IsShortageFault}
 use Rattle.life_sweep.specs.Refused.{GenerationRefusal, SomeNext}
 use Rattle.life_block.proofs.LawPlaneLemmas.{accepted-by, of-equals, of-option}
-use Rattle.life_block.proofs.law_generation.next_law_generation.Goals as goal
 use Rattle.life_sweep.proofs.NeedLemmas.{full-kind}
+use Rattle.life_block.proofs.law_generation.next_law_generation.Goals as goal
 
 pub returns-in_err-next-clause-needed : goal.returns-in_err-next-clause-needed
 returns-in_err-next-clause-needed g c =

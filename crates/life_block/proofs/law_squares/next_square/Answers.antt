@@ -1,13 +1,13 @@
 use Rattle.std.proofs.Common.{◌≡◌, ◌+◌, ◌-◌, ◌^◌, sym, ◌∙◌, ap, arith}
 use Rattle.life_base.specs.Tree.{depth, tree_cell}
 use Rattle.life_block.specs.Laws.{IsNextAt}
-use Rattle.life_block.specs.Pieces.{step_ahead}
+use Rattle.life_pieces.specs.Pieces.{step_ahead}
 use Rattle.life_block.proofs.LawPieceLemmas.{if-some, joined-level, joined-pieces, piece-by, RemembersBy-none, square-next}
 use Rattle.life_block.proofs.RootLemmas.{IsDivided, quarters-at, outer, around-north_west, around-north_east, around-south_west, around-south_east}
 use Rattle.life_block.proofs.law_squares.next_square.Given.{Over}
-use Rattle.life_block.proofs.law_squares.next_square.Goals as goal
 use Rattle.life_block.proofs.law_squares.next_square.Goals.{After-empty-blank}
 use Rattle.life_base.proofs.Results.{if_ok_two}
+use Rattle.life_block.proofs.law_squares.next_square.Goals as goal
 
 -- the square's quarters, and a blank one of their level
 divided : (g : Over) (c : After-empty-blank g)

@@ -1,10 +1,11 @@
 use Rattle.std.proofs.Common.{sym, ◌∙◌, arith}
 use Rattle.life_base.specs.Tree.{tree_cell}
 use Rattle.life_block.proofs.LawPieceLemmas.{both-some, plane-next, RemembersBy-none}
-use Rattle.life_block.proofs.RootLemmas.{IsDivided, around-in_middle, corner, quarters-at}
+use Rattle.life_block.proofs.RootLemmas.{IsDivided, around-in_middle, quarters-at}
+use Rattle.life_pieces.proofs.RootLemmas.{corner}
 use Rattle.life_block.proofs.law_squares.next_whole.Given.{Over}
-use Rattle.life_block.proofs.law_squares.next_whole.Goals as goal
 use Rattle.life_block.proofs.law_squares.next_whole.Goals.{After-empty-blank}
+use Rattle.life_block.proofs.law_squares.next_whole.Goals as goal
 
 -- the square's quarters, and a blank one of their level
 divided : (g : Over) (c : After-empty-blank g)

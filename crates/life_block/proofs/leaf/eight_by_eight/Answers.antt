@@ -2,7 +2,7 @@ use Rattle.std.proofs.Common.{◌≡◌, arith, sym, ◌∙◌}
 use Rattle.life_base.specs.Tree.{depth}
 use Rattle.life_base.proofs.Squares.{same_quads}
 use Rattle.life_quad.proofs.LeafCells.{eight_of}
-use Rattle.life_block.proofs.PieceLemmas.{pieces-of}
+use Rattle.life_pieces.proofs.PieceLemmas.{pieces-of}
 use Rattle.life_block.proofs.leaf.eight_by_eight.Goals as goal
 
 pub returns : goal.returns

@@ -2,11 +2,10 @@ use Rattle.std.proofs.Common.{◌≡◌, ℤ, ℕ, sym, ◌∙◌, subst}
 use Rattle.std.proofs.lemmas.Result.{IfOk-weaker, on_err_weaker}
 use Rattle.life_quad.specs.Refused.{SomePart}
 use Rattle.life_quad.proofs.KeepingLemmas.{adds-as}
-use Rattle.life_sweep.specs.Generation.{next_life}
+use Rattle.life_next.specs.Generation.{next_life}
 use Rattle.life_block.specs.Bits.{AreSixteenRows, square_of_leaves}
-use Rattle.life_block.specs.Needed.{square_from}
-use Rattle.life_block.specs.Pieces.{IsBinary, AreSixteen}
-use Rattle.life_block.proofs.NeedLemmas.{is-piece}
+use Rattle.life_pieces.specs.Pieces.{square_from, IsBinary, AreSixteen}
+use Rattle.life_pieces.proofs.NeedLemmas.{is-piece}
 use Rattle.life_block.proofs.leaf.next_of_leaves.Given.{Over}
 use Rattle.life_block.proofs.leaf.next_of_leaves.Goals as goal
 

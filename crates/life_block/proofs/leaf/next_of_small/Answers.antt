@@ -5,7 +5,7 @@ use Rattle.life_quad.specs.Refused.{SomePart}
 use Rattle.life_quad.proofs.KeepingLemmas.{adds-as}
 use Rattle.life_block.specs.Bits.{leaf_of_cells, square_of_leaves}
 use Rattle.life_block.specs.Needed.{next_square}
-use Rattle.life_block.proofs.RootLemmas.{corner, piece-of_root}
+use Rattle.life_pieces.proofs.RootLemmas.{corner, piece-of_root}
 use Rattle.life_block.proofs.leaf.next_of_small.Given.{Over}
 use Rattle.life_block.proofs.leaf.next_of_small.Goals as goal
 

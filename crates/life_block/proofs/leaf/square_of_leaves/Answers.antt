@@ -5,7 +5,7 @@ use Rattle.life_base.proofs.Results.{on_err_any, on_err_both}
 use Rattle.life_quad.proofs.KeepingLemmas.{keeps-then, adds-then}
 use Rattle.life_block.specs.Bits.{leaf_of_cells, square_of_leaves}
 use Rattle.life_block.proofs.MadeLemmas.{quarters-made, adds_one, adds_two, adds_three, adds_four}
-use Rattle.life_block.proofs.NeedLemmas.{still-needs}
+use Rattle.life_pieces.proofs.NeedLemmas.{still-needs}
 use Rattle.life_block.proofs.leaf.square_of_leaves.Given.{Over}
 use Rattle.life_block.proofs.leaf.square_of_leaves.Goals as goal
 

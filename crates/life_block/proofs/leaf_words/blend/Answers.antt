@@ -1,4 +1,4 @@
-use Rattle.life_block.proofs.LeafWordLemmas.{blended}
+use Rattle.life_pieces.proofs.LeafWordLemmas.{blended}
 use Rattle.life_block.proofs.leaf_words.blend.Goals as goal
 
 pub returns : goal.returns

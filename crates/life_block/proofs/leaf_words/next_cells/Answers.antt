@@ -1,13 +1,12 @@
 use Rattle.std.proofs.Common.{◌≡◌, ℕ, ◌+◌, ◌*◌, ◌/◌, ◌%◌, ◌^◌, ◌<◌, arith, refl, ◌∙◌, ap}
 use Rattle.std.proofs.lemmas.Int.{ints}
 use Rattle.life_quad.specs.Store.{four}
-use Rattle.life_sweep.specs.Generation.{next_life}
+use Rattle.life_next.specs.Generation.{next_life}
 use Rattle.life_block.specs.Bits.{leaf_of_cells}
-use Rattle.life_block.specs.Needed.{square_from}
-use Rattle.life_block.specs.Pieces.{step_ahead}
+use Rattle.life_pieces.specs.Pieces.{square_from, step_ahead}
 use Rattle.life_block.proofs.LeafWordLemmas.{next-rows, quarter-bits}
-use Rattle.life_block.proofs.NeedLemmas.{joined-is}
-use Rattle.life_block.proofs.SquareLemmas.{square-is}
+use Rattle.life_pieces.proofs.NeedLemmas.{joined-is}
+use Rattle.life_pieces.proofs.SquareLemmas.{square-is}
 use Rattle.life_block.proofs.leaf_words.next_cells.Goals as goal
 
 pub returns : goal.returns

@@ -2,7 +2,7 @@ use Rattle.std.proofs.Common.{pos, neg_ℤ, sym, ◌∙◌, subst, arith}
 use Rattle.life_base.specs.Tree.{tree_cell}
 use Rattle.life_quad.specs.Store.{eight}
 use Rattle.life_block.specs.Bits.{AreSixteenRows}
-use Rattle.life_block.specs.Pieces.{four_of}
+use Rattle.life_pieces.specs.Pieces.{four_of}
 use Rattle.life_block.proofs.SmallRoots.{sixteen-of_eight}
 use Rattle.life_block.proofs.leaf_words.next_of_eight.Goals as goal
 

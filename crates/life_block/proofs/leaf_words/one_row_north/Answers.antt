@@ -1,7 +1,7 @@
 use Rattle.std.proofs.Common.{◌≡◌, refl, arith}
 use Rattle.std.proofs.lemmas.Int.{ints}
-use Rattle.life_sweep.specs.Generation.{one_before}
-use Rattle.life_block.specs.Pieces.{step_back, step_ahead}
+use Rattle.life_next.specs.Generation.{one_before}
+use Rattle.life_pieces.specs.Pieces.{step_back, step_ahead}
 use Rattle.life_block.proofs.LeafWordLemmas.{HasRows-moved, eight-between}
 use Rattle.life_block.proofs.leaf_words.one_row_north.Goals as goal
 

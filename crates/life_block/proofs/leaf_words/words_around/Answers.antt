@@ -1,5 +1,5 @@
 use Rattle.std.proofs.Common.{sym, subst}
-use Rattle.life_sweep.specs.Generation.{one_before, one_after}
+use Rattle.life_next.specs.Generation.{one_before, one_after}
 use Rattle.life_block.specs.Bits.{AreThreeRows, AreNineRows}
 use Rattle.life_block.proofs.leaf_words.words_around.Goals as goal
 

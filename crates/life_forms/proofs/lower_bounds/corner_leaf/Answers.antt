@@ -1,6 +1,6 @@
 use Rattle.std.proofs.Common.{◌≡◌, ◌≤◌, ℤ, sym, ◌∙◌, subst, arith, to_z, of_z, w64, SFits}
 use Rattle.std.proofs.lemmas.Int.{ints}
-use Rattle.life_block.specs.Needed.{square_from}
+use Rattle.life_pieces.specs.Pieces.{square_from}
 use Rattle.life_base.specs.Tree.{depth, tree_cell}
 use Rattle.life_quad.proofs.LawLemmas.{known_squares_are_full}
 use Rattle.life_quad.proofs.LeafCells.{eight_not_blank}

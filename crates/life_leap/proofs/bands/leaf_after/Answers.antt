@@ -3,8 +3,8 @@ use Rattle.std.proofs.lemmas.Int.{ints}
 use Rattle.std.proofs.lemmas.Result.{IfOk-weaker}
 use Rattle.std.proofs.Math.Pow.{pow_mono}
 use Rattle.life_quad.specs.Store.{eight}
-use Rattle.life_block.specs.Pieces.{IsPiece, step_ahead, step_back}
-use Rattle.life_block.proofs.PieceLemmas.{IsPiece-moved}
+use Rattle.life_pieces.specs.Pieces.{IsPiece, step_ahead, step_back}
+use Rattle.life_pieces.proofs.PieceLemmas.{IsPiece-moved}
 use Rattle.life_leap.specs.After.{after, leap_length}
 use Rattle.life_leap.proofs.bands.leaf_after.Goals as goal
 

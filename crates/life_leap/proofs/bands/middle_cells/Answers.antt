@@ -1,10 +1,10 @@
 use Rattle.std.proofs.Common.{◌≡◌, refl, arith}
 use Rattle.std.proofs.lemmas.Int.{ints}
 use Rattle.life_quad.specs.Store.{eight, four}
-use Rattle.life_block.specs.Pieces.{step_ahead}
-use Rattle.life_block.proofs.NeedLemmas.{is-piece}
-use Rattle.life_block.proofs.PieceLemmas.{IsPiece-joined, IsPiece-moved}
-use Rattle.life_block.proofs.SquareLemmas.{square-is}
+use Rattle.life_pieces.specs.Pieces.{step_ahead}
+use Rattle.life_pieces.proofs.NeedLemmas.{is-piece}
+use Rattle.life_pieces.proofs.PieceLemmas.{IsPiece-joined, IsPiece-moved}
+use Rattle.life_pieces.proofs.SquareLemmas.{square-is}
 use Rattle.life_leap.proofs.bands.middle_cells.Goals as goal
 
 pub returns : goal.returns

@@ -1,5 +1,5 @@
 use Rattle.std.proofs.Common.{◌≡◌, ◌+◌, ◌^◌, ◌&&◌, sym, ◌∙◌, subst}
-use Rattle.life_block.specs.Pieces.{step_ahead, step_back}
+use Rattle.life_pieces.specs.Pieces.{step_ahead, step_back}
 use Rattle.life_leap.specs.Edge.{IsInRing, TestsBlank}
 use Rattle.life_leap.proofs.EdgeTests.{ring-tests}
 use Rattle.life_leap.proofs.edge.is_ring_blank.Goals as goal

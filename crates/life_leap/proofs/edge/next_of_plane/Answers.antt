@@ -2,7 +2,7 @@ use Rattle.std.proofs.Common.{◌^◌, inr, refl}
 use Rattle.std.proofs.lemmas.Result.{IfOk-weaker}
 use Rattle.life_base.proofs.Results.{if_ok_two}
 use Rattle.life_base.specs.Tree.{tree_cell}
-use Rattle.life_block.specs.Pieces.{step_back}
+use Rattle.life_pieces.specs.Pieces.{step_back}
 use Rattle.life_leap.specs.After.{after}
 use Rattle.life_leap.proofs.AfterLemmas.{after-binary}
 use Rattle.life_leap.proofs.LeapLemmas.{no-leaps}

@@ -2,8 +2,8 @@ use Rattle.std.proofs.Common.{◌≡◌, ◌+◌, ◌^◌, sym, ◌∙◌, arith
 use Rattle.std.proofs.lemmas.Int.{ints}
 use Rattle.life_base.proofs.Squares.{quad_nw, quad_ne, quad_sw, quad_se}
 use Rattle.life_base.specs.Tree.{depth}
-use Rattle.life_block.specs.Pieces.{step_ahead}
-use Rattle.life_block.proofs.PieceLemmas.{pieces-of, twice}
+use Rattle.life_pieces.specs.Pieces.{step_ahead}
+use Rattle.life_pieces.proofs.PieceLemmas.{pieces-of, twice}
 use Rattle.life_leap.proofs.GridLemmas.{row-moved}
 use Rattle.life_leap.specs.Grid.{IsTwoAt}
 use Rattle.life_leap.proofs.grid.sixteenths.Goals as goal

@@ -5,7 +5,7 @@ use Rattle.life_base.proofs.Squares.{blank_is}
 use Rattle.life_base.specs.Tree.{blank, depth}
 use Rattle.life_quad.proofs.KeepingLemmas.{keeps-then}
 use Rattle.life_quad.specs.IdMap.{value_of_id}
-use Rattle.life_block.proofs.PieceLemmas.{IsAt-kept}
+use Rattle.life_pieces.proofs.PieceLemmas.{IsAt-kept}
 use Rattle.life_leap.specs.After.{leap_length}
 use Rattle.life_leap.specs.Leaps.{IsMiddleAfter}
 use Rattle.life_leap.proofs.LeapLemmas.{fast-length, leap-of_blank, leap-of_parts, leaps-kept, leaps-put, new-leap, recalled-leap, slow-length}

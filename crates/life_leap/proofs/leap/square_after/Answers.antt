@@ -4,9 +4,9 @@ use Rattle.life_base.specs.Rules.{has_digit}
 use Rattle.life_base.specs.Sets.{OuterTotalistic}
 use Rattle.life_base.specs.Tree.{depth, tree_cell}
 use Rattle.life_base.proofs.Results.{if_ok_two}
-use Rattle.life_block.specs.Pieces.{IsPiece, step_ahead, step_back}
-use Rattle.life_block.proofs.PieceLemmas.{IsPiece-moved}
-use Rattle.life_block.proofs.RootLemmas.{corner, piece-of_root}
+use Rattle.life_pieces.specs.Pieces.{IsPiece, step_ahead, step_back}
+use Rattle.life_pieces.proofs.PieceLemmas.{IsPiece-moved}
+use Rattle.life_pieces.proofs.RootLemmas.{corner, piece-of_root}
 use Rattle.life_leap.specs.After.{after, leap_length}
 use Rattle.life_leap.specs.Grid.{AreNineSquares}
 use Rattle.life_leap.specs.Leaps.{IsBlankSquareBeyond}

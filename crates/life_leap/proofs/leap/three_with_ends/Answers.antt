@@ -1,7 +1,7 @@
 use Rattle.std.proofs.Common.{◌+◌, ◌^◌, refl}
 use Rattle.life_quad.proofs.KeepingLemmas.{keeps-then}
-use Rattle.life_block.specs.Pieces.{step_ahead, step_back}
-use Rattle.life_block.proofs.PieceLemmas.{IsAt-kept, IsPiece-kept}
+use Rattle.life_pieces.specs.Pieces.{step_ahead, step_back}
+use Rattle.life_pieces.proofs.PieceLemmas.{IsAt-kept, IsPiece-kept}
 use Rattle.life_leap.proofs.RootSteps.{ends-kept, west-of_ends, middle-of_ends, east-of_ends}
 use Rattle.life_leap.proofs.leap.three_with_ends.Goals as goal
 

@@ -4,7 +4,7 @@ use Rattle.std.proofs.lemmas.Result.{IfOk-weaker}
 use Rattle.std.proofs.Math.Pow.{pow_mono}
 use Rattle.life_base.specs.Tree.{depth, half_side, tree_cell}
 use Rattle.life_quad.proofs.KeepingLemmas.{keeps-then}
-use Rattle.life_block.proofs.PieceLemmas.{IsPiece-moved}
+use Rattle.life_pieces.proofs.PieceLemmas.{IsPiece-moved}
 use Rattle.life_later.proofs.CourseLemmas.{box-on_plane}
 use Rattle.life_slide.specs.Pieces.{IsNearMiddle}
 use Rattle.life_phases.proofs.MiddleLemmas.{column-near, columns-way, middle-moved, middle-square, row-near, rows-way}

@@ -1,5 +1,5 @@
 use Rattle.std.proofs.Common.{arith}
-use Rattle.life_block.proofs.LeafWordLemmas.{blended}
+use Rattle.life_pieces.proofs.LeafWordLemmas.{blended}
 use Rattle.life_slide.proofs.LeafLemmas.{columns-ahead}
 use Rattle.life_slide.proofs.leaf.columns_east.Goals as goal
 

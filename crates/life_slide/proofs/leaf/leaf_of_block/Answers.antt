@@ -1,5 +1,5 @@
 use Rattle.std.proofs.Common.{◌∙◌, arith, refl, ◌%◌}
-use Rattle.life_block.specs.Needed.{square_from}
+use Rattle.life_pieces.specs.Pieces.{square_from}
 use Rattle.life_slide.proofs.LeafLemmas.{leaf-of_bits}
 use Rattle.life_slide.proofs.leaf.leaf_of_block.Goals as goal
 

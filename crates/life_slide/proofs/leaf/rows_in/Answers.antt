@@ -1,6 +1,6 @@
 use Rattle.std.proofs.Common.{arith, subst}
-use Rattle.life_block.specs.Pieces.{IsPiece}
-use Rattle.life_block.proofs.LeafWordLemmas.{rows-of_leaf}
+use Rattle.life_pieces.specs.Pieces.{IsPiece}
+use Rattle.life_pieces.proofs.LeafWordLemmas.{rows-of_leaf}
 use Rattle.life_slide.proofs.leaf.rows_in.Goals as goal
 
 pub returns : goal.returns

@@ -7,11 +7,11 @@ use Rattle.life_base.proofs.Results.{on_err_any, on_err_both}
 use Rattle.life_quad.specs.Cells.{IsBoundingBoxOfTree}
 use Rattle.life_quad.specs.Refused.{SomePart}
 use Rattle.life_quad.proofs.KeepingLemmas.{keeps-then, adds-as}
-use Rattle.life_sweep.proofs.NeedLemmas.{adds-more}
-use Rattle.life_block.specs.Needed.{square_from}
-use Rattle.life_block.specs.Pieces.{IsPiece}
-use Rattle.life_block.proofs.NeedLemmas.{still-needs}
-use Rattle.life_block.proofs.PieceLemmas.{IsPiece-moved}
+use Rattle.life_pieces.proofs.NeedLemmas.{adds-more}
+use Rattle.life_pieces.specs.Pieces.{square_from}
+use Rattle.life_pieces.specs.Pieces.{IsPiece}
+use Rattle.life_pieces.proofs.NeedLemmas.{still-needs}
+use Rattle.life_pieces.proofs.PieceLemmas.{IsPiece-moved}
 use Rattle.life_slide.specs.Pieces.{IsNearMiddle, root_from, side_origin, side_start}
 use Rattle.life_slide.proofs.MovedLemmas.{bottom-read, column-starts, columns-inside, inner-part, IsTight, joined-root, left-read, level-fits, on-plane, own-root, right-read, row-starts, rows-inside, top-read}
 use Rattle.life_slide.proofs.QuarterLemmas.{corner-joined, corner_square}

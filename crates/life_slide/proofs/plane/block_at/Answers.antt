@@ -1,7 +1,7 @@
 use Rattle.std.proofs.Common.{◌≡◌, pos, ◌+ℤ◌, ◌+◌, ◌-◌, ◌<◌, ◌%◌, ◌^◌, true, false, ◌∙◌, sym, ap, subst, refl, to_z-of_z}
 use Rattle.life_base.specs.Tree.{depth, blank, tree_cell}
 use Rattle.life_quad.specs.declared.id.Id.{Id}
-use Rattle.life_block.specs.Pieces.{IsOfLevel, step_ahead}
+use Rattle.life_pieces.specs.Pieces.{IsOfLevel, step_ahead}
 use Rattle.life_slide.specs.Pieces.{InBlock, IsBlock}
 use Rattle.life_slide.proofs.PlaneLemmas.{begin, block-corner, known-corner, place-is}
 use Rattle.life_slide.proofs.plane.block_at.Given.{Over}

@@ -1,7 +1,7 @@
 use Rattle.std.proofs.Common.{◌∙◌, refl, to_z-of_z}
 use Rattle.std.proofs.lemmas.Result.{IfOk-weaker, on_err_weaker}
 use Rattle.life_quad.proofs.KeepingLemmas.{adds-as}
-use Rattle.life_block.proofs.PieceLemmas.{IsPiece-moved}
+use Rattle.life_pieces.proofs.PieceLemmas.{IsPiece-moved}
 use Rattle.life_slide.proofs.SlideLemmas.{part-moved}
 use Rattle.life_slide.proofs.plane.square_at.Goals as goal
 

@@ -1,7 +1,7 @@
 use Rattle.std.proofs.Common.{◌≡◌, ◌%◌, ◌^◌, Bool, true, false, subst}
 use Rattle.life_base.specs.Tree.{depth, IsFull}
 use Rattle.life_quad.specs.declared.id.Id.{Id}
-use Rattle.life_block.specs.Pieces.{IsOfLevel}
+use Rattle.life_pieces.specs.Pieces.{IsOfLevel}
 use Rattle.life_slide.specs.declared.margins.Margins.{Margins}
 use Rattle.life_slide.specs.Margins.{IsSeenOrOther}
 use Rattle.life_slide.specs.Pieces.{InBlock}

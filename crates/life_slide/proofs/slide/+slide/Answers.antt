@@ -5,12 +5,12 @@ use Rattle.life_base.proofs.Results.{on_err_any, on_err_both, if_ok_two}
 use Rattle.life_quad.specs.Refused.{SomePart}
 use Rattle.life_quad.specs.Store.{eight, four}
 use Rattle.life_quad.proofs.KeepingLemmas.{keeps-then, adds-as}
-use Rattle.life_sweep.proofs.NeedLemmas.{adds-more}
-use Rattle.life_block.specs.Needed.{square_from}
-use Rattle.life_block.specs.Pieces.{IsOfLevel, IsPiece, step_ahead}
-use Rattle.life_block.proofs.NeedLemmas.{AreParts, is-piece, joined-is, parts-of_pieces, piece-is, own-part, still-needs}
-use Rattle.life_block.proofs.PieceLemmas.{IsPiece-moved}
-use Rattle.life_block.proofs.SquareLemmas.{square-is}
+use Rattle.life_pieces.proofs.NeedLemmas.{adds-more}
+use Rattle.life_pieces.specs.Pieces.{square_from}
+use Rattle.life_pieces.specs.Pieces.{IsOfLevel, IsPiece, step_ahead}
+use Rattle.life_pieces.proofs.NeedLemmas.{AreParts, is-piece, joined-is, parts-of_pieces, piece-is, own-part, still-needs}
+use Rattle.life_pieces.proofs.PieceLemmas.{IsPiece-moved}
+use Rattle.life_pieces.proofs.SquareLemmas.{square-is}
 use Rattle.life_slide.specs.Needed.{SomeOfBlock, SomeOfNineSquares}
 use Rattle.life_slide.specs.Pieces.{AreNinePieces, IsBlock}
 use Rattle.life_slide.proofs.NeedLemmas.{nine-of, of_north_east, of_north_west, of_quarters, of_south_east, of_south_west, swapped}
@@ -266,10 +266,10 @@ parts g m c cells x y h =
     let ex = swapped x side (c.args.offset.columns % 2 ^ k) in
     let ey = swapped y side (c.args.offset.rows % 2 ^ k) in
     parts-of_pieces _ _ g.met.T.Squares.full refl _ _ ne.keeps sw.keeps se.keeps nw.at ne.at sw.at se.at
-    (nw.slid cells _ _ (block-western content cells c.western.ensures h.first h.second))
-    (IsPiece-moved cells _ _ _ _ _ ex refl (ne.slid cells _ _ (block-eastern content cells c.eastern.ensures h.first h.second)))
-    (IsPiece-moved cells _ _ _ _ _ refl ey (sw.slid cells _ _ (block-western content cells c.western-2.ensures h.second h.third)))
-    (IsPiece-moved cells _ _ _ _ _ ex ey (se.slid cells _ _ (block-eastern content cells c.eastern-2.ensures h.second h.third)))
+    (nw.slid cells _ _ (block-western content cells c.western.ensures h.before h.here))
+    (IsPiece-moved cells _ _ _ _ _ ex refl (ne.slid cells _ _ (block-eastern content cells c.eastern.ensures h.before h.here)))
+    (IsPiece-moved cells _ _ _ _ _ refl ey (sw.slid cells _ _ (block-western content cells c.western-2.ensures h.here h.after)))
+    (IsPiece-moved cells _ _ _ _ _ ex ey (se.slid cells _ _ (block-eastern content cells c.eastern-2.ensures h.here h.after)))
 
 pub slid_of_nine-returns-clause-slid : goal.slid_of_nine-returns-clause-slid
 slid_of_nine-returns-clause-slid g m c =

@@ -15,7 +15,7 @@ use Rattle.life_rle.specs.Grammar.{IsRle}
 use Rattle.life_rle.specs.Pattern.{Rle}
 use Rattle.life_rle.proofs.ReadInputs.{no_runs}
 use Rattle.life_strip.specs.Given.{state_by}
-use Rattle.life_sweep.specs.Generation.{next_life}
+use Rattle.life_next.specs.Generation.{next_life}
 use Rattle.life_canon.specs.Store.{content}
 use Rattle.life_step.proofs.RowFacts.{next-of-file, ok-of-some}
 use Rattle.life_step.proofs.by_rows.next_square.Goals as goal

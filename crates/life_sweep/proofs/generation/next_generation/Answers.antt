@@ -13,9 +13,9 @@ use Rattle.life_sweep.specs.Sweep.{IsSorted}
 use Rattle.life_sweep.proofs.CellLemmas.{blank-before, cells-sorted, cells-inside}
 use Rattle.life_sweep.proofs.RefusedLemmas.{has-from, none-from, beyond, step-refused, accepted}
 use Rattle.life_sweep.proofs.generation.next_generation.Given.{Over}
-use Rattle.life_sweep.proofs.generation.next_generation.Goals as goal
 use Rattle.life_sweep.proofs.generation.next_generation.Goals.{After-deref-2}
 use Rattle.life_base.proofs.Results.{if_ok_two}
+use Rattle.life_sweep.proofs.generation.next_generation.Goals as goal
 
 pub returns-in_err-list-clause-refusals : goal.returns-in_err-list-clause-refusals
 returns-in_err-list-clause-refusals g c =

@@ -3,8 +3,8 @@ use Rattle.life_table.specs.Around.{states_of_neighbours}
 use Rattle.life_table.specs.declared.table.Table.{Table}
 use Rattle.life_table.specs.declared.table.Neighborhood.TheVariants.{VonNeumann, Moore}
 use Rattle.life_sweep.proofs.LawLemmas.{decided, whole-list}
-use Rattle.life_sweep.proofs.law.decide.Goals as goal
 use Rattle.life_sweep.proofs.law.decide.Goals.{in-VonNeumann, in-Moore}
+use Rattle.life_sweep.proofs.law.decide.Goals as goal
 
 pub returns-clause-next : goal.returns-clause-next
 returns-clause-next c =

@@ -1,7 +1,7 @@
 use Rattle.std.proofs.Common.{sym, subst}
 use Rattle.life_sweep.proofs.RepresentativeLemmas.{IsTurnOf, IsTurnOf-same, IsTurnOf-then}
-use Rattle.life_sweep.proofs.law.least_turn.Goals as goal
 use Rattle.life_sweep.proofs.law.least_turn.Goals.{then-neighbours_as_number, else-neighbours_as_number}
+use Rattle.life_sweep.proofs.law.least_turn.Goals as goal
 
 pub loop-init : goal.loop-init
 loop-init c = record { least = IsTurnOf-same c.args.around.now; turned = IsTurnOf-same c.args.around.now }

@@ -4,18 +4,19 @@ use Rattle.std.proofs.lemmas.Result.{err_from_is_err_and}
 use Rattle.life_quad.specs.Keeping.{AddsOnly}
 use Rattle.life_quad.proofs.KeepingLemmas.{keeps-same, keeps-then, adds-none, adds-as}
 use Rattle.life_strip.specs.Given.{state_by}
-use Rattle.life_sweep.specs.Generation.{one_after}
+use Rattle.life_next.specs.Generation.{one_after}
 use Rattle.life_sweep.specs.Rows.{IsWindow, IsWindowBelow, first_coordinate, states_of_window}
 use Rattle.life_table.specs.Meaning.{Ambiguous}
 use Rattle.life_sweep.specs.Refused.{SomeNext}
 use Rattle.life_sweep.specs.RunBuilder.{drawn_runs}
 use Rattle.life_sweep.specs.Sweep.{IsPut, IsReadyRow, IsScene, IsSwept, IsSweptRows}
-use Rattle.life_sweep.proofs.NeedLemmas.{adds-more, swept-needs}
+use Rattle.life_pieces.proofs.NeedLemmas.{adds-more}
+use Rattle.life_sweep.proofs.NeedLemmas.{swept-needs}
 use Rattle.life_sweep.proofs.RunBuilderLemmas.{kept}
 use Rattle.life_sweep.proofs.SweepLemmas.{row-ready, ready-later, ready-row, into-row, west-column, step-in-row, out-of-row, ambiguous-here}
 use Rattle.life_sweep.proofs.sweep.draw_row.Given.{Over}
-use Rattle.life_sweep.proofs.sweep.draw_row.Goals as goal
 use Rattle.life_sweep.proofs.sweep.draw_row.Goals.{After-advance}
+use Rattle.life_sweep.proofs.sweep.draw_row.Goals as goal
 
 pub loop-window-init : goal.loop-window-init
 loop-window-init g c =

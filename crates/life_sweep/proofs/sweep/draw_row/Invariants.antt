@@ -3,7 +3,7 @@ use Rattle.life_quad.specs.Keeping.{KeepsSquares, AddsOnly}
 use Rattle.life_sweep.specs.Refused.{SomeNext}
 use Rattle.life_sweep.specs.RunBuilder.{IsHolding, drawn_runs}
 use Rattle.life_strip.specs.Given.{state_by}
-use Rattle.life_sweep.specs.Generation.{one_after}
+use Rattle.life_next.specs.Generation.{one_after}
 use Rattle.life_sweep.specs.Rows.{IsSoundWindow, IsWindowBelow, IsWindow, steps_left}
 use Rattle.life_sweep.specs.Sweep.{IsReadyFrom, IsScene, IsSwept, IsSweptRows}
 use Rattle.life_sweep.proofs.sweep.draw_row.Given as goal

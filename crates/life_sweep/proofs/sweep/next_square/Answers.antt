@@ -4,18 +4,20 @@ use Rattle.std.proofs.lemmas.Result.{err_from_is_err_and}
 use Rattle.life_quad.proofs.KeepingLemmas.{keeps-same, keeps-then, adds-none}
 use Rattle.life_strip.specs.Given.{state_by}
 use Rattle.life_table.specs.Meaning.{Becomes}
-use Rattle.life_sweep.specs.Generation.{one_after, states_at}
+use Rattle.life_next.specs.Generation.{one_after}
+use Rattle.life_sweep.specs.Generation.{states_at}
 use Rattle.life_sweep.specs.Rows.{AreBelow, AreRows, GoesSouth, first_coordinate}
 use Rattle.life_base.specs.declared.cell.Run.{Run}
 use Rattle.life_sweep.specs.Refused.{SomeNext}
 use Rattle.life_sweep.specs.RunBuilder.{IsOpenRun, drawn_runs}
 use Rattle.life_sweep.specs.Sweep.{IsFirstAmbiguous, IsReadyRow, IsScene, IsSorted, IsSweptRows}
-use Rattle.life_sweep.proofs.NeedLemmas.{adds-more, all-needs, full-again, full-kind}
+use Rattle.life_pieces.proofs.NeedLemmas.{adds-more}
+use Rattle.life_sweep.proofs.NeedLemmas.{all-needs, full-again, full-kind}
 use Rattle.life_sweep.proofs.RunBuilderLemmas.{kept}
 use Rattle.life_sweep.proofs.SweepLemmas.{nothing-given, nothing-drawn, start-rows, pass-rows, all-rows}
 use Rattle.life_sweep.proofs.sweep.next_square.Given.{Over}
-use Rattle.life_sweep.proofs.sweep.next_square.Goals as goal
 use Rattle.life_sweep.proofs.sweep.next_square.Goals.{After-draw_row}
+use Rattle.life_sweep.proofs.sweep.next_square.Goals as goal
 
 pub loop-band-init : goal.loop-band-init
 loop-band-init g c =

@@ -3,7 +3,7 @@ use Rattle.life_quad.specs.Keeping.{KeepsSquares, AddsOnly}
 use Rattle.life_sweep.specs.Refused.{SomeNext}
 use Rattle.life_sweep.specs.RunBuilder.{IsHolding, drawn_runs}
 use Rattle.life_strip.specs.Given.{state_by}
-use Rattle.life_sweep.specs.Generation.{one_after}
+use Rattle.life_next.specs.Generation.{one_after}
 use Rattle.life_sweep.specs.Rows.{IsSoundBand, IsBandBelow, IsBandOfRows, rows_left}
 use Rattle.life_sweep.specs.Sweep.{IsReadyRow, IsSorted, IsSweptRows}
 use Rattle.life_sweep.proofs.sweep.next_square.Given as goal

@@ -5,7 +5,7 @@ use Rattle.life_quad.proofs.KeepingLemmas.{keeps-then}
 use Rattle.life_rows.specs.Stepping.{AreCellsTo}
 use Rattle.life_rows.proofs.ThreeRowsLemmas.{rows-all}
 use Rattle.life_strip.specs.Given.{state_by}
-use Rattle.life_sweep.specs.Generation.{next_life}
+use Rattle.life_next.specs.Generation.{next_life}
 use Rattle.life_rows.proofs.three_rows.ThreeRows.finish.Goals as goal
 
 some-by : {T E : Type 0} {P Q : T → Type 0} (r : Result T E) (o : Option T) → o ≡ result_ok r → IfOk r P → ((x : T) → P x → Q x) → IfSome o Q

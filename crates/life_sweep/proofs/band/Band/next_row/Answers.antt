@@ -4,8 +4,8 @@ use Rattle.std.proofs.lemmas.Bool.Decides.{eqb_tells}
 use Rattle.life_base.proofs.Numbers.{not_zero}
 use Rattle.life_sweep.specs.Rows.{IsInside}
 use Rattle.life_sweep.proofs.BandLemmas.{first-is, begins, next-within}
-use Rattle.life_sweep.proofs.band.Band.next_row.Goals as goal
 use Rattle.life_sweep.proofs.band.Band.next_row.Goals.{then-not-is_empty-via-then-not-is_empty, then-not-is_empty-via-else-not-is_empty+then-not-is_empty-2}
+use Rattle.life_sweep.proofs.band.Band.next_row.Goals as goal
 
 none : (n : ℕ) → (n == 0) ≡ true → n ≡ 0
 none n e = elim (eqb_tells n 0) [ inl z ↦ z.1 | inr k ↦ absurd (true≢false (sym e ∙ k.0)) ]

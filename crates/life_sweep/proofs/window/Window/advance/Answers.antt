@@ -1,6 +1,6 @@
 use Rattle.std.proofs.Common.{◌≡◌, ◌⊎◌, true, sym, subst, arith, w64, to_z, of_z, pos, ◌+ℤ◌, ◌<ℤ◌, ◌∙◌, ap}
 use Rattle.std.proofs.lemmas.Int.{ints}
-use Rattle.life_sweep.specs.Generation.{one_after}
+use Rattle.life_next.specs.Generation.{one_after}
 use Rattle.life_sweep.specs.Rows.{IsNextPlace, AreRows, SomeStartsAt, is_blank_column, far, column_at}
 use Rattle.life_sweep.proofs.WindowLemmas.{ready, ready-rows, goes-east, goes-on, fewer-steps, middle-end}
 use Rattle.life_sweep.proofs.window.Window.advance.Goals as goal

@@ -1,6 +1,6 @@
 use Rattle.std.proofs.Common.{◌≡◌, true, inr, subst, arith, w64, to_z, of_z, pos, ◌-ℤ◌, rules}
 use Rattle.std.proofs.lemmas.Int.{ints}
-use Rattle.life_sweep.specs.Generation.{one_after}
+use Rattle.life_next.specs.Generation.{one_after}
 use Rattle.life_sweep.specs.Rows.{InRows, StartsFrom, SomeStartsAt, is_blank_column}
 use Rattle.life_sweep.proofs.window.Window.next_place.Goals as goal
 

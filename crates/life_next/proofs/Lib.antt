@@ -1,0 +1,4 @@
+pub mod CountLemmas
+pub mod NextLemmas
+pub mod Rows
+pub mod WordLemmas
