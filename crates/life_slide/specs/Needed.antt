@@ -5,7 +5,7 @@ use Rattle.life_quad.specs.Refused.{SomePart}
 use Rattle.life_quad.specs.declared.id.Id.{Id}
 use Rattle.life_quad.specs.declared.moves.Quarters.{Quarters}
 use Rattle.life_pieces.specs.Pieces.{square_from}
-use Rattle.life_pieces.specs.Pieces.{step_ahead}
+use Rattle.life_pieces.specs.Pieces.{Nine, step_ahead}
 use Rattle.life_slide.specs.Pieces.{AreNinePieces, IsBlock}
 
 -- Both say that a square has a property which is part of the square that begins so many columns east and rows south of the first of several squares,

@@ -1,5 +1,4 @@
-use Rattle.std.proofs.Common.{◌∙◌, arith, refl, ◌%◌}
-use Rattle.life_pieces.specs.Pieces.{square_from}
+use Rattle.std.proofs.Common.{◌∙◌, arith}
 use Rattle.life_slide.proofs.LeafLemmas.{leaf-of_bits}
 use Rattle.life_slide.proofs.leaf.leaf_of_block.Goals as goal
 

@@ -1,4 +1,4 @@
-use Rattle.std.proofs.Common.{◌≡◌, ℕ, ◌/◌, ◌%◌, ◌^◌, ◌==◌, ◌⊎◌, inl, inr, ◌+◌, ◌-◌, sym, ◌∙◌, ap, subst, arith}
+use Rattle.std.proofs.Common.{◌≡◌, ℕ, ◌/◌, ◌%◌, ◌^◌, ◌==◌, ◌⊎◌, inl, inr, ◌-◌, sym, ◌∙◌, ap, subst, arith}
 use Rattle.life_base.specs.Tree.{Tree, depth, quad, IsFull}
 use Rattle.life_quad.specs.declared.id.Id.{Id}
 use Rattle.life_slide.specs.Parts.{AreAlike, IsLike, TableGives, key_of_quarters}

@@ -1,4 +1,4 @@
-use Rattle.std.proofs.Common.{◌≡◌, ◌∙◌}
+use Rattle.std.proofs.Common.{◌∙◌}
 use Rattle.life_slide.proofs.PartLemmas.{seen-alike}
 use Rattle.life_slide.proofs.parts.with_firsts.Goals as goal
 

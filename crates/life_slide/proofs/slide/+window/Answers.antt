@@ -10,7 +10,7 @@ returns-clause-begins g t c cells x y h =
     let low : 1 ≤ k = omega (arith, c.if-level-low.false, c.requires.low) in
     let level : k - 1 + 1 ≡ k = omega (arith, low) in
     let n = nine-of content c.args.offset.columns c.args.offset.rows k c.digit.result c.digit-2.result low c.quarters-nine.ensures.pieces cells x y h in
-    let b = c.window.ensures.begins cells _ _ (block-western content cells c.western.ensures n.first n.second) in
+    let b = c.window.ensures.begins cells _ _ (block-western content cells c.western.ensures n.before n.here) in
     record {
       west = b.west;
       north = b.north;

@@ -1,4 +1,4 @@
-use Rattle.std.proofs.Common.{◌≡◌, ◌∙◌, sym}
+use Rattle.std.proofs.Common.{sym}
 use Rattle.life_slide.proofs.EntryLemmas.{looked-up}
 use Rattle.life_slide.proofs.table.Table.get.Goals as goal
 
