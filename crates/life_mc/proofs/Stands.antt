@@ -189,6 +189,16 @@ module _ (top : ℕ) (lines : List (List ℕ)) (line : List ℕ) (old new : Stan
         },
       )
 
+  -- and what is returned for it
+  pub keeps_next : (parsed : ParsedLine) {E : Type 0} (r : Result (Option Line) E) → let form = form_of parsed in
+      old.started ≡ true → broken_after top old.rule old.levels line ≡ None → IsParsed line parsed
+      → IfOk r (λ found. found ≡ form_square form) → OnOk r (new.rule ≡ unwrap_or (form_rule form) old.rule)
+      → OnOk r (new.generation ≡ unwrap_or (form_generation form) old.generation)
+      → OnOk r (new.levels ≡ old.levels ++ level_in (form_square form)) → new.started ≡ old.started
+      → IfOk r (λ found. (found ≡ square_after lines line) × StandsAfter top (lines ++ line ∷ []) new)
+  keeps_next parsed (Ok found) t b tells p r g l st = let n = stands_next parsed t b tells st r g l in (p ∙ n.0, n.1)
+  keeps_next parsed (Err e) t b tells p r g l st = tt
+
 -- ---- a rule line or a generation line
 
 pub rule_breaks : (top : ℕ) (rule : Rule) (levels : List ℕ) (line : List ℕ) → is_blank line ≡ false → begins_with line (codes "#FRAME") ≡ false
@@ -215,11 +225,6 @@ generation_parsed_so line n r g e = (
   ap (λ v. cond v (Some (value_of (trim (drop 2 line)))) None) g ∙ ap Some (sym e),
   hash_no_square line (command_is_hash 0 71 line g),
 )
-
-pub combine : {X E : Type 0} {P Q : X → Type 0} {A B C : Type 0} (r : Result X E) → IfOk r P → OnOk r A → OnOk r B → OnOk r C
-    → ((x : X) → P x → A → B → C → Q x) → IfOk r Q
-combine (Ok x) p a b c f = f x p a b c
-combine (Err e) p a b c f = tt
 
 pub none_left : (levels : List ℕ) (v : Bool) → v ≡ (length levels == 0) → v ≡ true → nat_lt 0 (length levels) ≡ false
 none_left levels v e h = grind (arith, nat_tests)
