@@ -77,9 +77,14 @@ pub made-grows : {X : Type 0} {S : Ghosts X} {old new : X} {t : Tree} {N : (Tree
     → Grows S old new r N
 made-grows r call = only-grows (record { keeps = call.keeps; refusals = call.refusals; needed = call.needed; adds = call.adds })
 
--- a join that is refused after other calls, and this is passed on
+-- a join after other calls
+pub join-grows : {X : Type 0} {S : Ghosts X} {old mid new : X} {t : Tree} (M : (Tree → Type 0) → Type 0) (r : Result Id Kind)
+    → KeepsStore S old mid → AddsOnly S.stored M old mid → Joins S.knows S.content S.stored S.most S.needs_node mid new t r
+    → ((P : Tree → Type 0) → P t → M P) → Grows S old new r M
+join-grows M r keeps adds join more = grows-behind M keeps adds (made-grows r (joined r join)) more
+
+-- one that is refused, and this is passed on
 pub join-refused : {X A : Type 0} {S : Ghosts X} {old mid new : X} {t : Tree} {e : Kind} (M : (Tree → Type 0) → Type 0) {r : Result A Kind}
     → KeepsStore S old mid → AddsOnly S.stored M old mid → Joins S.knows S.content S.stored S.most S.needs_node mid new t (Err e) → IsErrAnd r (λ y. y ≡ e)
     → ((P : Tree → Type 0) → P t → M P) → Grows S old new r M
-join-refused {e = e} M keeps adds join reported more =
-    grows-err M (grows-behind M keeps adds (made-grows (Err e) (joined (Err e) join)) more) reported (λ P a. a)
+join-refused {e = e} M keeps adds join reported more = grows-err M (join-grows M (Err e) keeps adds join more) reported (λ P a. a)

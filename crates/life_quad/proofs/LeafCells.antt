@@ -6,8 +6,6 @@ use Rattle.life_base.proofs.Squares.{depth-blank}
 use Rattle.life_quad.specs.declared.id.Id.{Id}
 use Rattle.life_quad.specs.declared.id.Node.{Node}
 use Rattle.life_base.specs.declared.kind.Kind.{Kind}
-use Rattle.life_quad.specs.Keeping.{AddsOnly}
-use Rattle.life_quad.specs.Refused.{SomePart}
 use Rattle.life_quad.specs.Store.{Nodes, two, four, eight, small_of, id_of, square_of, node_square, is_bit_id, is_digit_id, content, squares, stored_squares, small_number_of, IsNode, Knows, IsShared, AnswersJoin}
 use Rattle.life_quad.specs.SmallLaws.{all_four, bit, is_digit, square_of-bit, square_of-digit}
 use Rattle.life_quad.specs.StoreLaws.{Kinds, a_state, a_blank, a_small, a_node, kind_of}
@@ -15,7 +13,6 @@ use Rattle.life_quad.proofs.SmallCells.{cells_named, no_cells, two_is}
 use Rattle.life_quad.proofs.SmallLemmas.{of_none}
 use Rattle.life_quad.proofs.StoreLemmas.{square_of-small}
 use Rattle.life_quad.proofs.CallLemmas.{square_of-blank, node_of, is_blank-joined, IsNode-joined, is_wanted, join_answers}
-use Rattle.life_quad.proofs.KeepingLemmas.{adds-then}
 use Rattle.life_quad.proofs.MakingLemmas.{Joins}
 
 -- ---- the cells of four squares of level 2
@@ -141,17 +138,6 @@ eight_not_blank n l some = by (is_blank_tree (eight n)) refl
     by : (b : Bool) → is_blank_tree (eight n) ≡ b → b ≡ false
     by false e = refl
     by true e = absurd (let z = eight_blank n l e in omega (arith, z, some))
-
--- ---- calls that make the quarters one after the other
-
--- what the first two add, and the first three
-module _ {S : Type 0} {stored : S → List Tree} (cells : ℕ) {o s_1 s_2 : S} (nw : AddsOnly stored (λ P. SomePart P (four (cells / 281474976710656))) o s_1)
-    (ne : AddsOnly stored (λ P. SomePart P (four (cells / 4294967296 % 65536))) s_1 s_2) where
-  pub adds_2 : AddsOnly stored (λ P. SomePart P (eight cells)) o s_2
-  adds_2 = adds-then _ nw ne (λ P p. inr (inl p)) (λ P p. inr (inr (inl p)))
-
-  pub adds_3 : {s_3 : S} → AddsOnly stored (λ P. SomePart P (four (cells / 65536 % 65536))) s_2 s_3 → AddsOnly stored (λ P. SomePart P (eight cells)) o s_3
-  adds_3 sw = adds-then _ adds_2 sw (λ P p. p) (λ P p. inr (inr (inr (inl p))))
 
 -- four known squares as the quarters of the one with these cells, which aren't all 0
 module _ (s : Nodes) (n : ℕ) (l : n < 2 ^ 64) (some : 0 < n) (nw ne sw se : Id) (a : Knows s nw) (b : Knows s ne) (c : Knows s sw) (d : Knows s se)

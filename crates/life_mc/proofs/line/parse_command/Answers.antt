@@ -1,5 +1,4 @@
 use Rattle.std.proofs.Common.{◌≡◌, ◌∙◌, ◌-◌, ap, sym, inl, inr, drop, take, length, Ok, Err, List, ℕ, ◌⊎◌, Option, Some}
-use Rattle.std.proofs.lemmas.Result.{err_from_is_err_and}
 use Rattle.life_base.specs.Text.{trim, value_of}
 use Rattle.life_base.specs.Numbers.{u64_of}
 use Rattle.life_base.specs.Refusal.{Answers}
@@ -10,6 +9,7 @@ use Rattle.life_base.specs.declared.kind.Kind.TheVariants.{Memory}
 use Rattle.life_base.specs.declared.rule.Rule.{Rule}
 use Rattle.life_base.proofs.LineEnds.{all_behind}
 use Rattle.std.specs.Result.{result_err}
+use Rattle.life_base.proofs.Results.{error_is}
 use Rattle.life_mc.proofs.Stands.{rule_breaks, rule_parsed_so, generation_breaks, generation_parsed_so, none_left}
 use Rattle.life_mc.proofs.line.parse_command.Goals as goal
 
@@ -26,11 +26,10 @@ pub returns-in_err-parse : goal.returns-in_err-parse
 returns-in_err-parse c =
     let line = c.args.line.now in
     let levels = c.args.levels.now in
-    let p = err_from_is_err_and c.from_residual.result c.from_residual.ensures.1 in
     let breaks = rule_breaks MAX_LEVEL c.args.rule.now levels line
     (sym c.is_blank.ensures ∙ c.if-is_blank.false) (sym c.begins_with.ensures ∙ c.if-begins_with.false)
     (sym c.is_command.ensures ∙ c.if-is_command.true) (none_left levels c.is_empty.result c.is_empty.ensures c.if-not-is_empty.false) in
-    rw (p.1, p.2) (rule_refused line c.in_err-parse.field-0.0 _ breaks c.in_err-parse.ensures)
+    rw (error_is c.from_residual.result c.from_residual.ensures.1) (rule_refused line c.in_err-parse.field-0.0 _ breaks c.in_err-parse.ensures)
 
 pub returns-then-is_command : goal.returns-then-is_command
 returns-then-is_command c =
@@ -47,12 +46,12 @@ pub returns-in_err-read_generation : goal.returns-in_err-read_generation
 returns-in_err-read_generation c =
     let line = c.args.line.now in
     let levels = c.args.levels.now in
-    let p = err_from_is_err_and c.from_residual-in_err-read_generation.result c.from_residual-in_err-read_generation.ensures.1 in
     let breaks = generation_breaks MAX_LEVEL c.args.rule.now levels line
     (sym c.is_blank.ensures ∙ c.if-is_blank.false) (sym c.begins_with.ensures ∙ c.if-begins_with.false)
     (sym c.is_command.ensures ∙ c.if-is_command.false) (sym c.is_command-2.ensures ∙ c.if-is_command-2.true)
     (none_left levels c.is_empty-then-is_command-2.result c.is_empty-then-is_command-2.ensures c.if-not-is_empty-2.false) in
-    rw (p.1, p.2) (inr (breaks ∙ ap (λ (t : List ℕ). result_err (u64_of (trim t))) (sym (all_behind line 2)) ∙ c.in_err-read_generation.ensures))
+    rw (error_is c.from_residual-in_err-read_generation.result c.from_residual-in_err-read_generation.ensures.1)
+    (inr (breaks ∙ ap (λ (t : List ℕ). result_err (u64_of (trim t))) (sym (all_behind line 2)) ∙ c.in_err-read_generation.ensures))
 
 pub returns-then-is_command-2 : goal.returns-then-is_command-2
 returns-then-is_command-2 c =

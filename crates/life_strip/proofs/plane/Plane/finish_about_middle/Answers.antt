@@ -12,9 +12,11 @@ use Rattle.life_strip.specs.Needed.{SomeSquare}
 use Rattle.life_strip.specs.Pile.{pile_height, pile_state, pile_state_with}
 use Rattle.life_strip.specs.Plane.{IsFilled, cell_so_far, state_so_far}
 use Rattle.life_strip.proofs.MiddlePlanes.{blank-north, cells-of-middle, least-high, level-of-middle, needs-of-middle, whole-cells, whole-level, whole-needs}
-use Rattle.life_strip.proofs.MiddleConsumed.{southern-of, consumed-height, consumed-pile, with-beyond}
+use Rattle.life_strip.proofs.MiddleConsumed.{IsSouthern, southern-of, consumed-height, consumed-pile, with-beyond}
 use Rattle.life_strip.proofs.RowLemmas.{with-above}
+use Rattle.life_strip.proofs.plane.Plane.finish_about_middle.Given.{Over}
 use Rattle.life_strip.proofs.plane.Plane.finish_about_middle.Goals as goal
+use Rattle.life_strip.proofs.plane.Plane.finish_about_middle.Goals.{After-about_middle}
 
 ok-by : {T : Type 0} {P Q : T → Type 0} (r : Result T Kind) → IfOk r P → ((x : T) → P x → Q x) → IfOk r Q
 ok-by (Ok x) p f = f x p
@@ -98,38 +100,26 @@ returns-then-not-take_northern_half-clause-grows g c =
     (c.take_northern_half.ensures.cell c.if-not-take_northern_half.true)) P
     (subst (λ (p : Pile). SomeSquare P (2 ^ MAX_LEVEL) (pile_state_with C p c.args.self.row)) left n))
 
+-- ---- the cells from the middle on
+
+southern : (g : Over) (c : After-about_middle g) → let C = g.S.Squares.content c.args.squares.now in
+    IsSouthern (state_so_far C c.args.self) (pile_state_with C c.take_northern_half.new.self c.args.self.row) (c.args.self.rows - half_plane)
+southern g c =
+    southern-of (g.S.Squares.content c.args.squares.now) c.args.self.pile c.take_northern_half.new.self c.args.self.row c.args.self.rows
+    (c.take_northern_half.ensures.consumed c.if-not-take_northern_half.false) c.requires.filled.rows
+    c.if-rows-lt-HALF.false c.requires.filled.most c.requires.cell
+
 pub returns-clause-level : goal.returns-clause-level
 returns-clause-level g c =
-    let C = g.S.Squares.content c.args.squares.now in
-    let self = c.args.self in
-    let new = c.take_northern_half.new.self in
-    let f = state_so_far C self in
-    let h = pile_state_with C new self.row in
-    let r = self.rows - half_plane in
-    let s = southern-of C self.pile new self.row self.rows (c.take_northern_half.ensures.consumed c.if-not-take_northern_half.false) c.requires.filled.rows
-    c.if-rows-lt-HALF.false c.requires.filled.most c.requires.cell in
-    ok-by c.about_middle.result c.about_middle.ensures.square (λ id is. level-of-middle f h r s.north s.south s.beyond s.last s.few _ is)
+    let s = southern g (goal.at.returns-clause-level g c).After-about_middle in
+    ok-by c.about_middle.result c.about_middle.ensures.square (λ id is. level-of-middle _ _ _ s.north s.south s.beyond s.last s.few _ is)
 
 pub returns-clause-cells : goal.returns-clause-cells
 returns-clause-cells g c =
-    let C = g.S.Squares.content c.args.squares.now in
-    let self = c.args.self in
-    let new = c.take_northern_half.new.self in
-    let f = state_so_far C self in
-    let h = pile_state_with C new self.row in
-    let r = self.rows - half_plane in
-    let s = southern-of C self.pile new self.row self.rows (c.take_northern_half.ensures.consumed c.if-not-take_northern_half.false) c.requires.filled.rows
-    c.if-rows-lt-HALF.false c.requires.filled.most c.requires.cell in
-    ok-by c.about_middle.result c.about_middle.ensures.square (λ id is. cells-of-middle f h r s.north s.south s.beyond s.last s.few _ is)
+    let s = southern g (goal.at.returns-clause-cells g c).After-about_middle in
+    ok-by c.about_middle.result c.about_middle.ensures.square (λ id is. cells-of-middle _ _ _ s.north s.south s.beyond s.last s.few _ is)
 
 pub returns-clause-grows : goal.returns-clause-grows
 returns-clause-grows g c =
-    let C = g.S.Squares.content c.args.squares.now in
-    let self = c.args.self in
-    let new = c.take_northern_half.new.self in
-    let f = state_so_far C self in
-    let h = pile_state_with C new self.row in
-    let r = self.rows - half_plane in
-    let s = southern-of C self.pile new self.row self.rows (c.take_northern_half.ensures.consumed c.if-not-take_northern_half.false) c.requires.filled.rows
-    c.if-rows-lt-HALF.false c.requires.filled.most c.requires.cell in
-    grows-as _ c.about_middle.ensures.grows (needs-of-middle f h r s.north s.south s.beyond s.last s.few)
+    let s = southern g (goal.at.returns-clause-grows g c).After-about_middle in
+    grows-as _ c.about_middle.ensures.grows (needs-of-middle _ _ _ s.north s.south s.beyond s.last s.few)
