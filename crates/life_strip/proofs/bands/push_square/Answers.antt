@@ -1,5 +1,6 @@
 use Rattle.std.proofs.Common.{sym, ◌∙◌, ap, arith}
-use Rattle.std.proofs.lemmas.Result.{err_from_is_err_and, on_ok_weaker}
+use Rattle.std.proofs.lemmas.Result.{on_ok_weaker}
+use Rattle.life_base.proofs.Results.{error_is}
 use Rattle.life_base.specs.Tree.{depth}
 use Rattle.life_quad.specs.Store.{four}
 use Rattle.life_quad.proofs.GrowsLemmas.{grows-still, grows-same}
@@ -32,8 +33,7 @@ returns-then-cells-eq0-clause-grows g c = grows-same _ c.args.squares.now tt
 pub returns-in_err-id-clause-grows : goal.returns-in_err-id-clause-grows
 returns-in_err-id-clause-grows g c =
     let small = c.in_err-id.ensures in
-    let p = err_from_is_err_and c.from_residual.result c.from_residual.ensures.1 in
-    record { keeps = small.keeps; refusals = rw (p.1, p.2) small.refusals; needed = λ e. small.needed; adds = small.adds }
+    record { keeps = small.keeps; refusals = rw (error_is c.from_residual.result c.from_residual.ensures.1) small.refusals; needed = λ e. small.needed; adds = small.adds }
 
 pub returns-clause-grows : goal.returns-clause-grows
 returns-clause-grows g c = let small = c.in_ok-id.ensures in grows-still _ small.keeps small.adds c.extend.ensures.refusals
