@@ -6,7 +6,7 @@ use Rattle.life_base.proofs.Squares.{blank_is}
 use Rattle.life_base.proofs.Basics.{double, left_of_and, right_of_and}
 use Rattle.life_quad.specs.declared.id.Id.{Id}
 use Rattle.life_quad.specs.declared.moves.Quarters.{Quarters}
-use Rattle.life_pieces.specs.Pieces.{IsPiece, step_ahead, step_back}
+use Rattle.life_pieces.specs.Pieces.{IsOfLevel, IsPiece, step_ahead, step_back}
 use Rattle.life_pieces.proofs.PieceLemmas.{twice, pieces-of, zero-of_blank}
 use Rattle.life_leap.specs.Edge.{HasNonzeroCell, IsInBox, IsInRing, TestsBlank, three_ahead}
 use Rattle.life_leap.specs.Grid.{AreThreeSquares, AreTripleFrom}
@@ -226,6 +226,11 @@ pub record IsParted (content : Id → Tree) (k : ℕ) (id : Id) (q : Quarters) :
   pub is : content id ≡ quad (content q.nw) (content q.ne) (content q.sw) (content q.se)
   pub level : depth (content q.nw) ≡ k
 
+pub parted : {knows : Id → Type 0} {content : Id → Tree} {k : ℕ} {id : Id} {q : Quarters} → ((id : Id) → knows id → IsFull (content id))
+    → IsOfLevel knows content (k + 1) id → content id ≡ quad (content q.nw) (content q.ne) (content q.sw) (content q.se)
+    → depth (content q.nw) + 1 ≡ depth (content id) → IsParted content k id q
+parted full at is below = record { full = full _ at.known; is = is; level = (let a = at.level in omega (arith, a, below)) }
+
 pub three-tests : (cells : ℤ → ℤ → ℕ) (P : ℤ → ℤ → Type 0) (r m a b c d e f : Bool) → r ≡ (a && m) → m ≡ (b && c) → a ≡ d → b ≡ e → c ≡ f
     → TestsBlank cells P (d && (e && f)) → TestsBlank cells P r
 three-tests cells P r m a b c d e f first second x y z h =
@@ -310,72 +315,56 @@ module _ (cells : ℤ → ℤ → ℕ) (k : ℕ) (start : ℤ) where
   in-north x y h =
       let a = twice k in
       let b = four in
-      let w = h.west_of in
-      let e = h.east_of in
-      let n = h.north_of in
-      let s = h.south_of in
       record {
         near = record {
-          west_of = w;
-          east_of = omega (arith, ints, a, b, e);
-          north_of = n;
-          south_of = omega (arith, ints, a, b, s);
+          west_of = h.west_of;
+          east_of = omega (arith, ints, a, b, h.east_of);
+          north_of = h.north_of;
+          south_of = omega (arith, ints, a, b, h.south_of);
         };
-        outside = λ i. let c = i.north_of in omega (arith, ints, c, s);
+        outside = λ i. let c = i.north_of in omega (arith, ints, c, h.south_of);
       }
 
   in-south : (x y : ℤ) → IsInSouth x y → IsInWhole x y
   in-south x y h =
       let a = twice k in
       let b = four in
-      let w = h.west_of in
-      let e = h.east_of in
-      let n = h.north_of in
-      let s = h.south_of in
       record {
         near = record {
-          west_of = w;
-          east_of = omega (arith, ints, a, b, e);
-          north_of = omega (arith, ints, a, b, n);
-          south_of = omega (arith, ints, a, b, s);
+          west_of = h.west_of;
+          east_of = omega (arith, ints, a, b, h.east_of);
+          north_of = omega (arith, ints, a, b, h.north_of);
+          south_of = omega (arith, ints, a, b, h.south_of);
         };
-        outside = λ i. let c = i.south_of in omega (arith, ints, a, b, c, n);
+        outside = λ i. let c = i.south_of in omega (arith, ints, a, b, c, h.north_of);
       }
 
   in-west : (x y : ℤ) → IsInWest x y → IsInWhole x y
   in-west x y h =
       let a = twice k in
       let b = four in
-      let w = h.west_of in
-      let e = h.east_of in
-      let n = h.north_of in
-      let s = h.south_of in
       record {
         near = record {
-          west_of = w;
-          east_of = omega (arith, ints, a, b, e);
-          north_of = n;
-          south_of = omega (arith, ints, a, b, s);
+          west_of = h.west_of;
+          east_of = omega (arith, ints, a, b, h.east_of);
+          north_of = h.north_of;
+          south_of = omega (arith, ints, a, b, h.south_of);
         };
-        outside = λ i. let c = i.west_of in omega (arith, ints, c, e);
+        outside = λ i. let c = i.west_of in omega (arith, ints, c, h.east_of);
       }
 
   in-east : (x y : ℤ) → IsInEast x y → IsInWhole x y
   in-east x y h =
       let a = twice k in
       let b = four in
-      let w = h.west_of in
-      let e = h.east_of in
-      let n = h.north_of in
-      let s = h.south_of in
       record {
         near = record {
-          west_of = omega (arith, ints, a, b, w);
-          east_of = omega (arith, ints, a, b, e);
-          north_of = n;
-          south_of = omega (arith, ints, a, b, s);
+          west_of = omega (arith, ints, a, b, h.west_of);
+          east_of = omega (arith, ints, a, b, h.east_of);
+          north_of = h.north_of;
+          south_of = omega (arith, ints, a, b, h.south_of);
         };
-        outside = λ i. let c = i.east_of in omega (arith, ints, a, b, c, w);
+        outside = λ i. let c = i.east_of in omega (arith, ints, a, b, c, h.west_of);
       }
 
   cell-of : (P : ℤ → ℤ → Type 0) → ((x y : ℤ) → P x y → IsInWhole x y) → HasNonzeroCell cells P → HasNonzeroCell cells IsInWhole

@@ -79,12 +79,6 @@ module _ {S : Type 0} {knows : S → Id → Type 0} {content : S → Id → Tree
         se = IsPiece-kept keeps cells _ _ known.se h.se;
       }
 
-  pub four-known-kept : {k : ℕ} {b : Quarters} → InFourIds (IsOfLevel (knows old) (content old) k) b → InFourIds (IsOfLevel (knows new) (content new) k) b
-  four-known-kept h = in-four (λ id at. IsAt-kept keeps at) h
-
-  pub row-known-kept : {k : ℕ} {r : Row Id} → InRow (IsOfLevel (knows old) (content old) k) r → InRow (IsOfLevel (knows new) (content new) k) r
-  row-known-kept h = in-row (λ id at. IsAt-kept keeps at) h
-
   pub triple-known-kept : {k : ℕ} {t : Triple Id} → InTriple (IsOfLevel (knows old) (content old) k) t → InTriple (IsOfLevel (knows new) (content new) k) t
   triple-known-kept h = in-triple (λ id at. IsAt-kept keeps at) h
 

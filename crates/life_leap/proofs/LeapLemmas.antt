@@ -124,12 +124,6 @@ fast-length pace k low fast =
     let w = halves k low in
     omega (arith, g, h, w)
 
--- up to this level a leap of any pace is as long as it can be
-pub fastest-length : (pace k : ℕ) → pace ≤ 60 → k ≤ pace + 2 → leap_length 60 k ≡ leap_length pace k
-fastest-length pace k slow low =
-    let e : min 60 (k - 2) ≡ min pace (k - 2) = omega (arith, slow, low) in
-    ap (λ n. 2 ^ n) e
-
 -- the doubling step
 pub leap-of_parts : (rule : OuterTotalistic) (pace k : ℕ) (old next : Id → Tree) (t u : Tree) (sixteen : SixteenIds) (nine : NineIds) → 1 ≤ k
     → ((cells : ℤ → ℤ → ℕ) (x y : ℤ) → IsPiece cells x y t → AreSixteenSquares old cells (2 ^ k) x y sixteen)
