@@ -143,17 +143,6 @@ no_cap n word e h = omega (arith, e, h)
 
 -- ---- a number in the making
 
-pub no_digits : (text : List ℕ) (from : ℕ) → from ≤ length text → WritesBetween text from from 0
-no_digits text from h =
-    let none : from - from ≡ 0 = omega arith in
-    record {
-      start = omega arith;
-      within = h;
-      digits = rw none refl;
-      value = rw none refl;
-      small = rw none (omega arith);
-    }
-
 pub digit_more : (text : List ℕ) (from at number digit : ℕ) → WritesBetween text from at number → at < length text
     → is_ascii_digit (get_or text at 0) ≡ true → digit ≡ get_or text at 0 - 48 → WritesBetween text from (at + 1) (number * 10 + digit)
 digit_more text from at number digit held within is value = record {

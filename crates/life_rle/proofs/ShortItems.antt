@@ -63,17 +63,6 @@ pub state-byte : (line : List ℕ) (place b state : ℕ) → place < length line
 state-byte line place b state h e k =
     ap leading_state (text_at line place h ∙ ap (λ c. c ∷ drop (place + 1) line) e) ∙ one-byte b state (drop (place + 1) line) k
 
--- a state of two bytes at a place
-pub state-bytes : (line : List ℕ) (place state : ℕ) → place + 1 < length line → single_state (get_or line place 0) ≡ None
-    → prefixed_state (get_or line place 0) (get_or line (place + 1) 0) ≡ Some state → leading_state (drop place line) ≡ Some (state, drop (place + 2) line)
-state-bytes line place state h none k =
-    let b = get_or line place 0 in
-    let c = get_or line (place + 1) 0 in
-    let two : drop place line ≡ b ∷ c ∷ drop (place + 1 + 1) line =
-    text_at line place (omega (arith, h)) ∙ ap (λ t. b ∷ t) (text_at line (place + 1) h) in
-    let behind : place + 1 + 1 ≡ place + 2 = omega arith in
-    ap leading_state two ∙ two-bytes b c state (drop (place + 1 + 1) line) none k ∙ ap (λ n. Some (state, drop n line)) behind
-
 -- an item without a digit
 no-digit : (line : List ℕ) (at : ℕ) → at + 1 < length line → IsShortItem MAX_LEVEL line at 1 at
 no-digit line at h = record {
@@ -133,31 +122,6 @@ is-short line at h =
   where
     plus-zero : (n : ℕ) → n + 0 ≡ n
     plus-zero n = omega arith
-
--- cells whose state is one byte, without a count
-pub bare-cells : (line : List ℕ) (at state : ℕ) → at + 1 < length line → single_state (get_or line at 0) ≡ Some state → state ≤ 255
-    → AreShortCells MAX_LEVEL line at 1 state (at + 1)
-bare-cells line at state h k small = record {
-  inside = (omega arith, omega arith);
-  few = omega arith;
-  small = small;
-  read = (no-digit line at h).spelled state (drop (at + 1) line) (state-byte line at (get_or line at 0) state (omega (arith, h)) refl k);
-}
-
--- a state after what may be a count
-pub counted-cells : (line : List ℕ) (at count place state behind : ℕ) → IsShortItem MAX_LEVEL line at count place → IsStateAt line place state behind
-    → AreShortCells MAX_LEVEL line at count state behind
-counted-cells line at count place state behind item found =
-    let low = item.inside.0 in
-    let high = item.inside.1 in
-    let from = found.inside.0 in
-    let to = found.inside.1 in
-    record {
-      inside = (omega (arith, low, from), omega (arith, high, to));
-      few = item.few;
-      small = found.small;
-      read = item.spelled state (drop behind line) found.read;
-    }
 
 -- states 0 and 1 are of every rule
 pub low-state : (rule : Rule) (state : ℕ) → state ≤ 1 → is_state_of rule state ≡ true

@@ -116,14 +116,6 @@ module _ (blocks : List Block) (done : ℕ) (p : BlockPlace) (h : IsAtBlock bloc
         by false e = let lt : number < p.start = grind arith in omega (arith, lt)
 
     module _ (next : ℕ) (reach : next ≤ block_goes_to p number) where
-      -- no farther than where its place ends
-      pub at-reach : next ≤ p.end
-      at-reach = let o = h.order in by o (nat_le p.start number) reach
-        where
-          by : p.start ≤ p.end → (t : Bool) → next ≤ (if t then p.end else p.start) → next ≤ p.end
-          by o true r = r
-          by o false r = omega (arith, o, r)
-
       -- one word goes on
       at-word : (n : ℕ) → done ≤ n → number ≤ n → n < next → cells_at_block blocks n ≡ word_in p number
       at-word n from later lt = by (nat_le p.start number) refl reach

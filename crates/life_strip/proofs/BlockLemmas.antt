@@ -474,6 +474,3 @@ module _ (blocks : List Block) (are : AreRowBlocks blocks) where
             (blocks-over blocks (c / 64) (λ k d lt. let end = (are.each k d lt).within in omega (arith, end, beyond)))
             ∙ ap point (bit_at-zero (63 - c % 64)))
       ]
-
-      pub spans-within : AreWithin 0 spans
-      spans-within = spans-end.before

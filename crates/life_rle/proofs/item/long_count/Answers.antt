@@ -1,6 +1,6 @@
 use Rattle.std.proofs.Common.{◌≡◌, ◌∙◌, ◌+◌, ◌≤◌, ap, arith, rules, drop, length}
-use Rattle.std.proofs.lemmas.Result.{err_from_is_err_and}
 use Rattle.std.proofs.Math.ListN.{drop_of_length-le}
+use Rattle.life_base.proofs.Results.{error_is}
 use Rattle.life_base.proofs.LineEnds.{all_behind}
 use Rattle.life_base.specs.declared.cell.TheConstants.{MAX_LEVEL}
 use Rattle.life_base.specs.declared.kind.Kind.{Kind}
@@ -18,8 +18,7 @@ returns-in_err-check_count c =
     let kind : Kind = c.in_err-check_count.field-0.0 in
     let answer : next_of MAX_LEVEL (drop c.args.at line) ≡ Broken kind =
     found.reported ∙ c.in_err-check_count.ensures.err (leading_digits (drop c.args.at line)) (drop (c.args.at + read.result.1) line) found.digits found.value in
-    let p = err_from_is_err_and c.from_residual.result c.from_residual.ensures.1 in
-    rw (p.1, p.2) answer
+    rw (error_is c.from_residual.result c.from_residual.ensures.1) answer
 
 pub returns-then-at-digits : goal.returns-then-at-digits
 returns-then-at-digits c =

@@ -1,5 +1,5 @@
 use Rattle.std.proofs.Common.{◌≡◌, ◌⊎◌, Some, sym, subst, inl, inr, drop, ℤ, w64, to_z, of_z, to_z-of_z, FitsSigned, rules}
-use Rattle.std.proofs.lemmas.Result.{err_from_is_err_and}
+use Rattle.life_base.proofs.Results.{error_is}
 use Rattle.life_base.specs.declared.kind.Kind.{Kind}
 use Rattle.life_base.specs.declared.kind.Kind.TheVariants.{Memory}
 use Rattle.life_base.specs.declared.cell.TheConstants.{MAX_LEVEL}
@@ -44,8 +44,7 @@ returns-in_err-cursor-in-Spelled-clause-fault c =
           h.read.sound
           (subst (λ (c : Cursor). item_fault MAX_LEVEL rule c.y c.x item ≡ Some kind) h.read.cursor f))
     ] in
-    let p = err_from_is_err_and c.from_residual-in_err-cursor-in-Spelled.result c.from_residual-in_err-cursor-in-Spelled.ensures.1 in
-    rw (p.1, p.2) answer
+    rw (error_is c.from_residual-in_err-cursor-in-Spelled.result c.from_residual-in_err-cursor-in-Spelled.ensures.1) answer
 
 pub loop-at-preserved : goal.loop-at-preserved
 loop-at-preserved c =

@@ -1,5 +1,5 @@
 use Rattle.std.proofs.Common.{◌≡◌, ◌⊎◌, ℕ, true, List, [], Ok, Err, refl, sym, ap, ◌∙◌, subst, inl, inr, append-nil, false}
-use Rattle.std.proofs.lemmas.Result.{err_from_is_err_and}
+use Rattle.life_base.proofs.Results.{error_is}
 use Rattle.life_base.specs.declared.kind.Kind.{Kind}
 use Rattle.life_base.specs.declared.kind.Kind.TheVariants.{Memory, Spent}
 use Rattle.life_base.specs.declared.cell.TheConstants.{MAX_LEVEL}
@@ -74,8 +74,7 @@ returns-in_err-next c =
     let kind : Kind = c.in_err-next.field-0.0 in
     let was = c.replace-was.ensures.value in
     let reported : Tells c.args.phase.now cursor line kind = subst (λ (p : Phase). Tells p cursor line kind) was c.in_err-next.ensures.fault in
-    let p = err_from_is_err_and c.from_residual.result c.from_residual.ensures.1 in
-    rw (p.1, p.2) (record {
+    rw (error_is c.from_residual.result c.from_residual.ensures.1) (record {
       advance = tt;
       going = tt;
       refused = c.replace-was.ensures.after;

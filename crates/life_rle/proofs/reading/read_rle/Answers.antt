@@ -1,7 +1,7 @@
 use Rattle.std.proofs.Common.{◌≡◌, ◌⊎◌, ◌++◌, ◌∷◌, [], ◌+◌, true, false, List, ℕ, map, length, Bor, Err, sym, ◌∙◌, ap, subst, inl, inr, append_assoc, arith, rules, length-append}
 use Rattle.std.proofs.lemmas.List.{map-append}
 use Rattle.std.proofs.lemmas.Grind.{common_steps}
-use Rattle.std.proofs.lemmas.Result.{err_from_is_err_and}
+use Rattle.life_base.proofs.Results.{error_is}
 use Rattle.life_base.specs.Text.{lines_of, numbered_from}
 use Rattle.life_base.specs.Refusal.{OrMemory, fault_at}
 use Rattle.life_base.specs.declared.fault.Fault.{Fault}
@@ -23,7 +23,6 @@ use Rattle.life_rle.proofs.reading.read_rle.Goals as goal
 
 pub returns-in_err-take_numbered-clause-fault : goal.returns-in_err-take_numbered-clause-fault
 returns-in_err-take_numbered-clause-fault c =
-    let p = err_from_is_err_and c.from_residual.result c.from_residual.ensures.1 in
     let pairs : List (ℕ × List ℕ) = map numbered c.loop-number.yielded in
     let lines : List (List ℕ) = lines_of c.args.bytes.now in
     let prefix : List (List ℕ) = c.loop-number.reader.lines in
@@ -37,18 +36,17 @@ returns-in_err-take_numbered-clause-fault c =
       | inl m ↦ inl m
       | inr w ↦ inr (refused_here MAX_LEVEL lines pairs c.in-Some.number c.in-Some.line.now _ prefix fault all c.loop-number.invariant.consumed w.0 w.1)
     ] in
-    rw (p.1, p.2) answer
+    rw (error_is c.from_residual.result c.from_residual.ensures.1) answer
 
 pub returns-in_err-take_numbered-clause-kinds : goal.returns-in_err-take_numbered-clause-kinds
 returns-in_err-take_numbered-clause-kinds c =
-    let p = err_from_is_err_and c.from_residual.result c.from_residual.ensures.1 in
     let prefix : List (List ℕ) = c.loop-number.reader.lines in
     let fault : Fault = c.in_err-take_numbered.field-0.0 in
     let reported : OrMemory fault (BreaksRle MAX_LEVEL prefix c.in-Some.line.now fault.kind × (fault.place.line ≡ c.in-Some.number))
     = c.in_err-take_numbered.ensures.fault in
     let answer : OrMemory fault (is_rle_kind fault.kind ≡ true) = elim reported
     [ inl m ↦ inl m | inr w ↦ inr (Breaks-kind MAX_LEVEL prefix c.in-Some.line.now fault.kind w.0) ] in
-    rw (p.1, p.2) answer
+    rw (error_is c.from_residual.result c.from_residual.ensures.1) answer
 
 pub returns-in-Err-clause-kinds : goal.returns-in-Err-clause-kinds
 returns-in-Err-clause-kinds c =

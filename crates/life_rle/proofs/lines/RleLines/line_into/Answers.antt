@@ -1,5 +1,5 @@
 use Rattle.std.proofs.Common.{◌≡◌, ◌⊎◌, ℕ, true, false, List, [], ◌∷◌, ◌++◌, Err, sym, ap, ◌∙◌, subst, inl, inr}
-use Rattle.std.proofs.lemmas.Result.{err_from_is_err_and}
+use Rattle.life_base.proofs.Results.{error_is}
 use Rattle.life_base.specs.declared.kind.Kind.{Kind}
 use Rattle.life_base.specs.declared.kind.Kind.TheVariants.{Memory, Spent}
 use Rattle.life_base.specs.declared.cell.TheConstants.{MAX_LEVEL}
@@ -60,8 +60,7 @@ returns-in_err-after_line-clause-fault c =
       | inl m ↦ inl m
       | inr e ↦ elim e [ inl s ↦ inr (inl s.0) | inr b ↦ inr (inr (subst (λ (v : LinesRead). BreaksRle MAX_LEVEL v.lines line kind) c.self.view_is b)) ]
     ] in
-    let p = err_from_is_err_and c.from_residual.result c.from_residual.ensures.1 in
-    rw (p.1, p.2) answer
+    rw (error_is c.from_residual.result c.from_residual.ensures.1) answer
 
 pub returns-in_err-after_line-clause-spent : goal.returns-in_err-after_line-clause-spent
 returns-in_err-after_line-clause-spent c =
@@ -76,8 +75,7 @@ returns-in_err-after_line-clause-spent c =
       | inl m ↦ absurd (other kind m e)
       | inr t ↦ elim t [ inl s ↦ sym refused ∙ s.1 | inr b ↦ absurd (placed kind e (Breaks-placed MAX_LEVEL inside.log.lines c.args.line.now kind b)) ]
     ] in
-    let p = err_from_is_err_and c.from_residual.result c.from_residual.ensures.1 in
-    rw (p.1, p.2) (
+    rw (error_is c.from_residual.result c.from_residual.ensures.1) (
       λ h. let e : kind ≡ Spent = cc in spent e,
       λ r. let s = c.in_err-after_line.ensures.spent (refused ∙ r) in let e : kind ≡ Spent = cc in ap Err e,
     )
