@@ -281,9 +281,6 @@ once-prefix : (xs ys : List Tree) → NoRepeats (xs ++ ys) → NoRepeats xs
 once-prefix [] ys h = tt
 once-prefix (x ∷ xs) ys h = (not_in xs x (λ i. true_false _ (is_in-left xs ys x i) h.0), once-prefix xs ys h.1)
 
-one_more : (n m : ℕ) → n ≡ suc m → n ≡ m + 1
-one_more n m e = omega arith
-
 listed-small : (t : Tree) (m : ℕ) → is_small m t ≡ true → listed_squares t m ≡ []
 unfolding listed_squares
 listed-small t m h = ap (with_all []) (walk-small t m h)

@@ -106,11 +106,6 @@ pub line-runs : (P : Tree → Type 0) (lines : List (List ℕ)) (runs : List Run
     → SomeOfLines MAX_LEVEL P lines
 line-runs P lines runs h s = of_runs lines [] runs (sym (append-nil lines)) h s
 
--- the same square of other runs with the same cells
-pub same-square : {P : Tree → Type 0} (rows : ℕ) (f g : ℤ → ℤ → ℕ) → ((x y : ℤ) → f x y ≡ g x y) → SomeSquare P rows (by_columns f)
-    → SomeSquare P rows (by_columns g)
-same-square {P = P} rows f g e s = subst (λ (cells : ℤ → ℤ → ℕ). SomeSquare P rows (by_columns cells)) (λ i x y. e x y i) s
-
 -- ---- lines
 
 -- more lines after them

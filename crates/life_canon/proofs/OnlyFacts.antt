@@ -1,7 +1,7 @@
 -- Calls that are refused for nothing but a square: one after the other, and refusals that are handed on.
-use Rattle.std.proofs.Common.{◌≡◌, ◌∙◌, Result, Ok, Err, OnErr, ap, sym, subst, IfErr, IsErrAnd}
-use Rattle.std.proofs.lemmas.Result.{on_err_weaker, err_from_is_err_and}
-use Rattle.life_base.proofs.Results.{on_err_both}
+use Rattle.std.proofs.Common.{◌≡◌, Result, Ok, Err, OnErr, sym, subst, IfErr, IsErrAnd}
+use Rattle.std.proofs.lemmas.Result.{on_err_weaker}
+use Rattle.life_base.proofs.Results.{error_is, on_err_both}
 use Rattle.life_base.specs.Tree.{Tree}
 use Rattle.life_base.specs.declared.kind.Kind.{Kind}
 use Rattle.life_quad.specs.Grows.{KeepsStore, GrowsOnly}
@@ -44,24 +44,10 @@ module _ {X : Type 0} {S : Ghosts X} {A : Type 0} (M : (Tree → Type 0) → Typ
       → KeepsStore S mid new → IsShortageKind (S.stored new) (S.most new) e → N (S.needs_node new) → AddsOnly S.stored N mid new
       → ((P : Tree → Type 0) → N P → M P) → GrowsOnly S old new r M
   only-refused {new = new} r reported first before keeps kinds needed adds more =
-      let p = err_from_is_err_and r reported in
-      let same = p.1 ∙ ap Err p.2 in
+      let same = error_is r reported in
       record {
         keeps = keeps-then first keeps;
         refusals = rw same kinds;
         needed = rw same (more (S.needs_node new) needed);
         adds = adds-then M before adds (λ P a. a) more;
       }
-
--- a join after other calls, by its clauses
-pub only-join : {X : Type 0} {S : Ghosts X} (M : (Tree → Type 0) → Type 0) {old mid new : X} {t : Tree} (r : Result Id Kind) → KeepsStore S old mid
-    → AddsOnly S.stored M old mid
-    → KeepsStore S mid new → IfErr r (IsShortageKind (S.stored new) (S.most new)) → OnErr r (S.needs_node mid t) → OnErr r (new ≡ mid)
-    → AddsOnly S.stored (λ P. P t) mid new → ((P : Tree → Type 0) → P t → M P) → GrowsOnly S old new r M
-only-join {S = S} M {new = new} {t = t} r first before keeps refusals needed unchanged adds more =
-    record {
-      keeps = keeps-then first keeps;
-      refusals = refusals;
-      needed = on_err_both r (λ lacks same. more (S.needs_node new) (subst (λ s. S.needs_node s t) (sym same) lacks)) needed unchanged;
-      adds = adds-then M before adds (λ P a. a) more;
-    }

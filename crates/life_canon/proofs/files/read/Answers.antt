@@ -1,4 +1,4 @@
-use Rattle.std.proofs.lemmas.Result.{IfOk-weaker, err_from_is_err_and}
+use Rattle.std.proofs.lemmas.Result.{IfOk-weaker}
 use Rattle.life_base.specs.Lines.{whole_lines}
 use Rattle.life_quad.specs.Store.{stored_squares}
 use Rattle.life_quad.proofs.KeepingLemmas.{keeps-then, adds-as, adds-then}
@@ -11,12 +11,12 @@ use Rattle.life_canon.specs.Store.{IsRead, RefusesIn}
 use Rattle.life_canon.proofs.Adding.{prefixes_hold}
 use Rattle.life_canon.proofs.NeedFacts.{whole-needs}
 use Rattle.life_canon.proofs.files.read.Goals as goal
-use Rattle.life_base.proofs.Results.{err_again}
+use Rattle.life_base.proofs.Results.{error_is, err_again}
 
 pub returns-in_err-feed-clause-fault : goal.returns-in_err-feed-clause-fault
 returns-in_err-feed-clause-fault c =
-    let p = err_from_is_err_and c.from_residual.result c.from_residual.ensures.1 in
-    rw (p.1, p.2) (feed-fault _ _ _ _ c.new-reader.ensures.bytes (c.in_err-feed.ensures.fault c.new-reader.ensures.spent))
+    rw (error_is c.from_residual.result c.from_residual.ensures.1)
+    (feed-fault _ _ _ _ c.new-reader.ensures.bytes (c.in_err-feed.ensures.fault c.new-reader.ensures.spent))
 
 pub returns-clause-pattern : goal.returns-clause-pattern
 returns-clause-pattern c =
@@ -30,12 +30,11 @@ returns-clause-fault c =
 
 pub returns-in_err-feed-clause-reads : goal.returns-in_err-feed-clause-reads
 returns-in_err-feed-clause-reads c =
-    let p = err_from_is_err_and c.from_residual.result c.from_residual.ensures.1 in
     let none = ap (λ (b : List ℕ). b ++ c.args.bytes.now) c.new-reader.ensures.bytes in
     let feeds = c.in_err-feed.ensures.feeds in
     let lines = subst (λ (b : List ℕ). AddsLines (whole_lines b) c.args.store.now c.feed.new.store) none feeds.adds in
     let base = stored_squares c.args.store.now in
-    rw (p.1, p.2) (record {
+    rw (error_is c.from_residual.result c.from_residual.ensures.1) (record {
       all = tt;
       needed = λ e. whole-needs (IsNew c.feed.new.store) c.args.bytes.now
           (subst (λ (b : List ℕ). LacksForPrefix MAX_LEVEL b c.feed.new.store) none (feeds.needed (err_again e)));

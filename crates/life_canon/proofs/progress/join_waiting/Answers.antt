@@ -1,5 +1,5 @@
 use Rattle.std.proofs.Common.{◌≡◌, List, rules, subst}
-use Rattle.std.proofs.lemmas.Result.{err_from_is_err_and}
+use Rattle.life_base.proofs.Results.{error_is}
 use Rattle.life_base.specs.Tree.{Tree}
 use Rattle.life_quad.specs.Moves.{quads_of}
 use Rattle.life_quad.specs.Refused.{SomeOf}
@@ -16,10 +16,10 @@ some-waiting content e P = subst (λ (qs : List Quarters). SomeOf P (quads_of co
 
 pub returns-in_err-join_all-clause-grows : goal.returns-in_err-join_all-clause-grows
 returns-in_err-join_all-clause-grows g c =
-    let p = err_from_is_err_and c.from_residual.result c.from_residual.ensures.1 in
     let e = c.in_err-join_all.ensures in
     let more = some-waiting (g.S.Squares.content c.args.squares.now) c.as_slice.ensures.value in
-    rw (p.1, p.2) (record { keeps = e.keeps; refusals = e.refusals; needed = λ _. more _ e.needed; adds = adds-as _ e.adds more })
+    rw (error_is c.from_residual.result c.from_residual.ensures.1)
+    (record { keeps = e.keeps; refusals = e.refusals; needed = λ _. more _ e.needed; adds = adds-as _ e.adds more })
 
 pub returns-in_err-extend_from_slice-clause-grows : goal.returns-in_err-extend_from_slice-clause-grows
 returns-in_err-extend_from_slice-clause-grows g c =

@@ -1,8 +1,8 @@
-use Rattle.std.proofs.Common.{◌≡◌, inl, inr, ℕ, ◌-◌, ◌<◌, ◌≤◌, false, List, [], ◌∷◌, ◌++◌, length, take, drop, Some, map, refl, sym, ap, ◌∙◌, subst, arith, rules, Contains, Option, length-take-le, take-append-drop}
+use Rattle.std.proofs.Common.{◌≡◌, Result, inl, inr, ℕ, ◌-◌, ◌<◌, ◌≤◌, false, List, [], ◌∷◌, ◌++◌, length, take, drop, Some, map, refl, sym, ap, ◌∙◌, subst, arith, rules, Contains, Option, length-take-le, take-append-drop}
 use Rattle.std.specs.List.{cons_option}
 use Rattle.std.proofs.lemmas.List.{map_push}
 use Rattle.std.proofs.lemmas.List.Elements.{Contains-push_cases}
-use Rattle.std.proofs.lemmas.Result.{err_from_is_err_and}
+use Rattle.life_base.proofs.Results.{error_is}
 use Rattle.life_base.specs.Lines.{LinesRead}
 use Rattle.life_base.specs.Refusal.{Prefix}
 use Rattle.life_base.specs.Tree.{Tree}
@@ -13,12 +13,15 @@ use Rattle.life_mc.specs.Macrocell.{IsSquare, IsValidMacrocell, level_of}
 use Rattle.life_mc.specs.Reading.{AcceptsMacrocell, squares_of}
 use Rattle.life_mc.specs.Squares.{line_tree, tree_of}
 use Rattle.life_mc.specs.declared.line.Line.{Line}
+use Rattle.life_quad.specs.Grows.{Grows}
 use Rattle.life_quad.specs.Moves.{CanJoin, quad_of, quads_of}
 use Rattle.life_quad.specs.Refused.{SomeOf}
 use Rattle.life_quad.specs.declared.id.Id.{Id}
 use Rattle.life_quad.specs.declared.moves.Quarters.{Quarters}
 use Rattle.life_quad.specs.declared.squares.Squares.{Ghosts}
-use Rattle.life_quad.proofs.KeepingLemmas.{keeps-same, keeps-then, adds-none, adds-as, adds-then}
+use Rattle.life_quad.proofs.GrowsLemmas.{grows-err, grows-ok, grows-then, join-grows, join-refused, only-grows}
+use Rattle.life_quad.proofs.KeepingLemmas.{keeps-same, keeps-then, adds-none}
+use Rattle.life_canon.specs.Calls.{StoresIn}
 use Rattle.life_canon.specs.Filling.{AreSquaresOf}
 use Rattle.life_canon.specs.Needs.{SomeOfLine, SomeOfLines}
 use Rattle.life_canon.specs.Waiting.{AreKeptOf, IsOfNodeLine, IsReadyFor, KeepsLines, NamesFirst, names_first, all_joined}
@@ -27,46 +30,58 @@ use Rattle.life_canon.proofs.GrowFacts.{first-valid, last-square}
 use Rattle.life_canon.proofs.NeedFacts.{more-lines, next-needs}
 use Rattle.life_canon.proofs.PatternFacts.{NextSquare, next-square, not-full}
 use Rattle.life_canon.proofs.WaitingFacts.{count-of, first-square, first-squares, first-tree, kept-id, kept-joined, kept-quarters, kept-stays, line-some, lines-more, named-more, named-some, names-lines, quads-stay, waiting-some}
+use Rattle.life_canon.proofs.progress.take_macrocell_line.Given.{Over}
 use Rattle.life_canon.proofs.progress.take_macrocell_line.Goals as goal
+use Rattle.life_canon.proofs.progress.take_macrocell_line.Goals.{After-deref, After-join, After-line_quarters}
+
+-- the squares that waited are those of lines
+some-waited : {knows : Id → Type 0} {content : Id → Tree} (text : List (List ℕ)) (line : List ℕ) {ids : List Id} {waiting : List Quarters}
+    → KeepsLines knows content text ids waiting → (P : Tree → Type 0) → SomeOf P (quads_of content waiting) → SomeOfLines MAX_LEVEL P (text ++ line ∷ [])
+some-waited text line {ids} {waiting} were P s = more-lines P text (line ∷ []) (text ++ line ∷ []) refl (waiting-some text ids waiting were P s)
 
 -- a node line after others, which the store and the Ids are ready for
-module _ {X : Type 0} (S : Ghosts X) (old mid : X) (text : List (List ℕ)) (line : List ℕ) {all : LinesRead} {consumed : Option Line} {square : Line}
-    {ids here : List Id} {waiting left : List Quarters} {most : ℕ} (more : all ≡ record { lines = text ++ line ∷ []; refused = false })
-    (prefix : Prefix (AcceptsMacrocell MAX_LEVEL) all.lines) (squares : squares_of all.lines ≡ squares_of text ++ cons_option consumed [])
-    (is : consumed ≡ Some square)
-    (were : KeepsLines (S.knows old) (S.content old) text ids waiting)
-    (keeps : (id : Id) → S.knows old id → S.knows mid id × (S.content mid id ≡ S.content old id))
-    (ready : IsReadyFor S most square old mid ids waiting here left) where
+record Taken {X : Type 0} (S : Ghosts X) (old mid : X) (text : List (List ℕ)) (line : List ℕ) (all : LinesRead) (consumed : Option Line) (square : Line)
+    (ids here : List Id) (waiting left : List Quarters) (most : ℕ) : Type 0 where
+  more : all ≡ record { lines = text ++ line ∷ []; refused = false }
+  prefix : Prefix (AcceptsMacrocell MAX_LEVEL) all.lines
+  squares : squares_of all.lines ≡ squares_of text ++ cons_option consumed []
+  is : consumed ≡ Some square
+  were : KeepsLines (S.knows old) (S.content old) text ids waiting
+  keeps : (id : Id) → S.knows old id → S.knows mid id × (S.content mid id ≡ S.content old id)
+  ready : IsReadyFor S most square old mid ids waiting here left
+
+module _ {X : Type 0} {S : Ghosts X} {old mid : X} {text : List (List ℕ)} {line : List ℕ} {all : LinesRead} {consumed : Option Line} {square : Line}
+    {ids here : List Id} {waiting left : List Quarters} {most : ℕ} (now : Taken S old mid text line all consumed square ids here waiting left most) where
   abbrev lines : List Line
   lines = squares_of text
 
   whole : all.lines ≡ text ++ line ∷ []
-  whole = ap (λ (v : LinesRead). v.lines) more
+  whole = ap (λ (v : LinesRead). v.lines) now.more
 
   with-line : squares_of all.lines ≡ lines ++ square ∷ []
-  with-line = squares ∙ ap (λ (o : Option Line). lines ++ cons_option o []) is
+  with-line = now.squares ∙ ap (λ (o : Option Line). lines ++ cons_option o []) now.is
 
   next : NextSquare text square
-  next = next-square text all.lines line square whole prefix with-line
+  next = next-square text all.lines line square whole now.prefix with-line
 
   last : IsSquare MAX_LEVEL next.rule (map level_of lines) square
   last = last-square next.rule next.generation lines square next.valid
 
   kept : AreKeptOf (S.knows mid) (S.content mid) lines here left
-  kept = by ready
+  kept = by now.ready
     where
       by : IsReadyFor S most square old mid ids waiting here left → AreKeptOf (S.knows mid) (S.content mid) lines here left
       by (names_first same i w few names) =
           subst (λ (s : X). AreKeptOf (S.knows s) (S.content s) lines here left) (sym same)
           (subst (λ (l : List Id). AreKeptOf (S.knows old) (S.content old) lines l left) (sym i)
-          (subst (AreKeptOf (S.knows old) (S.content old) lines ids) (sym w) were.kept))
+          (subst (AreKeptOf (S.knows old) (S.content old) lines ids) (sym w) now.were.kept))
       by (all_joined j none) =
           subst (AreKeptOf (S.knows mid) (S.content mid) lines here) (sym none)
           (subst (λ (l : List Id). AreKeptOf (S.knows mid) (S.content mid) lines l []) (sym j.are)
-          (kept-joined lines ids j.joined waiting keeps were.kept j.known j.squares))
+          (kept-joined lines ids j.joined waiting now.keeps now.were.kept j.known j.squares))
 
   names : NamesFirst (length here) square
-  names = by ready
+  names = by now.ready
     where
       by : IsReadyFor S most square old mid ids waiting here left → NamesFirst (length here) square
       by (names_first same i w few names) = subst (λ (l : List Id). NamesFirst (length l) square) (sym i) names
@@ -121,14 +136,14 @@ module _ {X : Type 0} (S : Ghosts X) (old mid : X) (text : List (List ℕ)) (lin
       → ((lines : List Line) (rule : Rule) → IsSquare MAX_LEVEL rule (map level_of lines) square
       → AreSquaresOf (S.knows mid) (S.content mid) lines slice → SomeOfLine P lines square)
       → SomeOfLines MAX_LEVEL P (text ++ line ∷ [])
-  needed same P some = next-needs P text all.lines line square whole prefix with-line (line-some P first lines square (sym tree) (of-line same some))
+  needed same P some = next-needs P text all.lines line square whole now.prefix with-line (line-some P first lines square (sym tree) (of-line same some))
 
   -- the squares of the lines so far that still wait, and of this line, are those of node lines
   left-named : (t : Tree) → Contains (quads_of (S.content mid) left) t → IsOfNodeLine MAX_LEVEL all.lines t
-  left-named t c = by ready
+  left-named t c = by now.ready
     where
       before : Contains (quads_of (S.content old) waiting) t → IsOfNodeLine MAX_LEVEL all.lines t
-      before c = subst (λ (ls : List (List ℕ)). IsOfNodeLine MAX_LEVEL ls t) (sym whole) (named-more text (line ∷ []) t (were.named t c))
+      before c = subst (λ (ls : List (List ℕ)). IsOfNodeLine MAX_LEVEL ls t) (sym whole) (named-more text (line ∷ []) t (now.were.named t c))
 
       by : IsReadyFor S most square old mid ids waiting here left → IsOfNodeLine MAX_LEVEL all.lines t
       by (names_first same i w few names) =
@@ -145,7 +160,7 @@ module _ {X : Type 0} (S : Ghosts X) (old mid : X) (text : List (List ℕ)) (lin
     behind = [];
     square = square;
     are = whole;
-    prefix = subst (Prefix (AcceptsMacrocell MAX_LEVEL)) whole prefix;
+    prefix = subst (Prefix (AcceptsMacrocell MAX_LEVEL)) whole now.prefix;
     squares = subst (λ (ls : List (List ℕ)). squares_of ls ≡ lines ++ square ∷ []) whole with-line;
     tree = e;
   }
@@ -190,27 +205,26 @@ module _ {X : Type 0} (S : Ghosts X) (old mid : X) (text : List (List ℕ)) (lin
       }))
 
   left-none : most ≡ 0 → left ≡ []
-  left-none e = by ready
+  left-none e = by now.ready
     where
       by : IsReadyFor S most square old mid ids waiting here left → left ≡ []
       by (names_first same i w few names) = absurd (omega (arith, few, e))
       by (all_joined j none) = none
 
   left-few : most ≤ MOST_WAITING → length left < MOST_WAITING
-  left-few le = by ready
+  left-few le = by now.ready
     where
       by : IsReadyFor S most square old mid ids waiting here left → length left < MOST_WAITING
       by (names_first same i w few names) = let len : length left ≡ length waiting = ap length w in omega (arith, few, len, le)
       by (all_joined j none) = let len : length left ≡ 0 = ap length none in omega (arith, len)
 
--- the squares that waited are those of lines
-waited : {knows : Id → Type 0} {content : Id → Tree} (text : List (List ℕ)) (line : List ℕ) {ids : List Id} {waiting : List Quarters}
-    → KeepsLines knows content text ids waiting → (P : Tree → Type 0) → SomeOf P (quads_of content waiting) → SomeOfLines MAX_LEVEL P (text ++ line ∷ [])
-waited text line {ids} {waiting} were P s = more-lines P text (line ∷ []) (text ++ line ∷ []) refl (waiting-some text ids waiting were P s)
+  -- the squares that waited are those of lines
+  waited : (P : Tree → Type 0) → SomeOf P (quads_of (S.content old) waiting) → SomeOfLines MAX_LEVEL P (text ++ line ∷ [])
+  waited = some-waited text line now.were
 
--- a store that a refused call left as it was still lacks the square
-still-lacks : {X : Type 0} (S : Ghosts X) {old new : X} {t : Tree} → new ≡ old → S.needs_node old t → S.needs_node new t
-still-lacks S {t = t} same = subst (λ s. S.needs_node s t) (sym same)
+-- what a call does to a store, but why it is refused
+stores-as : {X A : Type 0} {S : Ghosts X} {old new : X} {r : Result A Kind} {M : (Tree → Type 0) → Type 0} → Grows S old new r M → StoresIn S old new r M
+stores-as call = record { needed = call.needed; adds = call.adds; keeps = call.keeps }
 
 -- what the quarters of the line ask for
 abbrev Placed : {X : Type 0} → Ghosts X → X → Line → List Id → Type 0
@@ -220,14 +234,30 @@ Placed S mid square ids =
 pub make_ready-requires : goal.make_ready-requires
 make_ready-requires g c = record { can_join = c.requires.squares.kept.can_join; few = c.requires.squares.kept.few }
 
-pub line_quarters-requires : goal.line_quarters-requires
-line_quarters-requires g c =
+-- ---- a line with a square
+
+-- what the calls so far made known
+taken : (g : Over) (c : After-deref g)
+    → Taken g.S.Squares c.args.squares.now c.make_ready.new.squares c.args.lines.now.lines c.args.line.now c.line.new.self c.in_ok-square.field-0
+    c.in-Some.square c.args.ids.now.items c.make_ready.new.ids.items c.args.waiting.now.items c.make_ready.new.waiting.items c.args.most
+taken g c =
     let call = c.in_ok-square.ensures in
     let ready = c.in_ok-make_ready.ensures in
     record {
-      line = subst (Placed g.S.Squares c.make_ready.new.squares c.in-Some.square) (sym c.deref.ensures.value)
-          (placed g.S.Squares c.args.squares.now c.make_ready.new.squares c.args.lines.now.lines c.args.line.now call.lines call.prefix call.squares
-          c.in-Some.is c.requires.squares ready.grows.keeps.contents ready.ready);
+      more = call.lines;
+      prefix = call.prefix;
+      squares = call.squares;
+      is = c.in-Some.is;
+      were = c.requires.squares;
+      keeps = ready.grows.keeps.contents;
+      ready = ready.ready;
+    }
+
+pub line_quarters-requires : goal.line_quarters-requires
+line_quarters-requires g c =
+    let now = taken g (goal.at.line_quarters-requires g c).After-deref in
+    record {
+      line = subst (Placed g.S.Squares c.make_ready.new.squares c.in-Some.square) (sym c.deref.ensures.value) (placed now);
     }
 
 pub returns-in_default-clause-squares : goal.returns-in_default-clause-squares
@@ -253,36 +283,23 @@ join-requires g c =
 
 pub returns-in_ok-push-clause-squares : goal.returns-in_ok-push-clause-squares
 returns-in_ok-push-clause-squares g c =
-    let call = c.in_ok-square.ensures in
-    let ready = c.in_ok-make_ready.ensures in
+    let now = taken g (goal.at.returns-in_ok-push-clause-squares g c).After-deref in
     let made = c.in_ok-quarters.ensures in
     let join = c.in_ok-id.ensures in
-    let tree = of-line g.S.Squares c.args.squares.now c.make_ready.new.squares c.args.lines.now.lines c.args.line.now call.lines call.prefix call.squares
-    c.in-Some.is c.requires.squares ready.grows.keeps.contents ready.ready c.deref.ensures.value made.square in
-    joins g.S.Squares c.args.squares.now c.make_ready.new.squares c.args.lines.now.lines c.args.line.now call.lines call.prefix call.squares
-    c.in-Some.is c.requires.squares ready.grows.keeps.contents ready.ready
-    (keeps-then made.grows.keeps join.keeps).contents join.known (join.square ∙ tree) c.in_ok-push.ensures.items
-    (left-none g.S.Squares c.args.squares.now c.make_ready.new.squares c.args.lines.now.lines c.args.line.now call.lines call.prefix call.squares
-    c.in-Some.is c.requires.squares ready.grows.keeps.contents ready.ready c.if-most-eq0.true)
+    joins now (keeps-then made.grows.keeps join.keeps).contents join.known (join.square ∙ of-line now c.deref.ensures.value made.square)
+    c.in_ok-push.ensures.items (left-none now c.if-most-eq0.true)
 
 pub returns-in_ok-push-2-clause-squares : goal.returns-in_ok-push-2-clause-squares
 returns-in_ok-push-2-clause-squares g c =
-    let call = c.in_ok-square.ensures in
-    let ready = c.in_ok-make_ready.ensures in
+    let now = taken g (goal.at.returns-in_ok-push-2-clause-squares g c).After-deref in
     let made = c.in_ok-quarters.ensures in
-    let tree = of-line g.S.Squares c.args.squares.now c.make_ready.new.squares c.args.lines.now.lines c.args.line.now call.lines call.prefix call.squares
-    c.in-Some.is c.requires.squares ready.grows.keeps.contents ready.ready c.deref.ensures.value made.square in
-    waits g.S.Squares c.args.squares.now c.make_ready.new.squares c.args.lines.now.lines c.args.line.now call.lines call.prefix call.squares
-    c.in-Some.is c.requires.squares ready.grows.keeps.contents ready.ready
-    made.grows.keeps.contents made.can_join tree c.in_ok-push-2.ensures.items
-    (left-few g.S.Squares c.args.squares.now c.make_ready.new.squares c.args.lines.now.lines c.args.line.now call.lines call.prefix call.squares
-    c.in-Some.is c.requires.squares ready.grows.keeps.contents ready.ready c.requires.most)
+    waits now made.grows.keeps.contents made.can_join (of-line now c.deref.ensures.value made.square) c.in_ok-push-2.ensures.items
+    (left-few now c.requires.most)
 
 pub returns-in_err-square-clause-stores : goal.returns-in_err-square-clause-stores
 returns-in_err-square-clause-stores g c =
-    let p = err_from_is_err_and c.from_residual.result c.from_residual.ensures.1 in
     let kind : Kind = c.in_err-square.field-0.0 in
-    rw (p.1, p.2) (record {
+    rw (error_is c.from_residual.result c.from_residual.ensures.1) (record {
       needed = λ e. absurd (not-full c.args.lines.now.lines c.args.line.now kind c.in_err-square.ensures.fault (cc));
       adds = adds-none _ _;
       keeps = keeps-same _;
@@ -290,110 +307,66 @@ returns-in_err-square-clause-stores g c =
 
 pub returns-in_err-make_ready-clause-stores : goal.returns-in_err-make_ready-clause-stores
 returns-in_err-make_ready-clause-stores g c =
-    let p = err_from_is_err_and c.from_residual-in_err-make_ready.result c.from_residual-in_err-make_ready.ensures.1 in
-    let grows = c.in_err-make_ready.ensures.grows in
-    let some = waited c.args.lines.now.lines c.args.line.now c.requires.squares in
-    rw (p.1, p.2) (record { needed = λ e. some _ (grows.needed e); adds = adds-as _ grows.adds some; keeps = grows.keeps })
+    stores-as (grows-err _ c.in_err-make_ready.ensures.grows c.from_residual-in_err-make_ready.ensures.1
+    (some-waited c.args.lines.now.lines c.args.line.now c.requires.squares))
+
+-- what the calls so far and the quarters need
+quartered : (g : Over) (c : After-line_quarters g)
+    → Taken g.S.Squares c.args.squares.now c.make_ready.new.squares c.args.lines.now.lines c.args.line.now c.line.new.self c.in_ok-square.field-0
+    c.in-Some.square c.args.ids.now.items c.make_ready.new.ids.items c.args.waiting.now.items c.make_ready.new.waiting.items c.args.most
+    → Grows g.S.Squares c.args.squares.now c.line_quarters.new.squares c.line_quarters.result
+    (λ P. SomeOfLines MAX_LEVEL P (c.args.lines.now.lines ++ c.args.line.now ∷ []))
+quartered g c now =
+    grows-then _ c.in_ok-make_ready.ensures.grows (only-grows c.line_quarters.ensures.grows) (waited now) (needed now c.deref.ensures.value)
 
 pub returns-in_err-quarters-clause-stores : goal.returns-in_err-quarters-clause-stores
 returns-in_err-quarters-clause-stores g c =
-    let p = err_from_is_err_and c.from_residual-in_err-quarters.result c.from_residual-in_err-quarters.ensures.1 in
-    let call = c.in_ok-square.ensures in
-    let ready = c.in_ok-make_ready.ensures in
-    let some = needed g.S.Squares c.args.squares.now c.make_ready.new.squares c.args.lines.now.lines c.args.line.now call.lines call.prefix call.squares
-    c.in-Some.is c.requires.squares ready.grows.keeps.contents ready.ready c.deref.ensures.value in
-    let grows = c.line_quarters.ensures.grows in
-    rw (p.1, p.2) (record {
-      needed = λ e. some _ c.in_err-quarters.ensures.grows.needed;
-      adds = adds-then _ ready.grows.adds grows.adds (waited c.args.lines.now.lines c.args.line.now c.requires.squares) some;
-      keeps = keeps-then ready.grows.keeps grows.keeps;
+    let at = goal.at.returns-in_err-quarters-clause-stores g c in
+    let q = quartered g at.After-line_quarters (taken g at.After-deref) in
+    rw (error_is c.from_residual-in_err-quarters.result c.from_residual-in_err-quarters.ensures.1) (record {
+      needed = λ e. needed (taken g at.After-deref) c.deref.ensures.value _ c.in_err-quarters.ensures.grows.needed;
+      adds = q.adds;
+      keeps = q.keeps;
     })
 
 pub returns-in_err-push-2-clause-stores : goal.returns-in_err-push-2-clause-stores
 returns-in_err-push-2-clause-stores g c =
-    let p = err_from_is_err_and c.from_residual-in_err-push-2.result c.from_residual-in_err-push-2.ensures.1 in
-    let call = c.in_ok-square.ensures in
-    let ready = c.in_ok-make_ready.ensures in
-    let some = needed g.S.Squares c.args.squares.now c.make_ready.new.squares c.args.lines.now.lines c.args.line.now call.lines call.prefix call.squares
-    c.in-Some.is c.requires.squares ready.grows.keeps.contents ready.ready c.deref.ensures.value in
-    let grows = c.line_quarters.ensures.grows in
-    rw (p.1, p.2) (record {
-      needed = search rules;
-      adds = adds-then _ ready.grows.adds grows.adds (waited c.args.lines.now.lines c.args.line.now c.requires.squares) some;
-      keeps = keeps-then ready.grows.keeps grows.keeps;
-    })
+    let at = goal.at.returns-in_err-push-2-clause-stores g c in
+    let q = quartered g at.After-line_quarters (taken g at.After-deref) in
+    rw (error_is c.from_residual-in_err-push-2.result c.from_residual-in_err-push-2.ensures.1)
+    (record { needed = search rules; adds = q.adds; keeps = q.keeps })
 
 pub returns-in_ok-push-2-clause-stores : goal.returns-in_ok-push-2-clause-stores
 returns-in_ok-push-2-clause-stores g c =
-    let call = c.in_ok-square.ensures in
-    let ready = c.in_ok-make_ready.ensures in
-    let some = needed g.S.Squares c.args.squares.now c.make_ready.new.squares c.args.lines.now.lines c.args.line.now call.lines call.prefix call.squares
-    c.in-Some.is c.requires.squares ready.grows.keeps.contents ready.ready c.deref.ensures.value in
-    let grows = c.line_quarters.ensures.grows in
-    record {
-      needed = λ e. absurd (cc);
-      adds = adds-then _ ready.grows.adds grows.adds (waited c.args.lines.now.lines c.args.line.now c.requires.squares) some;
-      keeps = keeps-then ready.grows.keeps grows.keeps;
-    }
+    let at = goal.at.returns-in_ok-push-2-clause-stores g c in
+    stores-as (grows-ok _ (quartered g at.After-line_quarters (taken g at.After-deref)) (λ P a. a))
+
+-- ---- and a square that is joined
+
+-- which is of the line
+joined : (g : Over) (c : After-join g)
+    → Taken g.S.Squares c.args.squares.now c.make_ready.new.squares c.args.lines.now.lines c.args.line.now c.line.new.self c.in_ok-square.field-0
+    c.in-Some.square c.args.ids.now.items c.make_ready.new.ids.items c.args.waiting.now.items c.make_ready.new.waiting.items c.args.most
+    → (P : Tree → Type 0) → P (quad_of (g.S.Squares.content c.line_quarters.new.squares) c.in_ok-quarters.quarters)
+    → SomeOfLines MAX_LEVEL P (c.args.lines.now.lines ++ c.args.line.now ∷ [])
+joined g c now = this-needed now (of-line now c.deref.ensures.value c.in_ok-quarters.ensures.square)
 
 pub returns-in_err-id-clause-stores : goal.returns-in_err-id-clause-stores
 returns-in_err-id-clause-stores g c =
-    let p = err_from_is_err_and c.from_residual-in_err-id.result c.from_residual-in_err-id.ensures.1 in
-    let call = c.in_ok-square.ensures in
-    let ready = c.in_ok-make_ready.ensures in
-    let made = c.in_ok-quarters.ensures in
-    let some = needed g.S.Squares c.args.squares.now c.make_ready.new.squares c.args.lines.now.lines c.args.line.now call.lines call.prefix call.squares
-    c.in-Some.is c.requires.squares ready.grows.keeps.contents ready.ready c.deref.ensures.value in
-    let tree = of-line g.S.Squares c.args.squares.now c.make_ready.new.squares c.args.lines.now.lines c.args.line.now call.lines call.prefix call.squares
-    c.in-Some.is c.requires.squares ready.grows.keeps.contents ready.ready c.deref.ensures.value made.square in
-    let this = this-needed g.S.Squares c.args.squares.now c.make_ready.new.squares c.args.lines.now.lines c.args.line.now call.lines call.prefix call.squares
-    c.in-Some.is c.requires.squares ready.grows.keeps.contents ready.ready tree in
-    let grows = c.line_quarters.ensures.grows in
-    let adds = adds-then _ ready.grows.adds grows.adds (waited c.args.lines.now.lines c.args.line.now c.requires.squares) some in
-    let keeps = keeps-then ready.grows.keeps grows.keeps in
-    let join = c.join.ensures in
-    let lacks = c.in_err-id.ensures in
-    rw (p.1, p.2) (record {
-      needed = λ e. this _ (still-lacks g.S.Squares lacks.unchanged lacks.needed);
-      adds = adds-then _ adds join.adds (λ P a. a) this;
-      keeps = keeps-then keeps join.keeps;
-    })
+    let at = goal.at.returns-in_err-id-clause-stores g c in
+    let q = quartered g at.After-line_quarters (taken g at.After-deref) in
+    stores-as (join-refused _ q.keeps q.adds c.in_err-id.ensures c.from_residual-in_err-id.ensures.1 (joined g at.After-join (taken g at.After-deref)))
 
 pub returns-in_err-push-clause-stores : goal.returns-in_err-push-clause-stores
 returns-in_err-push-clause-stores g c =
-    let p = err_from_is_err_and c.from_residual-in_err-push.result c.from_residual-in_err-push.ensures.1 in
-    let call = c.in_ok-square.ensures in
-    let ready = c.in_ok-make_ready.ensures in
-    let made = c.in_ok-quarters.ensures in
-    let some = needed g.S.Squares c.args.squares.now c.make_ready.new.squares c.args.lines.now.lines c.args.line.now call.lines call.prefix call.squares
-    c.in-Some.is c.requires.squares ready.grows.keeps.contents ready.ready c.deref.ensures.value in
-    let tree = of-line g.S.Squares c.args.squares.now c.make_ready.new.squares c.args.lines.now.lines c.args.line.now call.lines call.prefix call.squares
-    c.in-Some.is c.requires.squares ready.grows.keeps.contents ready.ready c.deref.ensures.value made.square in
-    let this = this-needed g.S.Squares c.args.squares.now c.make_ready.new.squares c.args.lines.now.lines c.args.line.now call.lines call.prefix call.squares
-    c.in-Some.is c.requires.squares ready.grows.keeps.contents ready.ready tree in
-    let grows = c.line_quarters.ensures.grows in
-    let adds = adds-then _ ready.grows.adds grows.adds (waited c.args.lines.now.lines c.args.line.now c.requires.squares) some in
-    let keeps = keeps-then ready.grows.keeps grows.keeps in
-    let join = c.join.ensures in
-    rw (p.1, p.2) (record {
-      needed = search rules;
-      adds = adds-then _ adds join.adds (λ P a. a) this;
-      keeps = keeps-then keeps join.keeps;
-    })
+    let at = goal.at.returns-in_err-push-clause-stores g c in
+    let q = quartered g at.After-line_quarters (taken g at.After-deref) in
+    let j = join-grows {S = g.S.Squares} _ c.join.result q.keeps q.adds c.join.ensures (joined g at.After-join (taken g at.After-deref)) in
+    rw (error_is c.from_residual-in_err-push.result c.from_residual-in_err-push.ensures.1)
+    (record { needed = search rules; adds = j.adds; keeps = j.keeps })
 
 pub returns-in_ok-push-clause-stores : goal.returns-in_ok-push-clause-stores
 returns-in_ok-push-clause-stores g c =
-    let call = c.in_ok-square.ensures in
-    let ready = c.in_ok-make_ready.ensures in
-    let made = c.in_ok-quarters.ensures in
-    let some = needed g.S.Squares c.args.squares.now c.make_ready.new.squares c.args.lines.now.lines c.args.line.now call.lines call.prefix call.squares
-    c.in-Some.is c.requires.squares ready.grows.keeps.contents ready.ready c.deref.ensures.value in
-    let tree = of-line g.S.Squares c.args.squares.now c.make_ready.new.squares c.args.lines.now.lines c.args.line.now call.lines call.prefix call.squares
-    c.in-Some.is c.requires.squares ready.grows.keeps.contents ready.ready c.deref.ensures.value made.square in
-    let this = this-needed g.S.Squares c.args.squares.now c.make_ready.new.squares c.args.lines.now.lines c.args.line.now call.lines call.prefix call.squares
-    c.in-Some.is c.requires.squares ready.grows.keeps.contents ready.ready tree in
-    let grows = c.line_quarters.ensures.grows in
-    let adds = adds-then _ ready.grows.adds grows.adds (waited c.args.lines.now.lines c.args.line.now c.requires.squares) some in
-    let keeps = keeps-then ready.grows.keeps grows.keeps in
-    let join = c.join.ensures in
-    record { needed = λ e. absurd (cc); adds = adds-then _ adds join.adds (λ P a. a) this; keeps = keeps-then keeps join.keeps }
+    let at = goal.at.returns-in_ok-push-clause-stores g c in
+    let q = quartered g at.After-line_quarters (taken g at.After-deref) in
+    stores-as (grows-ok _ (join-grows _ c.join.result q.keeps q.adds c.join.ensures (joined g at.After-join (taken g at.After-deref))) (λ P a. a))

@@ -1,5 +1,5 @@
 use Rattle.std.proofs.Common.{◌≡◌, List, [], ◌∷◌, ◌++◌, sym, ap, ◌∙◌, subst}
-use Rattle.std.proofs.lemmas.Result.{err_from_is_err_and}
+use Rattle.life_base.proofs.Results.{error_is}
 use Rattle.life_base.specs.Lines.{LinesRead}
 use Rattle.life_base.specs.Tree.{Tree}
 use Rattle.life_base.specs.declared.cell.TheConstants.{MAX_LEVEL}
@@ -17,9 +17,9 @@ use Rattle.life_canon.proofs.progress.take_rle_line.Goals as goal
 
 pub returns-in_err-line_into-clause-fault : goal.returns-in_err-line_into-clause-fault
 returns-in_err-line_into-clause-fault g c =
-    let p = err_from_is_err_and c.from_residual.result c.from_residual.ensures.1 in
     let kind : Kind = c.in_err-line_into.field-0.0 in
-    rw (p.1, p.2) (reported-fault _ _ (BreaksRle MAX_LEVEL c.args.lines.now.lines c.args.line.now kind) c.args.lines.now.refused kind c.requires.begun
+    rw (error_is c.from_residual.result c.from_residual.ensures.1)
+    (reported-fault _ _ (BreaksRle MAX_LEVEL c.args.lines.now.lines c.args.line.now kind) c.args.lines.now.refused kind c.requires.begun
     c.in_err-line_into.ensures.fault
     (λ e. c.in_err-line_into.ensures.spent.0 (cc)))
 
@@ -44,9 +44,8 @@ returns-clause-built g c =
 
 pub returns-in_err-line_into-clause-stores : goal.returns-in_err-line_into-clause-stores
 returns-in_err-line_into-clause-stores g c =
-    let p = err_from_is_err_and c.from_residual.result c.from_residual.ensures.1 in
     let kind : Kind = c.in_err-line_into.field-0.0 in
-    rw (p.1, p.2) (record {
+    rw (error_is c.from_residual.result c.from_residual.ensures.1) (record {
       needed = λ e. absurd (not-full-rle c.args.lines.now.lines c.args.line.now kind c.in_err-line_into.ensures.fault (cc));
       adds = adds-none _ _;
       keeps = keeps-same _;

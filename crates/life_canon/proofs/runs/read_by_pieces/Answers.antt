@@ -1,10 +1,9 @@
 use Rattle.std.proofs.Common.{rules, take}
-use Rattle.std.proofs.lemmas.Result.{err_from_is_err_and}
 use Rattle.life_quad.proofs.KeepingLemmas.{keeps-then}
 use Rattle.life_canon.specs.Running.{by_length, by_want}
 use Rattle.life_canon.proofs.RunFacts.{reading-on, reading-ends, piece-adds, piece-tight, beyond-most, ended-refused, ended-open, ended-lacks, ended-adds, ended-holds, ended-tight, ended-whole, lacks-prefix, refused-not-full}
 use Rattle.life_canon.proofs.runs.read_by_pieces.Goals as goal
-use Rattle.life_base.proofs.Results.{err_again}
+use Rattle.life_base.proofs.Results.{error_is, err_again}
 
 pub loop-reader-preserved : goal.loop-reader-preserved
 loop-reader-preserved g c = (
@@ -46,10 +45,9 @@ returns-then-total-most-clause-reads g c =
 -- a piece found no space or no memory
 pub returns-in_err-refused-clause-reads : goal.returns-in_err-refused-clause-reads
 returns-in_err-refused-clause-reads g c =
-    let p = err_from_is_err_and c.from_residual-in_err-refused.result c.from_residual-in_err-refused.ensures.1 in
     let piece = take c.in_ok-count.count c.read.new.buf in
     let call = c.in_err-refused.ensures in
-    rw (p.1, p.2) (record {
+    rw (error_is c.from_residual-in_err-refused.result c.from_residual-in_err-refused.ensures.1) (record {
       pattern = tt;
       works = tt;
       fault = by_want call.want;

@@ -1,6 +1,6 @@
 use Rattle.std.proofs.Common.{ap, arith, inl, inr, refl, rules, subst, sym, true, false, true≢false, Bool, List, ℕ, ◌++◌, ◌≡◌, ◌⊎◌, ◌∙◌, flat_map, ◌≢◌, Result, Ok, Err, IfErr}
 use Rattle.std.specs.Io.KnownBytes.{Appends}
-use Rattle.std.proofs.lemmas.Result.{err_from_is_err_and}
+use Rattle.life_base.proofs.Results.{error_is}
 use Rattle.life_base.specs.DeviceRuns.{SourceRun}
 use Rattle.life_base.specs.Refusal.{fault_of}
 use Rattle.life_base.specs.Writing.{WritesPrefix}
@@ -72,8 +72,7 @@ returns-in_err-numbers-clause-unwritten g c = as_it_was c.from_residual-in_err-n
 
 pub returns-in_err-pattern-clause-runs : goal.returns-in_err-pattern-clause-runs
 returns-in_err-pattern-clause-runs g c =
-    let p = err_from_is_err_and c.from_residual.result c.from_residual.ensures.1 in
-    rw (p.1, p.2) (record {
+    rw (error_is c.from_residual.result c.from_residual.ensures.1) (record {
       ok = tt;
       err = by_reading c.in_err-pattern.ensures.reads.fault;
       reads = source-err c.in_err-pattern.ensures.reads.reads;
@@ -82,9 +81,8 @@ returns-in_err-pattern-clause-runs g c =
 
 pub returns-in_err-numbers-clause-runs : goal.returns-in_err-numbers-clause-runs
 returns-in_err-numbers-clause-runs g c =
-    let p = err_from_is_err_and c.from_residual-in_err-numbers.result c.from_residual-in_err-numbers.ensures.1 in
     let memory = ap fault_of c.in_err-numbers.ensures.kind in
-    rw (p.1, p.2) (record {
+    rw (error_is c.from_residual-in_err-numbers.result c.from_residual-in_err-numbers.ensures.1) (record {
       ok = tt;
       err = by_reading (by_want (inl memory));
       reads = source-still c.in_ok-pattern.ensures.reads.reads (no-space memory);
@@ -93,9 +91,8 @@ returns-in_err-numbers-clause-runs g c =
 
 pub returns-in_err-deliver_squares-clause-runs : goal.returns-in_err-deliver_squares-clause-runs
 returns-in_err-deliver_squares-clause-runs g c =
-    let p = err_from_is_err_and c.from_residual-in_err-deliver_squares.result c.from_residual-in_err-deliver_squares.ensures.1 in
     let kind = c.in_err-deliver_squares.ensures.sink.kind in
-    rw (p.1, p.2) (record {
+    rw (error_is c.from_residual-in_err-deliver_squares.result c.from_residual-in_err-deliver_squares.ensures.1) (record {
       ok = tt;
       err = by_writing (ap fault_of kind) (record {
         wrote = wrote _ _ _ _ (WritesPrefix _ _) _ c.in_ok-pattern.ensures.reads.pattern c.in_ok-numbers.ensures.prefix c.in_err-deliver_squares.ensures.text;

@@ -1,5 +1,6 @@
 use Rattle.std.proofs.Common.{◌≡◌, ◌^◌, true, ap, inl, inr}
-use Rattle.std.proofs.lemmas.Result.{IfOk-weaker, err_from_is_err_and}
+use Rattle.std.proofs.lemmas.Result.{IfOk-weaker}
+use Rattle.life_base.proofs.Results.{error_is}
 use Rattle.life_base.proofs.ReadBack.{rules_read_back}
 use Rattle.life_base.specs.Refusal.{fault_of}
 use Rattle.life_base.specs.declared.cell.TheConstants.{MAX_LEVEL}
@@ -38,8 +39,7 @@ returns-clause-same c =
 
 pub returns-in_err-list-clause-fault : goal.returns-in_err-list-clause-fault
 returns-in_err-list-clause-fault c =
-    let p = err_from_is_err_and c.from_residual.result c.from_residual.ensures.1 in
-    rw (p.1, p.2) (elim c.in_err-list.ensures.refusals [
+    rw (error_is c.from_residual.result c.from_residual.ensures.1) (elim c.in_err-list.ensures.refusals [
       | inl e ↦ inr (ap fault_of e, λ bytes r. more-cells bytes _ _ r (2 ^ 20) (c.in_err-list.ensures.many e))
       | inr e ↦ inl (ap fault_of e)
     ])

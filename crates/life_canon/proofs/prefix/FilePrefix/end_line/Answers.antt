@@ -1,5 +1,5 @@
 use Rattle.std.proofs.Common.{append_assoc, ◌≡◌, ℕ, List, ◌++◌, [], ◌∷◌, sym, ap, ◌∙◌, refl}
-use Rattle.std.proofs.lemmas.Result.{err_from_is_err_and}
+use Rattle.life_base.proofs.Results.{error_is}
 use Rattle.life_base.specs.declared.line_log.LineLog.{LineLog}
 use Rattle.life_quad.proofs.KeepingLemmas.{adds-as}
 use Rattle.life_canon.specs.Needs.{IsNew}
@@ -10,8 +10,8 @@ use Rattle.life_canon.proofs.prefix.FilePrefix.end_line.Goals as goal
 
 pub returns-in_err-take_ended-clause-fault : goal.returns-in_err-take_ended-clause-fault
 returns-in_err-take_ended-clause-fault c =
-    let p = err_from_is_err_and c.from_residual.result c.from_residual.ensures.1 in
-    rw (p.1, p.2) (line-reported c.take_ended.new.store (bytes_of c.args.self.now.pieces.lines) c.args.self.now.kept.items c.args.end.now c.args.self.now.ended
+    rw (error_is c.from_residual.result c.from_residual.ensures.1)
+    (line-reported c.take_ended.new.store (bytes_of c.args.self.now.pieces.lines) c.args.self.now.kept.items c.args.end.now c.args.self.now.ended
     c.args.self.now.progress c.in_err-take_ended.field-0.0
     c.requires.prefix.is c.requires.going c.requires.no_feed c.in_err-take_ended.ensures.takes.fault)
 
@@ -41,10 +41,9 @@ returns-clause-bytes c =
 
 pub returns-in_err-take_ended-clause-stores : goal.returns-in_err-take_ended-clause-stores
 returns-in_err-take_ended-clause-stores c =
-    let p = err_from_is_err_and c.from_residual.result c.from_residual.ensures.1 in
     let old = c.args.self.now in
     let stores = c.in_err-take_ended.ensures.takes.stores in
-    rw (p.1, p.2) (record {
+    rw (error_is c.from_residual.result c.from_residual.ensures.1) (record {
       needed = λ e rest. ended-needs (IsNew c.take_ended.new.store) (bytes_of old.pieces.lines) old.kept.items c.args.end.now rest old.ended
           (consumed_lines old.progress)
           (c.requires.prefix.is.going c.requires.going) c.requires.no_feed (stores.needed e);

@@ -1,5 +1,5 @@
 use Rattle.std.proofs.Common.{◌≡◌, ℕ, List, ◌++◌, [], ◌∷◌, sym, ap, ◌∙◌, refl}
-use Rattle.std.proofs.lemmas.Result.{err_from_is_err_and}
+use Rattle.life_base.proofs.Results.{error_is}
 use Rattle.life_base.specs.declared.line_log.LineLog.{LineLog}
 use Rattle.life_canon.specs.Taking.{IsOver, bytes_of}
 use Rattle.life_canon.specs.declared.prefix.FilePrefix.{FilePrefix}
@@ -9,9 +9,9 @@ use Rattle.life_canon.proofs.prefix.FilePrefix.end_piece.Goals.{then-not-is_over
 
 pub returns-in_err-keep-clause-fault : goal.returns-in_err-keep-clause-fault
 returns-in_err-keep-clause-fault c =
-    let p = err_from_is_err_and c.from_residual.result c.from_residual.ensures.1 in
     let n : IsOver c.args.self.now.progress → ⊥ = λ o. not-true c.is_over.result c.if-not-is_over.true (c.is_over.ensures.1 o) in
-    rw (p.1, p.2) (kept-or-refused (bytes_of c.args.self.now.pieces.lines) c.args.self.now.kept.items c.args.rest.now c.args.self.now.ended
+    rw (error_is c.from_residual.result c.from_residual.ensures.1)
+    (kept-or-refused (bytes_of c.args.self.now.pieces.lines) c.args.self.now.kept.items c.args.rest.now c.args.self.now.ended
     c.args.self.now.progress c.in_err-keep.field-0.0 c.requires.prefix n
     (last-feed c.args.self.now.progress c.args.rest.now n c.requires.last) c.in_err-keep.ensures.fault)
 

@@ -1,5 +1,5 @@
 use Rattle.std.proofs.Common.{◌≡◌, ℕ, ◌+◌, ◌-◌, ◌^◌, min, Err, ap, sym, ◌∙◌, subst}
-use Rattle.std.proofs.lemmas.Result.{err_from_is_err_and}
+use Rattle.life_base.proofs.Results.{error_is}
 use Rattle.life_base.specs.Refusal.{fault_at, fault_of}
 use Rattle.life_base.specs.declared.kind.Kind.{Kind}
 use Rattle.life_base.specs.declared.kind.Kind.TheVariants.{Full}
@@ -31,8 +31,7 @@ returns-clause-fault c =
 
 pub returns-in_err-take_rest-clause-stores : goal.returns-in_err-take_rest-clause-stores
 returns-in_err-take_rest-clause-stores c =
-    let p = err_from_is_err_and c.from_residual.result c.from_residual.ensures.1 in
-    rw (p.1, p.2) (stores-err c.in_err-take_rest.ensures.stores)
+    rw (error_is c.from_residual.result c.from_residual.ensures.1) (stores-err c.in_err-take_rest.ensures.stores)
 
 pub end-requires : goal.end-requires
 end-requires c = record { begun = c.in_ok-take_rest.ensures.end.begun; stands = c.in_ok-take_rest.ensures.stands }

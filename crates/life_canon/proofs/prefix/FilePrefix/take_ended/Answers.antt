@@ -1,7 +1,7 @@
-use Rattle.std.proofs.lemmas.Result.{err_from_is_err_and}
 use Rattle.life_canon.proofs.PrefixFacts.{keep-fault, no-length}
 use Rattle.std.proofs.Common.{◌≡◌, ℕ, List, ◌++◌, length, sym, subst, arith}
 use Rattle.std.proofs.lemmas.Bool.Decides.{nat_tests}
+use Rattle.life_base.proofs.Results.{error_is}
 use Rattle.life_quad.proofs.KeepingLemmas.{keeps-same, adds-none}
 use Rattle.life_canon.specs.Prefixes.{IsOpenIn, TakesLine, TakesLineOf}
 use Rattle.life_canon.specs.declared.progress.Progress.{Progress}
@@ -17,8 +17,7 @@ returns-then-is_empty-clause-takes c =
 
 pub returns-in_err-keep-clause-takes : goal.returns-in_err-keep-clause-takes
 returns-in_err-keep-clause-takes c =
-    let p = err_from_is_err_and c.from_residual.result c.from_residual.ensures.1 in
-    rw (p.1, p.2) (record {
+    rw (error_is c.from_residual.result c.from_residual.ensures.1) (record {
       line_consumed = tt;
       fault = keep-fault c.args.store.now c.args.self.now.progress c.args.self.now.kept.items c.args.end.now c.args.self.now.ended c.in_err-keep.field-0.0
           c.requires.progress.begun c.requires.going c.in_err-keep.ensures.fault;

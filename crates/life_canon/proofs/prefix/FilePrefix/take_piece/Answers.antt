@@ -1,6 +1,6 @@
 use Rattle.std.proofs.Common.{append_assoc, ◌≡◌, ℕ, ◌+◌, ◌-◌, ◌<◌, ◌≤◌, List, ◌++◌, [], ◌∷◌, length, take, drop, sym, ap, ◌∙◌, subst, arith, length-drop, rules}
 use Rattle.std.proofs.lemmas.Grind.{common_steps}
-use Rattle.std.proofs.lemmas.Result.{err_from_is_err_and}
+use Rattle.life_base.proofs.Results.{error_is}
 use Rattle.life_base.proofs.LineEnds.{all_behind}
 use Rattle.life_base.specs.Lines.{whole_lines}
 use Rattle.life_quad.proofs.KeepingLemmas.{keeps-then, adds-then}
@@ -20,10 +20,10 @@ end_line-requires-clause-no_feed c = feed-before c.loop-end.rest.now c.in-Some.e
 
 pub returns-in_err-end_line-clause-fault : goal.returns-in_err-end_line-clause-fault
 returns-in_err-end_line-clause-fault c =
-    let p = err_from_is_err_and c.from_residual.result c.from_residual.ensures.1 in
     let rest : List ℕ = c.loop-end.rest.now in
     let all = piece-split (bytes_of c.loop-end.self.pieces.lines) rest c.in-Some.end c.in-Some.ensures.end c.loop-end.invariant.bytes in
-    rw (p.1, p.2) (reported-along c.end_line.new.store (bytes_of c.loop-end.self.pieces.lines ++ take c.in-Some.end rest ++ 10 ∷ [])
+    rw (error_is c.from_residual.result c.from_residual.ensures.1)
+    (reported-along c.end_line.new.store (bytes_of c.loop-end.self.pieces.lines ++ take c.in-Some.end rest ++ 10 ∷ [])
     (drop (c.in-Some.end + 1) rest)
     (bytes_of c.args.self.now.pieces.lines ++ c.args.piece.now) c.in_err-end_line.field-0.0 all c.in_err-end_line.ensures.fault)
 
@@ -62,11 +62,10 @@ end_piece-requires-clause-prefix c = c.loop-end.invariant.prefix.is
 
 pub returns-in_err-end_line-clause-stores : goal.returns-in_err-end_line-clause-stores
 returns-in_err-end_line-clause-stores c =
-    let p = err_from_is_err_and c.from_residual.result c.from_residual.ensures.1 in
     let rest : List ℕ = c.loop-end.rest.now in
     let all = piece-split (bytes_of c.loop-end.self.pieces.lines) rest c.in-Some.end c.in-Some.ensures.end c.loop-end.invariant.bytes in
     let stores = c.in_err-end_line.ensures.stores in
-    rw (p.1, p.2) (record {
+    rw (error_is c.from_residual.result c.from_residual.ensures.1) (record {
       needed = λ e. subst (λ (b : List ℕ). LacksForPrefix MAX_LEVEL b c.end_line.new.store) all (stores.needed e (drop (c.in-Some.end + 1) rest));
       adds = adds-then _ c.loop-end.invariant.adds stores.adds (λ P a. a)
           (λ P s. subst (λ (b : List ℕ). SomeOfLines MAX_LEVEL P (whole_lines b)) all (s (drop (c.in-Some.end + 1) rest)));

@@ -1,6 +1,6 @@
 use Rattle.std.proofs.Common.{◌≡◌, ◌⊎◌, ℕ, suc, true, false, ◌+◌, ◌≤◌, ◌^◌, max, List, ◌++◌, map, ℤ, refl, inl, inr, sym, ap, ◌∙◌, subst, All}
 use Rattle.std.specs.Global.{Vec}
-use Rattle.std.proofs.lemmas.Result.{IfOk-weaker, err_from_is_err_and}
+use Rattle.std.proofs.lemmas.Result.{IfOk-weaker}
 use Rattle.life_base.specs.Lines.{LinesRead}
 use Rattle.life_base.specs.Text.{lines_of}
 use Rattle.life_base.specs.Tree.{Tree, depth, tree_cell}
@@ -41,7 +41,8 @@ use Rattle.life_canon.proofs.Middles.{ends-with-cell, root-lower, same-about}
 use Rattle.life_canon.proofs.Standing.{squares-stay}
 use Rattle.life_canon.proofs.WaitingFacts.{kept-joined, kept-squares, waiting-some}
 use Rattle.life_canon.proofs.progress.Progress.end.Goals as goal
-use Rattle.life_base.proofs.Results.{err_again}
+use Rattle.life_canon.proofs.progress.Progress.end.Goals.{After-deref}
+use Rattle.life_base.proofs.Results.{error_is, err_again}
 
 -- what the end of an RLE file with these runs gives
 record RleEnd (p : Progress) (runs : List Run) (file : Rle) : Type 1 where
@@ -136,11 +137,10 @@ returns-in-Undecided-clause-fault c = let u = undecided-lacks c.args.self c.in-U
 
 pub returns-in_err-rule-in-Rle-clause-fault : goal.returns-in_err-rule-in-Rle-clause-fault
 returns-in_err-rule-in-Rle-clause-fault c =
-    let p = err_from_is_err_and c.from_residual.result c.from_residual.ensures.1 in
     let kind : Kind = c.in_err-rule-in-Rle.field-0.0 in
     let begun = subst IsOpen c.in-Rle.is c.requires.begun in
     let e = c.in_err-rule-in-Rle.ensures in
-    rw (p.1, p.2) (inr (end-kind c.args.self c.in-Rle.lines.lines c.in-Rle.lines.refused kind
+    rw (error_is c.from_residual.result c.from_residual.ensures.1) (inr (end-kind c.args.self c.in-Rle.lines.lines c.in-Rle.lines.refused kind
     (ap consumed_lines c.in-Rle.is) begun.format begun.unrefused e.only
     (λ n. (e.missing begun.unrefused).0 (cc)) (λ s. e.spent.0 (cc))))
 
@@ -157,34 +157,35 @@ returns-in-Rle-clause-pattern c =
     IfOk-weaker c.trimmed_pattern.result _ _ (λ pattern h. (rle_universe found.0, ended.says, h))
     (c.trimmed_pattern.ensures.pattern _ (sym found.2) (sym found.3) (λ x y. c.in_ok-root-in-Rle.ensures.cells x y ∙ ended.cells x y))
 
-pub last_square-root-requires : goal.last_square-root-requires
-last_square-root-requires c =
+-- the end of a macrocell file, whose squares are joined
+ended : (c : After-deref) → MacrocellEnd c.join_waiting.new.squares c.args.self c.deref.result.now c.in_ok-rule-in-Macrocell.ensures.file.0
+ended c =
     let found = c.in_ok-rule-in-Macrocell.ensures.file in
     let join = c.in_ok-join_waiting-in-Macrocell.ensures in
     let there = joined-squares c.args.store.now c.join_waiting.new.squares c.in-Macrocell.lines.lines
     (subst (StandsFor (IsKnown c.args.store.now) (content c.args.store.now)) c.in-Macrocell.is c.requires.stands) join.grows.keeps.contents join.joined.joined
     join.joined.are join.joined.known join.joined.squares c.deref.ensures.value in
-    let ended = macrocell-end c.join_waiting.new.squares c.in-Macrocell.is c.requires.begun there found.0 found.1 in
+    macrocell-end c.join_waiting.new.squares c.in-Macrocell.is c.requires.begun there found.0 found.1
+
+pub last_square-root-requires : goal.last_square-root-requires
+last_square-root-requires c =
+    let found = c.in_ok-rule-in-Macrocell.ensures.file in
+    let ended = ended (goal.at.last_square-root-requires c).After-deref in
     (found.0, ended.valid, ended.there)
 
 pub returns-clause-pattern : goal.returns-clause-pattern
 returns-clause-pattern c =
     let found = c.in_ok-rule-in-Macrocell.ensures.file in
-    let join = c.in_ok-join_waiting-in-Macrocell.ensures in
-    let there = joined-squares c.args.store.now c.join_waiting.new.squares c.in-Macrocell.lines.lines
-    (subst (StandsFor (IsKnown c.args.store.now) (content c.args.store.now)) c.in-Macrocell.is c.requires.stands) join.grows.keeps.contents join.joined.joined
-    join.joined.are join.joined.known join.joined.squares c.deref.ensures.value in
-    let ended = macrocell-end c.join_waiting.new.squares c.in-Macrocell.is c.requires.begun there found.0 found.1 in
+    let ended = ended (goal.at.returns-clause-pattern c).After-deref in
     IfOk-weaker c.trimmed_pattern-in-Macrocell.result _ _ (λ pattern h. (macrocell_universe found.0, ended.says, h))
     (c.trimmed_pattern-in-Macrocell.ensures.pattern _ (sym found.2) (sym found.3) (c.last_square-root.ensures.cells found.0 ended.valid ended.there))
 
 pub returns-in_err-root-in-Rle-clause-stores : goal.returns-in_err-root-in-Rle-clause-stores
 returns-in_err-root-in-Rle-clause-stores c =
-    let p = err_from_is_err_and c.from_residual-in_err-root-in-Rle.result c.from_residual-in_err-root-in-Rle.ensures.1 in
     let found = c.in_ok-rule-in-Rle.ensures.file in
     let ended = rle-end c.args.store.now c.in-Rle.is c.requires.begun c.requires.stands found.0 found.1 in
     let grows = c.in_err-root-in-Rle.ensures.grows in
-    rw (p.1, p.2) (record {
+    rw (error_is c.from_residual-in_err-root-in-Rle.result c.from_residual-in_err-root-in-Rle.ensures.1) (record {
       needed = λ e. inl (ended.plane _ (grows.needed (err_again e)));
       adds = adds-as _ grows.adds (λ P s. inl (ended.plane P s));
       keeps = grows.keeps;
@@ -208,10 +209,7 @@ pub returns-clause-stores : goal.returns-clause-stores
 returns-clause-stores c =
     let found = c.in_ok-rule-in-Macrocell.ensures.file in
     let join = c.in_ok-join_waiting-in-Macrocell.ensures in
-    let there = joined-squares c.args.store.now c.join_waiting.new.squares c.in-Macrocell.lines.lines
-    (subst (StandsFor (IsKnown c.args.store.now) (content c.args.store.now)) c.in-Macrocell.is c.requires.stands) join.grows.keeps.contents join.joined.joined
-    join.joined.are join.joined.known join.joined.squares c.deref.ensures.value in
-    let ended = macrocell-end c.join_waiting.new.squares c.in-Macrocell.is c.requires.begun there found.0 found.1 in
+    let ended = ended (goal.at.returns-clause-stores c).After-deref in
     let last = c.last_square-root.ensures in
     let level = last.level found.0 ended.valid ended.there in
     let trims = c.trimmed_pattern-in-Macrocell.ensures.grows in
@@ -224,10 +222,10 @@ returns-clause-stores c =
 
 pub returns-in_err-join_waiting-in-Macrocell-clause-stores : goal.returns-in_err-join_waiting-in-Macrocell-clause-stores
 returns-in_err-join_waiting-in-Macrocell-clause-stores c =
-    let p = err_from_is_err_and c.from_residual-in_err-join_waiting-in-Macrocell.result c.from_residual-in_err-join_waiting-in-Macrocell.ensures.1 in
     let grows = c.in_err-join_waiting-in-Macrocell.ensures.grows in
     let some = waited-some c.args.store.now c.in-Macrocell.is c.requires.begun c.requires.stands in
-    rw (p.1, p.2) (record { needed = λ e. some _ (grows.needed (err_again e)); adds = adds-as _ grows.adds some; keeps = grows.keeps })
+    rw (error_is c.from_residual-in_err-join_waiting-in-Macrocell.result c.from_residual-in_err-join_waiting-in-Macrocell.ensures.1)
+    (record { needed = λ e. some _ (grows.needed (err_again e)); adds = adds-as _ grows.adds some; keeps = grows.keeps })
 
 pub returns-in-Rle-clause-all : goal.returns-in-Rle-clause-all
 returns-in-Rle-clause-all c =
@@ -251,11 +249,7 @@ pub returns-clause-all : goal.returns-clause-all
 returns-clause-all c =
     let found = c.in_ok-rule-in-Macrocell.ensures.file in
     let file = found.0 in
-    let join = c.in_ok-join_waiting-in-Macrocell.ensures in
-    let there = joined-squares c.args.store.now c.join_waiting.new.squares c.in-Macrocell.lines.lines
-    (subst (StandsFor (IsKnown c.args.store.now) (content c.args.store.now)) c.in-Macrocell.is c.requires.stands) join.grows.keeps.contents join.joined.joined
-    join.joined.are join.joined.known join.joined.squares c.deref.ensures.value in
-    let ended = macrocell-end c.join_waiting.new.squares c.in-Macrocell.is c.requires.begun there file found.1 in
+    let ended = ended (goal.at.returns-clause-all c).After-deref in
     let last = c.last_square-root.ensures in
     let store = c.trimmed_pattern-in-Macrocell.new.squares in
     let root = c.last_square-root.result in
