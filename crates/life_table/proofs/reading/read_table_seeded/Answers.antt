@@ -1,6 +1,7 @@
 use Rattle.std.proofs.Common.{rules, ◌≡◌, ◌++◌, ◌∷◌, ◌+◌, ◌-◌, ◌^◌, min, length, [], List, ℕ, Bool, map, sym, ◌∙◌, ap, subst, inl, inr, append_assoc, refl, true, Err, None, Some}
 use Rattle.std.proofs.lemmas.List.{map-append}
-use Rattle.std.proofs.lemmas.Result.{err_from_is_err_and, IfOk-weaker, MatchResult-weaker}
+use Rattle.std.proofs.lemmas.Result.{IfOk-weaker, MatchResult-weaker}
+use Rattle.life_base.proofs.Results.{error_is}
 use Rattle.life_base.specs.Text.{lines_of, numbered_from}
 use Rattle.life_base.specs.Refusal.{OrMemory}
 use Rattle.life_base.specs.declared.fault.Fault.{Fault}
@@ -24,7 +25,6 @@ loop-number-init c = record {
 
 pub returns-in_err-line-clause-err : goal.returns-in_err-line-clause-err
 returns-in_err-line-clause-err c =
-    let p = err_from_is_err_and c.from_residual.result c.from_residual.ensures.1 in
     let pairs : List NumberedLine = map numbered c.loop-number.yielded in
     let fault : Fault = c.in_err-line.field-0.0 in
     let directive : OrMemory fault
@@ -38,18 +38,17 @@ returns-in_err-line-clause-err c =
       | inr w ↦ inr (refused_at (lines_of c.args.bytes.now) pairs c.in-Some.number c.in-Some.line.now _ all c.loop-number.reader.parsed
           c.loop-number.reader.fits c.loop-number.invariant.reads fault w.0 w.1)
     ] in
-    rw (p.1, p.2) answer
+    rw (error_is c.from_residual.result c.from_residual.ensures.1) answer
 
 pub returns-in_err-line-clause-kinds : goal.returns-in_err-line-clause-kinds
 returns-in_err-line-clause-kinds c =
-    let p = err_from_is_err_and c.from_residual.result c.from_residual.ensures.1 in
     let fault : Fault = c.in_err-line.field-0.0 in
     let parsed : Parsed = c.loop-number.reader.parsed in
     let directive : OrMemory fault ((parse_line parsed c.in-Some.number c.in-Some.line.now ≡ Err fault.kind) × (fault.place.line ≡ c.in-Some.number))
     = c.in_err-line.ensures.err in
     let answer : OrMemory fault (is_table_kind fault.kind ≡ true) = elim directive
     [ inl m ↦ inl m | inr w ↦ inr (directive_kind parsed c.in-Some.number c.in-Some.line.now fault.kind w.0) ] in
-    rw (p.1, p.2) answer
+    rw (error_is c.from_residual.result c.from_residual.ensures.1) answer
 
 pub loop-number-preserved : goal.loop-number-preserved
 loop-number-preserved c =
