@@ -16,7 +16,7 @@ use Rattle.clap.specs.declared.error.kind.ErrorKind.TheVariants.{TooManyValues}
 use Rattle.clap.specs.declared.parser.matches.ValueSource.TheVariants.{CommandLine, DefaultValue}
 use Rattle.command_line.specs.Plans.{AreWhole}
 use Rattle.command_line.specs.declared.plans.Task.TheVariants.{Canon, Convert, Same, Show, Step as StepTask}
-use Rattle.command_line.specs.declared.plans.Form.TheVariants.{Placed}
+use Rattle.life_base.specs.declared.form.Form.TheVariants.{Placed}
 use Rattle.command_line.specs.declared.plans.Target.TheVariants.{Rle}
 use Rattle.command_line.specs.CommandLine.{program, canon_line, convert_line, same_line, show_line, step_line, keys_line, files_line}
 use Rattle.std.proofs.lemmas.Slice.Eq.{bytes_eq-Decides}

@@ -7,8 +7,8 @@ use Rattle.clap.specs.declared.error.Error.{Error}
 use Rattle.clap.specs.declared.error.kind.ErrorKind.{ErrorKind}
 use Rattle.clap.specs.declared.error.kind.ErrorKind.TheVariants.{InvalidSubcommand, InvalidValue}
 use Rattle.command_line.specs.Plans.{AreOfAnyFiles, Explains, ExplainsPlan, HasSecond, HoldsForm, HoldsGenerations, HoldsMatches, HoldsPeriod, IfWork, IsKeysPlanOf, IsRequestOf, IsStreamPlanOf, IsFoundAmong, IsTaskPlanOf, NamesGenerations, NamesInputTwice, NamesOtherForm, NamesPeriod, RefusesAs, RefusesWord, TakesAnyFiles, HasNoJob, command_of, form_word, values_of}
-use Rattle.command_line.specs.declared.plans.Form.{Form}
-use Rattle.command_line.specs.declared.plans.Form.TheVariants.{Placed}
+use Rattle.life_base.specs.declared.form.Form.{Form}
+use Rattle.life_base.specs.declared.form.Form.TheVariants.{Placed}
 use Rattle.command_line.specs.declared.plans.KeysPlan.{KeysPlan}
 use Rattle.command_line.specs.declared.plans.StreamPlan.{StreamPlan}
 use Rattle.command_line.specs.declared.plans.Task.{Task}

@@ -9,7 +9,7 @@ use Rattle.clap.specs.declared.parser.matches.ArgMatches.{ArgMatches}
 use Rattle.clap.specs.declared.parser.matches.ArgMatches.TheViews.{out-ArgMatches, out-SubCommand}
 use Rattle.std.specs.Box.{box_value}
 use Rattle.command_line.specs.Plans.{AreOfTask, AreWhole, Explains, HasNoForm, HasNoFormat, HasNoNumber, HasNoPeriod, HasOneFile, HasRequired, HoldsFiles, HoldsFlag, HoldsForm, HoldsGenerations, HoldsMatches, HoldsPeriod, IsFoundAmong, IsTaskPlanOf, LacksFiles, NamesInputTwice, NamesNoFiles, NamesNoForm, NamesNoFormat, NamesNoNumber, NamesNoPeriod, NamesNoValue, RefusesKeys, RefusesStream, RefusesWord, TakesAnyFiles, command_of, target_word}
-use Rattle.command_line.specs.declared.plans.Form.{Form}
+use Rattle.life_base.specs.declared.form.Form.{Form}
 use Rattle.command_line.specs.declared.plans.Target.{Target}
 use Rattle.command_line.specs.declared.plans.Task.{Task}
 use Rattle.command_line.specs.declared.plans.Task.TheVariants.{Canon, Convert, Same, Show, ShowPeriod, Step, StepTable, Later, LaterTable}

@@ -1,6 +1,7 @@
 //! What the arguments of the command line ask for.
 
 use clap::Error;
+pub use life_base::Form;
 use std::alloc::AllocError;
 
 /// What a run can do with patterns as they lie.
@@ -60,17 +61,6 @@ impl From<Job> for Task {
             Job::StepTable => Task::StepTable,
         }
     }
-}
-
-/// The form that a pattern is taken in.
-#[derive(Clone, Copy, PartialEq, Eq, Debug)]
-pub enum Form {
-    /// The pattern in its place.
-    Placed,
-    /// Moved, so that its place doesn't count.
-    Moved,
-    /// Turned or reflected, and moved, so that neither its direction nor its place counts.
-    Turned,
 }
 
 /// The format that a pattern is converted to.

@@ -19,9 +19,9 @@ use Rattle.pattern_sources.specs.Faults.{status_of}
 use Rattle.pattern_sources.specs.Forms.{IsTextAtStart, IsTextIn}
 use Rattle.pattern_sources.specs.Sources.{by_file, by_input, by_length, by_source, by_want, ComesOf, HasNoText, HasText, InputRefuses, IsTooSmallFor, RefusesInForm}
 use Rattle.file_keys.specs.Keys.{IsHashedText, IsKeyIn, IsKeyOf, IsStatus}
-use Rattle.command_line.specs.declared.plans.Form.{Form}
+use Rattle.life_base.specs.declared.form.Form.{Form}
 use Rattle.command_line.specs.declared.plans.KeyForm.{KeyForm}
-use Rattle.command_line.specs.declared.plans.Form.TheVariants.{Placed}
+use Rattle.life_base.specs.declared.form.Form.TheVariants.{Placed}
 use Rattle.pattern_sources.proofs.SourceLemmas.{fault_status, no_pattern}
 
 -- the text that is hashed, by whether the generation is ignored

@@ -5,8 +5,8 @@ pub use Rattle.file_hints.specs.Refused.{advice_on}
 pub use Rattle.library_calls.specs.Texts.{Fits, IsLeastCanonicalText, IsRleText, RefusesRleWithin, RefusesWithin, SomeToRead, TellsText}
 pub use Rattle.library_calls.specs.Comparing.{comparison_of, ComparesWithin, SomeToReadBoth}
 pub use Rattle.library_calls.specs.ComparingInForm.{ComparesInForm, ComparesInNone}
-pub use Rattle.library_calls.specs.Outputs.{text_in}
 pub use Rattle.library_calls.specs.InForm.{form_numbered, IsKeyInForm, IsTextInForm, AnswersInForm}
+pub use Rattle.life_base.specs.declared.form.Form.{Form as FormValue}
 pub use Rattle.life_generations.specs.Later.{IsTextLater}
 pub use Rattle.library_calls.specs.Stepping.{RefusesLater, RefusesStepWithin, StepsByTable}
 pub use Rattle.file_hints.specs.Sentences.{sentence_of}

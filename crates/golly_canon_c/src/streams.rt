@@ -1,11 +1,11 @@
 //! The calls on streams: a file in pieces, and one answer at its end.
 
 ghost use Rattle.std.specs.Prelude.{◌≡◌, None, IfSome, MatchOption};
-ghost use Rattle.golly_canon_c.specs.Words.{text_in, form_numbered, session_of, OpensStream, Feeds, Finishes, IsSpent, TellsPiece, TellsNothing, TellsEnd, TellsKey, TellsText, reply, OutputValue};
+ghost use Rattle.golly_canon_c.specs.Words.{form_numbered, session_of, OpensStream, Feeds, Finishes, IsSpent, TellsPiece, TellsNothing, TellsEnd, TellsKey, TellsText, reply, FormValue, OutputValue};
 
 use crate::reported::tell;
 use library_calls::{
-    Options, Output, Stream, close, feed, finish, finish_key, open, open_canon_form,
+    Form, Options, Output, Stream, close, feed, finish, finish_key, open, open_canon_form,
 };
 use std::alloc::Global;
 
@@ -17,9 +17,15 @@ pub extern "C" fn golly_canon_open_canon(
     limit: u64,
     seed: u64,
 ) -> u32
-    ensures { OpensStream OutputValue.Canonical limit result (session_of stream.new) }
+    ensures { OpensStream (OutputValue.Canonical FormValue.Placed) limit result
+        (session_of stream.new) }
 {
-    open(alloc, stream, Output::Canonical, Options { limit, seed })
+    open(
+        alloc,
+        stream,
+        Output::Canonical(Form::Placed),
+        Options { limit, seed },
+    )
 }
 
 /// Opens a stream whose end gives the canonical text in the form with this number, and closes it first where it is open.
@@ -32,7 +38,7 @@ pub extern "C" fn golly_canon_open_canon_form(
     seed: u64,
 ) -> u32
     ensures { MatchOption (form_numbered form) ((result ≡ 65) × (session_of stream.new ≡ None))
-        (λ form. OpensStream (text_in form) limit result (session_of stream.new)) }
+        (λ form. OpensStream (OutputValue.Canonical form) limit result (session_of stream.new)) }
 {
     open_canon_form(alloc, stream, form, Options { limit, seed })
 }

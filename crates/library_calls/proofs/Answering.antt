@@ -7,13 +7,13 @@ use Rattle.life_base.specs.declared.kind.Kind.TheVariants.{Full, Memory}
 use Rattle.life_base.specs.Tree.{Tree}
 use Rattle.life_quad.specs.Store.{Nodes, stored_squares}
 use Rattle.life_canon.specs.Store.{IsShortageOf}
+use Rattle.life_base.specs.declared.form.Form.TheVariants.{Placed}
 use Rattle.library_calls.specs.Reported.{Reported, ReturnsText, ReturnsFault, Returns, by_text, by_fault}
 use Rattle.library_calls.specs.Texts.{TellsText, IsLimitShortage, squares_of_limit}
 use Rattle.library_calls.specs.Comparing.{Compared, ComparesWithin, comparison_of}
 use Rattle.library_calls.specs.Comparing as placed
 use Rattle.library_calls.specs.ComparingInForm.{ComparesInForm}
 use Rattle.library_calls.specs.ComparingInForm as in_form
-use Rattle.library_calls.specs.declared.pattern_form.PatternForm.TheVariants.{Placed}
 use Rattle.library_calls.proofs.Numbered.{no_text}
 
 -- a text or a fault, reported
@@ -88,7 +88,8 @@ is-answer false agree = inr (refl, λ p. let e : false ≡ true = agree.1 p in a
 -- two files that are compared where they lie
 pub placed-compares : (limit : ℕ) (first second : List ℕ) (it : Compared) → ComparesInForm Placed limit first second it → ComparesWithin limit first second it
 placed-compares limit first second it (in_form.by_answer status line one other small answer) = placed.by_answer status line one other answer
-placed-compares limit first second it (in_form.by_fault fault status line is_same why) = placed.by_fault fault status line is_same why
+placed-compares limit first second it (in_form.by_fault fault status line is_same (inl why)) = placed.by_fault fault status line is_same why
+placed-compares limit first second it (in_form.by_fault fault status line is_same (inr large)) = absurd large.1.related
 
 -- a form that has the number, and none that has
 pub at-form : {X : Type 0} (form : Option X) (A : Type 0) (B : X → Type 0) (x : X) → form ≡ Some x → B x → MatchOption form A B

@@ -8,129 +8,77 @@ use Rattle.life_base.specs.declared.fault.Fault.{Fault}
 use Rattle.life_base.specs.declared.kind.Kind.TheVariants.{Full}
 use Rattle.life_quad.specs.Keeping.{AddsOnly}
 use Rattle.life_quad.specs.Store.{Nodes, stored_squares}
-use Rattle.life_canon.specs.Files.{Accepted, Reads, Refuses}
-use Rattle.life_canon.specs.Laws.{FilesAreUnique, PatternsFit, RefusalsHaveKinds}
-use Rattle.life_canon.specs.Listing.{canon_text}
+use Rattle.life_canon.specs.Files.{Accepted, Refuses}
+use Rattle.life_canon.specs.Laws.{CanonicalIsLeast, FilesAreOnPlane, RefusalsHaveKinds, TextsAreFiles}
+use Rattle.life_canon.specs.Listing.{canonical_file}
 use Rattle.life_canon.specs.Needs.{IsNew, LacksFor}
 use Rattle.life_canon.specs.Space.{AddsFile, FewSquares, HoldsFile, HoldsOnly, LimitSuffices, sufficient_for}
-use Rattle.life_canon.specs.Store.{IsRead, IsShortageOf, RefusesIn, universe_in}
-use Rattle.life_canon.specs.Universe.{Universe}
+use Rattle.life_canon.specs.Store.{IsRead, IsShortageOf, RefusesIn}
+use Rattle.life_canon.specs.Texts.{IsCanonical}
 use Rattle.life_canon.specs.declared.pattern.Pattern.{Pattern}
 use Rattle.life_canon.proofs.SpaceCount.{found-as, find-file}
-use Rattle.life_canon.proofs.Sameness.{same-is_one}
-use Rattle.life_forms.specs.Forms.{IsMoved}
-use Rattle.life_forms.specs.Images.{IsTurnedText}
-use Rattle.life_forms.specs.Needed.{HasLargerForm}
-use Rattle.life_forms.specs.Needed as layer
-use Rattle.life_forms.specs.Turns.{image}
-use Rattle.library_calls.specs.Texts.{NeedsMore, SomeToRead, squares_of_limit}
+use Rattle.pattern_forms.specs.InForm.{FileHasLargerForm, IsTextWithin, OneFileHasLargerForm, most_of_form}
+use Rattle.life_base.specs.declared.form.Form.{Form}
+use Rattle.life_base.specs.declared.form.Form.TheVariants.{Placed, Moved, Turned}
+use Rattle.life_mc.specs.Reading.{IsMacrocell}
+use Rattle.library_calls.specs.Texts.{IsLeastCanonicalText, NeedsMore, RefusesWithin, SomeToRead, squares_of_limit}
+use Rattle.library_calls.specs.ComparingInForm.{RefusesEitherInForm}
+use Rattle.library_calls.specs.InForm.{squares_of_form, IsTextInForm, RefusesFormWithin}
 use Rattle.library_calls.specs.Comparing.{IsTooLowForBoth, SomeToReadBoth}
-use Rattle.library_calls.specs.ComparingInForm.{AreOfOneGeneration, OneHasFormLargerThan, AreRelatedFiles, RefusesEitherInForm}
-use Rattle.library_calls.specs.InForm.{squares_of_form, HasFormLargerThan, IsTextMoved, IsTextTurned, RefusesFormWithin}
-use Rattle.library_calls.specs.declared.pattern_form.PatternForm.{PatternForm}
-use Rattle.library_calls.specs.declared.pattern_form.PatternForm.TheVariants.{Placed, Moved, Turned}
 use Rattle.library_calls.proofs.Answering.{not-full, tight, wanted}
 use Rattle.library_calls.proofs.NeedFacts.{HoldsOnce, enough, from-empty, more-than-held, too-low}
-
--- what a pattern in a store says is what its file says
-pub reads-it : PatternsFit MAX_LEVEL → (bytes : List ℕ) (store : Nodes) (pattern : Pattern) → IsRead MAX_LEVEL bytes store pattern
-    → Reads MAX_LEVEL bytes (universe_in store pattern)
-reads-it fit bytes store pattern read =
-    subst (λ (u : Universe). Reads MAX_LEVEL bytes u) (same-is_one read.universe (universe_in store pattern) (fit bytes store pattern read).1) read.reads
 
 pub accepted-it : (bytes : List ℕ) (store : Nodes) (pattern : Pattern) → IsRead MAX_LEVEL bytes store pattern → Accepted MAX_LEVEL bytes
 accepted-it bytes store pattern read = (read.universe, read.reads)
 
 -- ---- texts
 
--- the text of a moved form is that of the file
-pub moved-text : PatternsFit MAX_LEVEL → (limit : ℕ) (bytes : List ℕ) (store form : Nodes) (pattern moved : Pattern) (text : List ℕ)
-    → store.limit ≡ squares_of_limit limit → IsRead MAX_LEVEL bytes store pattern → ¬ layer.HasLargeForm store pattern
-    → IsMoved MAX_LEVEL (universe_in store pattern) (universe_in form moved) → text ≡ canon_text MAX_LEVEL (universe_in form moved)
-    → IsTextMoved limit bytes text
-moved-text fit limit bytes store form pattern moved text space read small is_moved is = record {
-  universe = universe_in store pattern;
-  reads = reads-it fit bytes store pattern read;
-  small = subst (λ (n : ℕ). ¬ HasLargerForm (min (2 ^ 21) n) (universe_in store pattern)) space small;
-  form = universe_in form moved;
-  moved = is_moved;
-  is = is;
-}
-
-pub turned-text : PatternsFit MAX_LEVEL → (limit : ℕ) (bytes : List ℕ) (store : Nodes) (pattern : Pattern) (text : List ℕ)
-    → store.limit ≡ squares_of_limit limit → IsRead MAX_LEVEL bytes store pattern → ¬ layer.HasLargeImage store pattern
-    → IsTurnedText MAX_LEVEL (universe_in store pattern) text → IsTextTurned limit bytes text
-turned-text fit limit bytes store pattern text space read small turned = record {
-  universe = universe_in store pattern;
-  reads = reads-it fit bytes store pattern read;
-  small = λ turn large. small (turn, subst (λ (n : ℕ). HasLargerForm (min (2 ^ 21) n) (image turn (universe_in store pattern))) (sym space) large);
-  turned = turned;
-}
-
--- ---- why there is none
-
--- a pattern with a large form is that of a file with one
-large-file : PatternsFit MAX_LEVEL → (limit : ℕ) (bytes : List ℕ) (store : Nodes) (pattern : Pattern) → store.limit ≡ squares_of_limit limit
-    → IsRead MAX_LEVEL bytes store pattern → layer.HasLargeForm store pattern → HasFormLargerThan Moved (squares_of_form limit) bytes
-large-file fit limit bytes store pattern space read large =
-    let u = universe_in store pattern in
-    (u, reads-it fit bytes store pattern read, subst (λ (n : ℕ). HasLargerForm (min (2 ^ 21) n) u) space large)
-
-large-image : PatternsFit MAX_LEVEL → (limit : ℕ) (bytes : List ℕ) (store : Nodes) (pattern : Pattern) → store.limit ≡ squares_of_limit limit
-    → IsRead MAX_LEVEL bytes store pattern → layer.HasLargeImage store pattern → HasFormLargerThan Turned (squares_of_form limit) bytes
-large-image fit limit bytes store pattern space read large =
-    let u = universe_in store pattern in (
-      u,
-      reads-it fit bytes store pattern read,
-      (large.0, subst (λ (n : ℕ). HasLargerForm (min (2 ^ 21) n) (image large.0 u)) space large.1),
+-- the canonical text of a file has the fewest node lines
+canonical : FilesAreOnPlane MAX_LEVEL → TextsAreFiles MAX_LEVEL → CanonicalIsLeast MAX_LEVEL → (bytes text : List ℕ) → IsCanonical MAX_LEVEL bytes text
+    → IsLeastCanonicalText bytes text
+canonical plane files least bytes text h =
+    let on = plane bytes h.universe h.reads in
+    let file = files h.universe on in (
+      h,
+      record {
+        universe = h.universe;
+        reads = h.reads;
+        file = canonical_file MAX_LEVEL h.universe;
+        says = subst (λ t. IsMacrocell MAX_LEVEL t (canonical_file MAX_LEVEL h.universe)) (sym h.is) file.0;
+        same = file.1;
+        least = least h.universe on;
+      },
     )
 
--- where the file of a pattern has one, the pattern has one
-file-large : FilesAreUnique MAX_LEVEL → PatternsFit MAX_LEVEL → (limit : ℕ) (bytes : List ℕ) (store : Nodes) (pattern : Pattern)
-    → store.limit ≡ squares_of_limit limit → IsRead MAX_LEVEL bytes store pattern → HasFormLargerThan Moved (squares_of_form limit) bytes
-    → layer.HasLargeForm store pattern
-file-large unique fit limit bytes store pattern space read large =
-    let u = universe_in store pattern in
-    let same = unique _ large.0 u large.1 (reads-it fit bytes store pattern read) in
-    subst (λ (n : ℕ). HasLargerForm (min (2 ^ 21) n) u) (sym space) (subst (λ (v : Universe). HasLargerForm (squares_of_form limit) v) same large.2)
+-- the text of a pattern in a form, in a store with this limit
+pub form-text : FilesAreOnPlane MAX_LEVEL → TextsAreFiles MAX_LEVEL → CanonicalIsLeast MAX_LEVEL → (form : Form) (limit : ℕ) (store : Nodes)
+    (bytes text : List ℕ) → store.limit ≡ squares_of_limit limit → IsTextWithin form MAX_LEVEL (most_of_form store) bytes text
+    → IsTextInForm form limit bytes text
+form-text plane files least Placed limit store bytes text space is = canonical plane files least bytes text is
+form-text plane files least Moved limit store bytes text space is =
+    subst (λ (n : ℕ). IsTextWithin Moved MAX_LEVEL (min (2 ^ 21) n) bytes text) space is
+form-text plane files least Turned limit store bytes text space is =
+    subst (λ (n : ℕ). IsTextWithin Turned MAX_LEVEL (min (2 ^ 21) n) bytes text) space is
 
-image-large : FilesAreUnique MAX_LEVEL → PatternsFit MAX_LEVEL → (limit : ℕ) (bytes : List ℕ) (store : Nodes) (pattern : Pattern)
-    → store.limit ≡ squares_of_limit limit → IsRead MAX_LEVEL bytes store pattern → HasFormLargerThan Turned (squares_of_form limit) bytes
-    → layer.HasLargeImage store pattern
-image-large unique fit limit bytes store pattern space read large =
-    let u = universe_in store pattern in
-    let turn = large.2.0 in
-    let same = unique _ large.0 u large.1 (reads-it fit bytes store pattern read) in (
-      turn,
-      subst (λ (n : ℕ). HasLargerForm (min (2 ^ 21) n) (image turn u)) (sym space)
-          (subst (λ (v : Universe). HasLargerForm (squares_of_form limit) (image turn v)) same large.2.1),
-    )
+-- why there is none
+pub within-form : (form : Form) (limit : ℕ) (bytes : List ℕ) (fault : Fault) → RefusesWithin limit bytes fault → RefusesFormWithin form limit bytes fault
+within-form Placed limit bytes fault why = why
+within-form Moved limit bytes fault why = inl why
+within-form Turned limit bytes fault why = inl why
 
--- a pattern that isn't moved
-pub unmoved : PatternsFit MAX_LEVEL → (limit : ℕ) (bytes : List ℕ) (store : Nodes) (pattern : Pattern) (fault : Fault) → store.limit ≡ squares_of_limit limit
-    → IsRead MAX_LEVEL bytes store pattern → OrMemory fault ((fault ≡ fault_of Full) × layer.HasLargeForm store pattern)
-    → RefusesFormWithin Moved limit bytes fault
-unmoved fit limit bytes store pattern fault space read (inl memory) = inl (inr (inl memory))
-unmoved fit limit bytes store pattern fault space read (inr large) = inr (large.0, large-file fit limit bytes store pattern space read large.1)
+larger-form : (form : Form) (limit : ℕ) (bytes : List ℕ) (fault : Fault) → fault ≡ fault_of Full
+    → FileHasLargerForm form MAX_LEVEL (squares_of_form limit) bytes → RefusesFormWithin form limit bytes fault
+larger-form Placed limit bytes fault full large = absurd large.2
+larger-form Moved limit bytes fault full large = inr (full, large)
+larger-form Turned limit bytes fault full large = inr (full, large)
 
--- one that isn't turned
-pub unturned : PatternsFit MAX_LEVEL → (limit : ℕ) (bytes : List ℕ) (store : Nodes) (pattern : Pattern) (fault : Fault) → store.limit ≡ squares_of_limit limit
-    → IsRead MAX_LEVEL bytes store pattern → OrMemory fault ((fault ≡ fault_of Full) × layer.HasLargeImage store pattern)
-    → RefusesFormWithin Turned limit bytes fault
-unturned fit limit bytes store pattern fault space read (inl memory) = inl (inr (inl memory))
-unturned fit limit bytes store pattern fault space read (inr large) = inr (large.0, large-image fit limit bytes store pattern space read large.1)
+pub form-fault : (form : Form) (limit : ℕ) (store : Nodes) (bytes : List ℕ) (fault : Fault) → store.limit ≡ squares_of_limit limit
+    → OrMemory fault ((fault ≡ fault_of Full) × FileHasLargerForm form MAX_LEVEL (most_of_form store) bytes) → RefusesFormWithin form limit bytes fault
+form-fault form limit store bytes fault space (inl memory) = within-form form limit bytes fault (inr (inl memory))
+form-fault form limit store bytes fault space (inr large) =
+    larger-form form limit bytes fault large.0 (subst (λ (n : ℕ). FileHasLargerForm form MAX_LEVEL (min (2 ^ 21) n) bytes) space large.1)
 
 -- ---- two files
-
--- what holds of two patterns in a store exactly if a test says so holds of their files
-pub files-reported : FilesAreUnique MAX_LEVEL → (IsRelated : Universe → Universe → Type 0) (first second : List ℕ) (u v : Universe) (answer : Bool)
-    → Reads MAX_LEVEL first u → Reads MAX_LEVEL second v → IsTrue answer ↔ IsRelated u v → IsTrue answer ↔ AreRelatedFiles IsRelated first second
-files-reported unique IsRelated first second u v answer one_reads other_reads reported = (
-  λ t. record { first = u; second = v; reads_first = one_reads; reads_second = other_reads; related = reported.0 t },
-  λ are. reported.1
-      (subst (λ (w : Universe). IsRelated w v) (unique _ are.first u are.reads_first one_reads)
-      (subst (λ (w : Universe). IsRelated are.first w) (unique _ are.second v are.reads_second other_reads) are.related)),
-)
 
 -- a store that is full has as many squares as its limit
 full-has : RefusalsHaveKinds MAX_LEVEL → (bytes : List ℕ) (store : Nodes) (fault : Fault) → RefusesIn MAX_LEVEL bytes store fault → fault ≡ fault_of Full
@@ -197,96 +145,25 @@ both-fit first second mid new pattern read one stay other =
     (λ t live needed. elim needed [ inl s ↦ stay t (one t live s) | inr s ↦ other t live s ])
 
 -- one of two files isn't read, or the store is full or memory is refused for it
-pub either-unread : (form : PatternForm) (limit : ℕ) (first second : List ℕ) (store : Nodes) (fault : Fault) → store.limit ≡ squares_of_limit limit
+pub either-unread : (form : Form) (limit : ℕ) (first second : List ℕ) (store : Nodes) (fault : Fault) → store.limit ≡ squares_of_limit limit
     → Refuses MAX_LEVEL first fault ⊎ (Accepted MAX_LEVEL first × Refuses MAX_LEVEL second fault) ⊎ IsShortageOf store fault
     → (fault ≡ fault_of Full → IsTooLowForBoth first second store.limit) → RefusesEitherInForm form limit first second fault
-either-unread Placed limit first second store fault space (inl refuses) low = inl refuses
-either-unread Placed limit first second store fault space (inr (inl refuses)) low = inr (inl refuses)
-either-unread Placed limit first second store fault space (inr (inr want)) low =
-    inr (inr (wanted (IsTooLowForBoth first second) limit store fault space want (λ full at. low full)))
-either-unread Moved limit first second store fault space (inl refuses) low = inl (inl refuses)
-either-unread Moved limit first second store fault space (inr (inl refuses)) low = inl (inr (inl refuses))
-either-unread Moved limit first second store fault space (inr (inr want)) low =
-    inl (inr (inr (wanted (IsTooLowForBoth first second) limit store fault space want (λ full at. low full))))
-either-unread Turned limit first second store fault space (inl refuses) low = inl (inl refuses)
-either-unread Turned limit first second store fault space (inr (inl refuses)) low = inl (inr (inl refuses))
-either-unread Turned limit first second store fault space (inr (inr want)) low =
+either-unread form limit first second store fault space (inl refuses) low = inl (inl refuses)
+either-unread form limit first second store fault space (inr (inl refuses)) low = inl (inr (inl refuses))
+either-unread form limit first second store fault space (inr (inr want)) low =
     inl (inr (inr (wanted (IsTooLowForBoth first second) limit store fault space want (λ full at. low full))))
 
--- two files are of one generation exactly if their patterns are
-of-one-generation : PatternsFit MAX_LEVEL → (first second : List ℕ) (store : Nodes) (a b : Pattern) → IsRead MAX_LEVEL first store a
-    → IsRead MAX_LEVEL second store b → a.generation ≡ b.generation → AreRelatedFiles AreOfOneGeneration first second
-of-one-generation fit first second store a b read other is = record {
-  first = universe_in store a;
-  second = universe_in store b;
-  reads_first = reads-it fit first store a read;
-  reads_second = reads-it fit second store b other;
-  related = is;
-}
+-- two files that aren't compared, of which one may have too large a form
+pub either-unformed : (form : Form) (limit : ℕ) (first second : List ℕ) (store : Nodes) (fault : Fault) → store.limit ≡ squares_of_limit limit
+    → OrMemory fault ((fault ≡ fault_of Full) × OneFileHasLargerForm form MAX_LEVEL (most_of_form store) first second)
+    → RefusesEitherInForm form limit first second fault
+either-unformed form limit first second store fault space (inl memory) = inl (inr (inr (inl memory)))
+either-unformed form limit first second store fault space (inr large) =
+    inr (large.0, subst (λ (n : ℕ). OneFileHasLargerForm form MAX_LEVEL (min (2 ^ 21) n) first second) space large.1)
 
-one-generation : FilesAreUnique MAX_LEVEL → PatternsFit MAX_LEVEL → (first second : List ℕ) (store : Nodes) (a b : Pattern)
-    → IsRead MAX_LEVEL first store a → IsRead MAX_LEVEL second store b → AreRelatedFiles AreOfOneGeneration first second → a.generation ≡ b.generation
-one-generation unique fit first second store a b read other are =
-    let u = unique _ are.first (universe_in store a) are.reads_first (reads-it fit first store a read) in
-    let v = unique _ are.second (universe_in store b) are.reads_second (reads-it fit second store b other) in
-    sym (ap (λ (w : Universe). w.generation) u) ∙ are.related ∙ ap (λ (w : Universe). w.generation) v
-
--- two patterns that were compared, moved, have forms that aren't too large
-pub small-moved : FilesAreUnique MAX_LEVEL → PatternsFit MAX_LEVEL → (limit : ℕ) (first second : List ℕ) (store : Nodes) (a b : Pattern)
-    → store.limit ≡ squares_of_limit limit → IsRead MAX_LEVEL first store a → IsRead MAX_LEVEL second store b
-    → (¬ layer.HasLargeForm store a) × (¬ layer.HasLargeForm store b) → ¬ OneHasFormLargerThan Moved (squares_of_form limit) first second
-small-moved unique fit limit first second store a b space read other small = λ large. elim large.2 [
-  | inl it ↦ small.0 (file-large unique fit limit first store a space read it)
-  | inr it ↦ small.1 (file-large unique fit limit second store b space other it)
-]
-
--- two that were compared, turned
-pub small-turned : FilesAreUnique MAX_LEVEL → PatternsFit MAX_LEVEL → (limit : ℕ) (first second : List ℕ) (store : Nodes) (a b : Pattern)
-    → store.limit ≡ squares_of_limit limit → IsRead MAX_LEVEL first store a → IsRead MAX_LEVEL second store b
-    → (a.generation ≡ b.generation → (¬ layer.HasLargeImage store a) × (¬ layer.HasLargeImage store b))
-    → ¬ OneHasFormLargerThan Turned (squares_of_form limit) first second
-small-turned unique fit limit first second store a b space read other small = λ large.
-    let both = small (one-generation unique fit first second store a b read other large.0) in
-    elim large.1 [
-      | inl it ↦ both.0 (image-large unique fit limit first store a space read it)
-      | inr it ↦ both.1 (image-large unique fit limit second store b space other it)
-    ]
-
--- two patterns that aren't moved
-pub either-unmoved : PatternsFit MAX_LEVEL → (limit : ℕ) (first second : List ℕ) (store : Nodes) (a b : Pattern) (fault : Fault)
-    → store.limit ≡ squares_of_limit limit → IsRead MAX_LEVEL first store a → IsRead MAX_LEVEL second store b
-    → OrMemory fault ((fault ≡ fault_of Full) × (layer.HasLargeForm store a ⊎ layer.HasLargeForm store b))
-    → RefusesEitherInForm Moved limit first second fault
-either-unmoved fit limit first second store a b fault space read other (inl memory) =
-    either-unread Moved limit first second store fault space (inr (inr (inl memory))) (not-full fault memory)
-either-unmoved fit limit first second store a b fault space read other (inr large) =
-    inr (
-      large.0,
-      (
-        accepted-it first store a read,
-        accepted-it second store b other,
-        elim large.1 [
-          | inl it ↦ inl (large-file fit limit first store a space read it)
-          | inr it ↦ inr (large-file fit limit second store b space other it)
-        ],
-      ),
-    )
-
--- two that aren't turned
-pub either-unturned : PatternsFit MAX_LEVEL → (limit : ℕ) (first second : List ℕ) (store : Nodes) (a b : Pattern) (fault : Fault)
-    → store.limit ≡ squares_of_limit limit → IsRead MAX_LEVEL first store a → IsRead MAX_LEVEL second store b
-    → OrMemory fault ((fault ≡ fault_of Full) × (a.generation ≡ b.generation) × (layer.HasLargeImage store a ⊎ layer.HasLargeImage store b))
-    → RefusesEitherInForm Turned limit first second fault
-either-unturned fit limit first second store a b fault space read other (inl memory) =
-    either-unread Turned limit first second store fault space (inr (inr (inl memory))) (not-full fault memory)
-either-unturned fit limit first second store a b fault space read other (inr large) =
-    inr (
-      large.0,
-      (
-        of-one-generation fit first second store a b read other large.1,
-        elim large.2 [
-          | inl it ↦ inl (large-image fit limit first store a space read it)
-          | inr it ↦ inr (large-image fit limit second store b space other it)
-        ],
-      ),
-    )
+-- two that were compared have forms that aren't too large
+pub both-small : (form : Form) (limit : ℕ) (first second : List ℕ) (store : Nodes) → store.limit ≡ squares_of_limit limit
+    → ¬ OneFileHasLargerForm form MAX_LEVEL (most_of_form store) first second
+    → ¬ OneFileHasLargerForm form MAX_LEVEL (squares_of_form limit) first second
+both-small form limit first second store space small =
+    subst (λ (n : ℕ). ¬ OneFileHasLargerForm form MAX_LEVEL (min (2 ^ 21) n) first second) space small

@@ -11,35 +11,29 @@ use Rattle.life_canon.specs.Store.{IsRead}
 use Rattle.life_canon.specs.Texts.{IsShownText}
 use Rattle.life_canon.specs.declared.pattern.Pattern.{Pattern}
 use Rattle.life_quad.specs.Store.{Nodes}
-use Rattle.library_calls.specs.Texts.{IsLeastCanonicalText, IsRleText, NeedsMore, squares_of_limit, RefusesWithin, RefusesRleWithin, IsLimitShortage}
+use Rattle.library_calls.specs.Texts.{IsRleText, NeedsMore, squares_of_limit, RefusesWithin, RefusesRleWithin, IsLimitShortage}
 use Rattle.life_step.specs.Stepped.{IsStepped}
 use Rattle.life_generations.specs.Later.{IsTextLater}
 use Rattle.library_calls.specs.Stepping.{RefusesLater, RefusesStepWithin}
 use Rattle.library_calls.specs.declared.texts.Output.{Output}
-use Rattle.library_calls.specs.InForm.{IsTextMoved, IsTextTurned, RefusesFormWithin}
-use Rattle.library_calls.specs.declared.texts.Output.TheVariants.{Canonical, Rle, Lines, Next, Later, Moved, Turned}
-use Rattle.library_calls.specs.declared.pattern_form.PatternForm.{PatternForm}
-use Rattle.library_calls.specs.declared.pattern_form.PatternForm.TheVariants as forms
+use Rattle.library_calls.specs.InForm.{IsTextInForm, RefusesFormWithin}
+use Rattle.library_calls.specs.declared.texts.Output.TheVariants.{Canonical, Rle, Lines, Next, Later}
 
 -- the text is this output of the bytes, within a limit of the store
 abbrev pub IsOutputText : Output → ℕ → List ℕ → List ℕ → Type 0
-IsOutputText Canonical limit = IsLeastCanonicalText
+IsOutputText (Canonical form) limit = IsTextInForm form limit
 IsOutputText Rle limit = IsRleText
 IsOutputText Lines limit = IsShownText MAX_LEVEL
 IsOutputText Next limit = IsStepped
 IsOutputText (Later n) limit = IsTextLater n
-IsOutputText Moved limit = IsTextMoved limit
-IsOutputText Turned limit = IsTextTurned limit
 
 -- why the bytes have none, within a limit of the store
 abbrev pub RefusesTextOf : Output → ℕ → List ℕ → Fault → Type 0
-RefusesTextOf Canonical = RefusesWithin
+RefusesTextOf (Canonical form) = RefusesFormWithin form
 RefusesTextOf Rle = RefusesRleWithin
 RefusesTextOf Lines = RefusesWithin
 RefusesTextOf Next = RefusesStepWithin
 RefusesTextOf (Later n) = λ limit. RefusesLater n
-RefusesTextOf Moved = RefusesFormWithin forms.Moved
-RefusesTextOf Turned = RefusesFormWithin forms.Turned
 
 -- the text is this output of each file that was read as this pattern of the store, within its limit
 abbrev pub IsTextOfRead : Output → Nodes → Pattern → List ℕ → Type 0
@@ -51,12 +45,6 @@ abbrev pub RefusesTextOfRead : Output → Nodes → Pattern → Fault → Type 0
 RefusesTextOfRead output store pattern fault =
     (limit : ℕ) (bytes : List ℕ) → store.limit ≡ squares_of_limit limit → IsRead MAX_LEVEL bytes store pattern → HoldsOnly [] bytes store
     → RefusesTextOf output limit bytes fault
-
--- the output with the text of a pattern in this form
-abbrev pub text_in : PatternForm → Output
-text_in forms.Placed = Canonical
-text_in forms.Moved = Moved
-text_in forms.Turned = Turned
 
 -- a square that the lines of these bytes need which have ended has a property
 abbrev pub SomeOfPrefix : List ℕ → (Tree → Type 0) → Type 0

@@ -1,8 +1,8 @@
 -- The words of the contracts of this crate.
 pub use Rattle.library_calls.specs.Texts.{Fits, IsLeastCanonicalText, IsFreshStore, IsRleText, NeedsMore, RefusesRleWithin, RefusesWithin, squares_of_limit, SomeToRead, TellsText}
 pub use Rattle.library_calls.specs.Comparing.{comparison_of, ComparesWithin, IsTooLowForBoth, SomeToReadBoth}
-pub use Rattle.library_calls.specs.ComparingInForm.{AreOneInForm, ComparesInForm, ComparesInNone, OneHasFormLargerThan, RefusesEitherInForm}
-pub use Rattle.library_calls.specs.Outputs.{IsOutputText, IsTextOfRead, RefusesPiece, RefusesTextOf, RefusesTextOfRead, text_in}
+pub use Rattle.library_calls.specs.ComparingInForm.{ComparesInForm, ComparesInNone, RefusesEitherInForm}
+pub use Rattle.library_calls.specs.Outputs.{IsOutputText, IsTextOfRead, RefusesPiece, RefusesTextOf, RefusesTextOfRead}
 pub use Rattle.library_calls.specs.InForm.{form_numbered, squares_of_form, IsKeyInForm, IsTextInForm, AnswersInForm}
 pub use Rattle.library_calls.specs.Stepping.{RefusesLater, RefusesStepByWithin, RefusesStepWithin, StepsByTable}
 pub use Rattle.library_calls.specs.Streams.{Feeds, Finishes, IsSpent, key_digits, OpensStream, sentence_of_session, sentence_of_stream, sentence_of_warning, session_of, TellsEnd, TellsKey, TellsNothing, TellsPiece}
@@ -17,6 +17,7 @@ pub use Rattle.life_canon.specs.Feeding.{RefusesPrefix}
 pub use Rattle.life_canon.specs.Files.{Accepted, Refuses}
 pub use Rattle.life_canon.specs.Store.{IsOfFile, IsRead, IsShortageOf}
 pub use Rattle.life_canon.specs.Texts.{IsShownText}
+pub use Rattle.pattern_forms.specs.InForm.{AreSameIn, OneFileHasLargerForm}
 pub use Rattle.life_quad.specs.Keeping.{AddsOnly}
 pub use Rattle.life_quad.specs.Store.{stored_squares}
 pub use Rattle.life_generations.specs.Later.{IsTextLater}

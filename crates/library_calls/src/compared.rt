@@ -5,8 +5,7 @@ ghost use Rattle.library_calls.specs.Words.{kind_number, ComparesWithin, compari
 
 use crate::comparison::compare;
 use crate::options::Options;
-use crate::pattern_form::PatternForm;
-use life_base::Fault;
+use life_base::{Fault, Form};
 use std::alloc::Global;
 
 /// The result of a comparison.
@@ -50,5 +49,5 @@ pub fn same(alloc: Global, first: &[u8], second: &[u8], options: Options) -> Com
     ensures fits { result.status ≡ 0
         → Fits (SomeToReadBoth first.now second.now) options.limit }
 {
-    compare(alloc, first, second, PatternForm::Placed, options)
+    compare(alloc, first, second, Form::Placed, options)
 }

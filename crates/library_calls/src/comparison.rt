@@ -1,20 +1,16 @@
 //! The call that compares two files in a form.
 
 ghost use Rattle.std.specs.Prelude.{◌≡◌, ◌↔◌, ◌⊎◌, ℕ, [], Err, IfOk, IfErr, OnOk, IsTrue, MatchOption};
-ghost use Rattle.library_calls.specs.Words.{fault_of, MAX_LEVEL, Full, stored_squares, Accepted, Refuses, IsRead, IsShortageOf, IsFreshStore, AddsOnly, Fits, IsTooLowForBoth, NeedsMore, SomeToReadBoth, form_numbered, squares_of_form, AreOneInForm, OneHasFormLargerThan, RefusesEitherInForm, ComparesInForm, ComparesInNone};
+ghost use Rattle.library_calls.specs.Words.{fault_of, MAX_LEVEL, Full, stored_squares, Accepted, Refuses, IsRead, IsShortageOf, IsFreshStore, AddsOnly, Fits, IsTooLowForBoth, NeedsMore, SomeToReadBoth, form_numbered, squares_of_form, AreSameIn, OneFileHasLargerForm, RefusesEitherInForm, ComparesInForm, ComparesInNone};
 
 use crate::compared::Compared;
 use crate::in_form::{NO_FORM, form_of};
 use crate::options::Options;
-use crate::pattern_form::PatternForm;
-use life_base::Fault;
-use life_canon::laws::{
-    few_squares, files_are_on_plane, files_are_unique, limit_suffices, patterns_fit, patterns_stay,
-    patterns_tell_files, refusals_have_kinds,
-};
-use life_canon::{Pattern, are_same, read};
-use life_forms::{are_shifts, are_turns};
+use life_base::{Fault, Form};
+use life_canon::laws::{few_squares, limit_suffices, patterns_stay, refusals_have_kinds};
+use life_canon::{Pattern, read};
 use life_quad::Shared;
+use pattern_forms::same_in;
 use std::alloc::Global;
 
 /// The patterns of two files, read into one store.
@@ -58,28 +54,20 @@ fn are_one(
     store: &mut Shared,
     first: &[u8],
     second: &[u8],
-    form: PatternForm,
+    form: Form,
 ) -> Result<bool, Fault>
     ensures accepted { OnOk result (Accepted MAX_LEVEL first.now × Accepted MAX_LEVEL second.now) }
     ensures answer { IfOk result
-        (λ answer. IsTrue answer ↔ AreOneInForm form first.now second.now) }
+        (λ answer. IsTrue answer ↔ AreSameIn form MAX_LEVEL first.now second.now) }
     ensures small { OnOk result ((limit : ℕ) → IsFreshStore limit store.old
-        → ¬ OneHasFormLargerThan form (squares_of_form limit) first.now second.now) }
+        → ¬ OneFileHasLargerForm form MAX_LEVEL (squares_of_form limit) first.now second.now) }
     ensures fits { OnOk result ((limit : ℕ) → IsFreshStore limit store.old
         → Fits (SomeToReadBoth first.now second.now) limit) }
     ensures fault { IfErr result (λ fault. (limit : ℕ) → IsFreshStore limit store.old
         → RefusesEitherInForm form limit first.now second.now fault) }
 {
-    patterns_fit();
-    patterns_tell_files();
-    files_are_unique();
-    files_are_on_plane();
     let (a, b) = read_both(alloc, store, first, second)?;
-    match form {
-        PatternForm::Placed => Ok(are_same(&a, &b)),
-        PatternForm::Moved => are_shifts(alloc, store, &a, &b),
-        PatternForm::Turned => are_turns(alloc, store, &a, &b),
-    }
+    same_in(alloc, store, form, &a, &b)
 }
 
 /// Whether two files, each of either format, are one pattern in the form.
@@ -87,7 +75,7 @@ pub(crate) fn compare(
     alloc: Global,
     first: &[u8],
     second: &[u8],
-    form: PatternForm,
+    form: Form,
     options: Options,
 ) -> Compared
     ensures compares { ComparesInForm form options.limit first.now second.now result }

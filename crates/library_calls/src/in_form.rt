@@ -1,12 +1,12 @@
 //! The calls that give the text of a file in a form, or its key.
 
 ghost use Rattle.std.specs.Prelude.{◌≡◌};
-ghost use Rattle.library_calls.specs.Words.{AnswersInForm, Fits, SomeToRead, TellsText, reply, text_in, form_numbered, IsTextInForm, IsKeyInForm};
+ghost use Rattle.library_calls.specs.Words.{AnswersInForm, Fits, SomeToRead, TellsText, reply, form_numbered, IsTextInForm, IsKeyInForm};
 
 use crate::options::Options;
-use crate::pattern_form::PatternForm;
 use crate::reported::{Reported, give, refuse};
 use crate::texts::{Output, answer, text_of_file};
+use life_base::Form;
 use sha2::{Digest, Sha256};
 use std::alloc::Global;
 
@@ -14,25 +14,14 @@ use std::alloc::Global;
 pub const NO_FORM: u32 = 65;
 
 /// The form with this number, if one has it.
-pub(crate) fn form_of(number: u32) -> Option<PatternForm>
+pub(crate) fn form_of(number: u32) -> Option<Form>
     ensures { result ≡ form_numbered number }
 {
     match number {
-        0 => Some(PatternForm::Placed),
-        1 => Some(PatternForm::Moved),
-        2 => Some(PatternForm::Turned),
+        0 => Some(Form::Placed),
+        1 => Some(Form::Moved),
+        2 => Some(Form::Turned),
         _ => None,
-    }
-}
-
-/// The output with the text of a pattern in this form.
-pub(crate) fn text_in(form: PatternForm) -> Output
-    ensures { result ≡ text_in form }
-{
-    match form {
-        PatternForm::Placed => Output::Canonical,
-        PatternForm::Moved => Output::Moved,
-        PatternForm::Turned => Output::Turned,
     }
 }
 
@@ -62,7 +51,7 @@ pub fn canon_form(
     let Some(form) = form_of(form) else {
         return no_form();
     };
-    answer(alloc, bytes, text_in(form), options, out)
+    answer(alloc, bytes, Output::Canonical(form), options, out)
 }
 
 /// The key of the pattern of a file of either format, in the form with this number: the SHA-256 of the text that `canon_form` gives, 32 bytes.
@@ -74,7 +63,7 @@ pub fn key(alloc: Global, bytes: &[u8], form: u32, options: Options, out: &mut [
     let Some(form) = form_of(form) else {
         return no_form();
     };
-    match text_of_file(alloc, bytes, text_in(form), options) {
+    match text_of_file(alloc, bytes, Output::Canonical(form), options) {
         Ok(text) => give(&Sha256::digest(text.as_slice()), out),
         Err(fault) => refuse(&fault),
     }

@@ -22,7 +22,7 @@
 //!
 //! A call touches nothing but its arguments and what an open stream stores, so calls on different memory and streams can run side by side.
 //!
-//! It doesn't know the command line and the system. It uses `life_canon`, `life_forms`, `life_step`, `life_generations` and `file_hints`, as the program does.
+//! It doesn't know the command line and the system. It uses `life_canon`, `pattern_forms`, `life_step`, `life_generations` and `file_hints`, as the program does.
 //! Above it, `golly_canon_c` exports the calls.
 //!
 //! Read first: `src/texts.rt` and `specs/Texts.antt` (whole files), and `src/streams.rt`.
@@ -35,7 +35,6 @@ mod held;
 mod hints;
 mod in_form;
 mod options;
-mod pattern_form;
 mod reported;
 mod seeds;
 mod session;
@@ -48,6 +47,7 @@ pub use compared::{Compared, same};
 pub use comparison::same_form;
 pub use hints::warning;
 pub use in_form::{NO_FORM, canon_form, key};
+pub use life_base::Form;
 pub use options::Options;
 pub use reported::{NO_ROOM, Reported, give};
 pub use steps::{step, step_by_table, step_generations};

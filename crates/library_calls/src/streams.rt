@@ -1,11 +1,11 @@
 //! The calls on streams: a file in pieces, and one answer at its end.
 
 ghost use Rattle.std.specs.Prelude.{◌≡◌, None, Some, IfSome, MatchOption};
-ghost use Rattle.library_calls.specs.Words.{text_in, form_numbered, session_of, OpensStream, Feeds, Finishes, IsSpent, TellsPiece, TellsNothing, TellsEnd, TellsText, ReturnsText, key_digits, TellsKey, sentence_of_session, sentence_of_stream};
+ghost use Rattle.library_calls.specs.Words.{form_numbered, session_of, OpensStream, Feeds, Finishes, IsSpent, TellsPiece, TellsNothing, TellsEnd, TellsText, ReturnsText, key_digits, TellsKey, sentence_of_session, sentence_of_stream};
 
 use crate::feeding::Feeding;
 use crate::hints::sentence_of_warning;
-use crate::in_form::{NO_FORM, form_of, text_in};
+use crate::in_form::{NO_FORM, form_of};
 use crate::options::Options;
 use crate::reported::{Reported, give, refuse};
 use crate::session::{Session, after_end, after_piece};
@@ -35,11 +35,11 @@ pub fn open(alloc: Global, stream: &mut Stream, output: Output, options: Options
 /// answer is the status.
 pub fn open_canon_form(alloc: Global, stream: &mut Stream, form: u32, options: Options) -> u32
     ensures { MatchOption (form_numbered form) ((result ≡ 65) × (session_of stream.new ≡ None))
-        (λ form. OpensStream (text_in form) options.limit result (session_of stream.new)) }
+        (λ form. OpensStream (Output.Canonical form) options.limit result (session_of stream.new)) }
 {
     close(alloc, stream);
     match form_of(form) {
-        Some(form) => open(alloc, stream, text_in(form), options),
+        Some(form) => open(alloc, stream, Output::Canonical(form), options),
         None => NO_FORM,
     }
 }

@@ -5,22 +5,20 @@ ghost use Rattle.library_calls.specs.Words.{Returns, Fits, SomeToRead, TellsText
 
 use crate::options::Options;
 use crate::reported::{Reported, tell};
-use life_base::{Fault, MAX_LEVEL};
-use life_canon::laws::{
-    canonical_is_least, files_are_on_plane, patterns_fit, texts_are_files, texts_tell_universes,
-};
-use life_canon::{Pattern, five_lines_of, read, rle_of, text_of};
-use life_forms::{moved_of, turned_text};
+use life_base::{Fault, Form, MAX_LEVEL};
+use life_canon::laws::{canonical_is_least, files_are_on_plane, texts_are_files};
+use life_canon::{Pattern, five_lines_of, read, rle_of};
 use life_generations::later_by_rule;
 use life_quad::Shared;
 use life_step::next_by_rule;
+use pattern_forms::text_in;
 use std::alloc::Global;
 
 /// Which text a call or a stream gives of a file.
 #[derive(Clone, Copy)]
 pub enum Output {
-    /// The canonical text.
-    Canonical,
+    /// The canonical text of the pattern in this form.
+    Canonical(Form),
     /// The pattern in extended RLE.
     Rle,
     /// Five lines on the pattern.
@@ -29,10 +27,6 @@ pub enum Output {
     Next,
     /// The canonical text of the pattern so many generations later under the file's B/S rule.
     Later(u64),
-    /// The canonical text of the pattern, moved.
-    Moved,
-    /// That of the pattern, turned.
-    Turned,
 }
 
 /// The text of a pattern that was read into the store.
@@ -46,13 +40,11 @@ pub(crate) fn text_of_read(
     ensures text { IfOk result (λ text. IsTextOfRead output store.old pattern text.items) }
     ensures fault { IfErr result (RefusesTextOfRead output store.old pattern) }
 {
-    patterns_fit();
     files_are_on_plane();
-    texts_tell_universes();
     texts_are_files();
     canonical_is_least();
     match output {
-        Output::Canonical => text_of(alloc, store, &pattern),
+        Output::Canonical(form) => text_in(alloc, store, form, &pattern),
         Output::Rle => rle_of(alloc, store, &pattern),
         Output::Lines => five_lines_of(alloc, store, &pattern),
         Output::Next => {
@@ -62,11 +54,6 @@ pub(crate) fn text_of_read(
             text
         }
         Output::Later(generations) => later_by_rule(alloc, store, pattern, generations),
-        Output::Moved => {
-            let (form, moved) = moved_of(alloc, store, &pattern)?;
-            text_of(alloc, &form, &moved)
-        }
-        Output::Turned => turned_text(alloc, store, &pattern),
     }
 }
 
@@ -111,7 +98,7 @@ pub fn canon(alloc: Global, bytes: &[u8], options: Options, out: &mut [u8]) -> R
         (RefusesWithin options.limit bytes.now) out.old out.new result }
     ensures fits { TellsText result → Fits (SomeToRead bytes.now) options.limit }
 {
-    answer(alloc, bytes, Output::Canonical, options, out)
+    answer(alloc, bytes, Output::Canonical(Form::Placed), options, out)
 }
 
 /// The text in extended RLE of the pattern of a file of either format.

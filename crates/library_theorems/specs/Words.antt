@@ -11,6 +11,7 @@ pub use Rattle.library_calls.specs.Outputs.{IsOutputText}
 pub use Rattle.library_calls.specs.Streams.{IsFed, IsOpenStream, session_of}
 pub use Rattle.library_calls.specs.Reported.{Returns, ReturnsText, ReturnsFault}
 pub use Rattle.library_calls.specs.declared.texts.Output.{Output as OutputValue}
+pub use Rattle.life_base.specs.declared.form.Form.{Form as FormValue}
 pub use Rattle.library_theorems.specs.Answered.{AreFiveLines, IsClaimedRleText, IsClaimedUnread, IsUnreadWithin, IsUnwritten, IsShortageBelow, squares_for}
 pub use Rattle.library_theorems.specs.Ending.{IsEndFault}
 pub use Rattle.life_base.specs.Kinds.{kind_number}

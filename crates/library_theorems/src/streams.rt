@@ -1,7 +1,7 @@
 //! A file that comes in pieces, and one answer at its end.
 
 ghost use Rattle.std.specs.Prelude.{◌≡◌, ◌⊎◌, ℕ, List, [], Ok, IfOk};
-ghost use Rattle.library_theorems.specs.Words.{kind_number, claimed_node_lines, IsCanonicalText, pattern_of, IsClaimedStep, IsUnstepped, Pattern, IsClaimedShown, IsOutputText, session_of, IsOpenStream, IsFed, Returns, ReturnsText, OutputValue, IsClaimedRleText, AreFiveLines, IsClaimedUnread, IsUnreadWithin, IsUnwritten, IsEndFault, all_bytes, IsClaimedTextLater, IsNotAdvanced};
+ghost use Rattle.library_theorems.specs.Words.{kind_number, claimed_node_lines, IsCanonicalText, pattern_of, IsClaimedStep, IsUnstepped, Pattern, IsClaimedShown, IsOutputText, session_of, IsOpenStream, IsFed, Returns, ReturnsText, FormValue, OutputValue, IsClaimedRleText, AreFiveLines, IsClaimedUnread, IsUnreadWithin, IsUnwritten, IsEndFault, all_bytes, IsClaimedTextLater, IsNotAdvanced};
 
 use library_calls::{Options, Output, Reported, Stream, close, feed, finish, open};
 use life_base::{Fault, Kind};
@@ -45,7 +45,7 @@ pub fn text_of_stream(
     out: &mut [u8],
 ) -> (u32, Reported)
     ensures opened { (result.0 ≡ 0) ⊎ (result.0 ≡ kind_number Kind.Memory) }
-    ensures canonical { output ≡ OutputValue.Canonical → result.0 ≡ 0
+    ensures canonical { output ≡ OutputValue.Canonical FormValue.Placed → result.0 ≡ 0
         → Returns (IsCanonicalText (all_bytes pieces.now))
         (IsUnreadWithin options.limit (all_bytes pieces.now)) out.old out.new result.1 }
     ensures rle { output ≡ OutputValue.Rle → result.0 ≡ 0
@@ -88,7 +88,8 @@ pub fn text_of_stream_is_that_of_canon(
     options: Options,
     out: &mut [u8],
 ) -> (u32, Reported, Result<Vec<u8>, Fault>)
-    ensures text { output ≡ OutputValue.Canonical → bytes.now ≡ all_bytes pieces.now → result.0 ≡ 0
+    ensures text { output ≡ OutputValue.Canonical FormValue.Placed
+        → bytes.now ≡ all_bytes pieces.now → result.0 ≡ 0
         → (result.1.status ≡ 0) ⊎ (result.1.status ≡ 64)
         → IfOk result.2 (λ text. ReturnsText text.items out.old out.new result.1) }
     ensures lines { output ≡ OutputValue.Lines → bytes.now ≡ all_bytes pieces.now → result.0 ≡ 0

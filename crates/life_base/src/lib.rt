@@ -10,7 +10,8 @@
 //! 3. [`Rule::parse`] reads the text of a rule, and [`Rule::write`] writes its canonical text. A rule is a [`LifeRule`], which knows the next state of a cell
 //!    (`LifeRule::next`), or a [`Name`].
 //! 4. [`Cell`], [`Run`] and [`Bounds`] are cells of the plane, which has 2^62 columns and rows ([`MAX_LEVEL`]).
-//! 5. [`Source`] and [`Sink`] are what bytes are read from and written to, and a [`Device`] makes one of any reader or writer. [`read_within`] reads a source
+//! 5. A [`Form`] says whether the place and the direction of a pattern count.
+//! 6. [`Source`] and [`Sink`] are what bytes are read from and written to, and a [`Device`] makes one of any reader or writer. [`read_within`] reads a source
 //!    to its end, up to a limit, and [`deliver`] writes a text and flushes.
 //!
 //! An example: what `Rule::parse` returns for some texts.
@@ -34,6 +35,7 @@ mod bounds;
 mod cell;
 mod devices;
 mod fault;
+mod form;
 mod items;
 mod kind;
 pub mod laws;
@@ -54,6 +56,7 @@ pub use bounds::Bounds;
 pub use cell::{Cell, MAX_LEVEL, Run, State};
 pub use devices::{Device, Sink, Source};
 pub use fault::{Fault, Place, StepFault};
+pub use form::Form;
 pub use items::Items;
 pub use kind::Kind;
 pub use leading_digits::leading_number;

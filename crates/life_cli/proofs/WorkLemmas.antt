@@ -1,5 +1,5 @@
 -- From the parts of a task to what it did, or why it is refused.
-use Rattle.std.proofs.Common.{◌≡◌, ◌≢◌, ◌<◌, ◌+◌, Contains, AllPairs, arith, ℕ, suc, ◌^◌, ◌⊎◌, inl, inr, List, [], Bool, true, false, Option, Some, None, IfSome, Result, Ok, Err, IfErr, IfOk, OnOk, IsErrAnd, ap, refl, IsTrue, ◌↔◌, subst, sym, ◌∙◌}
+use Rattle.std.proofs.Common.{min, ◌≡◌, ◌≢◌, ◌<◌, ◌+◌, Contains, AllPairs, arith, ℕ, suc, ◌^◌, ◌⊎◌, inl, inr, List, [], Bool, true, false, Option, Some, None, IfSome, Result, Ok, Err, IfErr, IfOk, OnOk, IsErrAnd, ap, refl, IsTrue, ◌↔◌, subst, sym, ◌∙◌}
 use Rattle.std.specs.Option.{option_map_or}
 use Rattle.std.specs.Io.KnownBytes.{Appends}
 use Rattle.life_base.specs.DeviceRuns.{SourceRun, SinkRun}
@@ -28,8 +28,8 @@ use Rattle.life_canon.specs.declared.pattern.Pattern.{Pattern}
 use Rattle.life_table.specs.Grammar.{IsPlainTable}
 use Rattle.life_table.specs.Reading.{RefusesTable}
 use Rattle.life_table.specs.declared.table.Table.{Table}
-use Rattle.command_line.specs.declared.plans.Form.{Form}
-use Rattle.command_line.specs.declared.plans.Form.TheVariants.{Placed, Moved, Turned}
+use Rattle.life_base.specs.declared.form.Form.{Form}
+use Rattle.life_base.specs.declared.form.Form.TheVariants.{Placed, Moved, Turned}
 use Rattle.command_line.specs.declared.plans.Task.{Task}
 use Rattle.command_line.specs.declared.plans.Task.TheVariants.{Canon, Convert, Same, Show, ShowPeriod, Step, StepTable, Later, LaterTable}
 use Rattle.command_line.specs.declared.plans.Target.TheVariants.{Rle, Mc}
@@ -37,10 +37,10 @@ use Rattle.pattern_sources.specs.declared.refusals.Refusal.{Refusal}
 use Rattle.life_cli.specs.declared.jobs.Made.{Made}
 use Rattle.life_cli.specs.declared.jobs.Made.TheVariants.{Comparison, Text}
 use Rattle.pattern_sources.specs.Faults.{refusal_of}
-use Rattle.life_cli.specs.Forms.{AreSameIn, HasTooLarge}
+use Rattle.pattern_forms.specs.InForm.{AreSameIn, ForEachTwoFiles, OneFileHasLargerForm, most_of_form}
 use Rattle.pattern_sources.specs.Forms.{IsTextIn}
 use Rattle.command_line.specs.Plans.{HasSecond}
-use Rattle.life_cli.specs.Jobs.{WritesPlacedText, AreUncompared, by_first, by_second, by_form, by_first_shortage, by_second_shortage, RefusesSame, Compares, made_text, made_status, HasAnswer, TaskMakes, TaskWrites, Worked, IsWrittenInPart, FileRefuses, by_comparing, by_reading, by_writing, by_telling, HasTextLaterByTable, IsSteppedTimes, MadeOf, RefusesFor, RefusesLifeStep, RefusesGenerations, HasTable, HasNoTable, table_by_input, table_by_lines, table_by_memory, CanonRefuses, OfFile, TaskRan, TaskRefuses}
+use Rattle.life_cli.specs.Jobs.{WritesPlacedText, AreUncompared, by_first, by_second, by_form, by_first_shortage, by_second_shortage, Compares, made_text, made_status, HasAnswer, TaskMakes, TaskWrites, Worked, IsWrittenInPart, FileRefuses, by_comparing, by_reading, by_writing, by_telling, HasTextLaterByTable, IsSteppedTimes, MadeOf, RefusesFor, RefusesLifeStep, RefusesGenerations, HasTable, HasNoTable, table_by_input, table_by_lines, table_by_memory, CanonRefuses, OfFile, TaskRan, TaskRefuses}
 use Rattle.life_generations.specs.Later.{IsTextLater}
 use Rattle.life_periods.specs.OfFile.{IsShownWithPeriod, RefusesPeriod, RefusesPeriodOfFile}
 use Rattle.life_step.specs.Refusals.{RefusesFile, RefusesPattern}
@@ -114,7 +114,7 @@ answers form a b true is = inl (refl, is.0 refl, refl)
 answers form a b false is = inr (refl, (λ same. let bad : false ≡ true = is.1 same in absurd cc), refl)
 
 compared_files : (form : Form) (first second : SourceRun) (a b : List ℕ) (answer : Bool) → ReadAll (2 ^ 30) first.before first.after a
-    → ReadAll (2 ^ 30) second.before second.after b → Accepted MAX_LEVEL a → Accepted MAX_LEVEL b → ¬ HasTooLarge form MAX_LEVEL a b
+    → ReadAll (2 ^ 30) second.before second.after b → Accepted MAX_LEVEL a → Accepted MAX_LEVEL b → ¬ OneFileHasLargerForm form MAX_LEVEL (2 ^ 21) a b
     → IsTrue answer ↔ AreSameIn form MAX_LEVEL a b → TaskMakes (Same form) first second (Comparison answer)
 compared_files form first second a b answer one two first_is second_is small is = record {
   first_bytes = a;
@@ -124,36 +124,27 @@ compared_files form first second a b answer one two first_is second_is small is 
   writes = (first_is, second_is, small, answers form a b answer is);
 }
 
--- two files were read into one store, and their patterns compared in a form, or not
-module _ (form : Form) (first second : SourceRun) (store : Nodes) (a b : List ℕ) (p q : Pattern) (r : Result Bool Fault)
+-- two files were read into one store of 2^31 squares, and their patterns compared in a form, or not
+module _ (form : Form) (first second : SourceRun) (store : Nodes) (a b : List ℕ) (p q : Pattern) (limit : store.limit ≡ 2 ^ 31)
     (one : ReadAll (2 ^ 30) first.before first.after a) (two : ReadAll (2 ^ 30) second.before second.after b) (reads : IsRead MAX_LEVEL a store p)
     (others : IsRead MAX_LEVEL b store q) where
-  pub compared_in : IfOk r (λ answer. (f s : List ℕ) → IsRead MAX_LEVEL f store p → IsRead MAX_LEVEL s store q → IsTrue answer ↔ AreSameIn form MAX_LEVEL f s)
-      → OnOk r ((f s : List ℕ) → IsRead MAX_LEVEL f store p → IsRead MAX_LEVEL s store q → ¬ HasTooLarge form MAX_LEVEL f s)
+  pub compared_in : (r : Result Bool Fault) → IfOk r (λ answer. ForEachTwoFiles store p q (λ f s. IsTrue answer ↔ AreSameIn form MAX_LEVEL f s))
+      → OnOk r (ForEachTwoFiles store p q (λ f s. ¬ OneFileHasLargerForm form MAX_LEVEL (most_of_form store) f s))
       → IfOk r (λ answer. TaskMakes (Same form) first second (Comparison answer))
-  compared_in h small = go r h small
-    where
-      go : (r : Result Bool Fault)
-          → IfOk r (λ answer. (f s : List ℕ) → IsRead MAX_LEVEL f store p → IsRead MAX_LEVEL s store q → IsTrue answer ↔ AreSameIn form MAX_LEVEL f s)
-          → OnOk r ((f s : List ℕ) → IsRead MAX_LEVEL f store p → IsRead MAX_LEVEL s store q → ¬ HasTooLarge form MAX_LEVEL f s)
-          → IfOk r (λ answer. TaskMakes (Same form) first second (Comparison answer))
-      go (Ok answer) h small =
-          compared_files form first second a b answer one two (reads.universe, reads.reads) (others.universe, others.reads) (small a b reads others)
-          (h a b reads others)
-      go (Err fault) h small = tt
+  compared_in (Ok answer) h small =
+      compared_files form first second a b answer one two (reads.universe, reads.reads) (others.universe, others.reads)
+      (subst (λ (n : ℕ). ¬ OneFileHasLargerForm form MAX_LEVEL (min (2 ^ 21) n) a b) limit (small a b reads others)) (h a b reads others)
+  compared_in (Err fault) h small = tt
 
-  pub uncompared_in : IfErr r (λ fault. (fault ≡ fault_of Memory)
-      ⊎ ((f s : List ℕ) → IsRead MAX_LEVEL f store p → IsRead MAX_LEVEL s store q → RefusesSame form f s fault))
+  pub uncompared_in : (r : Result Bool Fault) → IfErr r (λ fault. OrMemory fault
+      (ForEachTwoFiles store p q (λ f s. (fault ≡ fault_of Full) × OneFileHasLargerForm form MAX_LEVEL (most_of_form store) f s)))
       → IfErr r (AreUncompared form first second)
-  uncompared_in h = go r h
-    where
-      go : (r : Result Bool Fault) → IfErr r (λ fault. (fault ≡ fault_of Memory)
-          ⊎ ((f s : List ℕ) → IsRead MAX_LEVEL f store p → IsRead MAX_LEVEL s store q → RefusesSame form f s fault))
-          → IfErr r (AreUncompared form first second)
-      go (Ok answer) h = tt
-      go (Err fault) (inl memory) = by_second_shortage a [] one (no_squares first a one) (inl memory)
-      go (Err fault) (inr refuses) =
-          by_form a b one two (reads.universe, reads.reads) (others.universe, others.reads) (refuses a b reads others)
+  uncompared_in (Ok answer) h = tt
+  uncompared_in (Err fault) (inl memory) = by_second_shortage a [] one (no_squares first a one) (inl memory)
+  uncompared_in (Err fault) (inr refuses) =
+      let why = refuses a b reads others in
+      by_form a b one two (reads.universe, reads.reads) (others.universe, others.reads)
+      (why.0, subst (λ (n : ℕ). OneFileHasLargerForm form MAX_LEVEL (min (2 ^ 21) n) a b) limit why.1)
 
 -- Nothing comes of a pattern that isn't stepped. `Of` says of a property that a square has it which the step needs of a root under a rule.
 module _ {X : Type 0} (Of : (Tree → Type 0) → Rule → Tree → Type 0) (refuses : List ℕ → Fault → Type 0) (source : SourceRun) (empty old new : Nodes)
@@ -208,7 +199,7 @@ refused_for Reason text store fault limit (inr (inr why)) = inr (inr why)
 pub placed_refused : (source : SourceRun) (fault : Fault) → HasNoText (RefusesInForm Placed) source fault → HasNoText (Refuses MAX_LEVEL) source fault
 placed_refused source fault (by_input h) = by_input h
 placed_refused source fault (by_file bytes read (inl refuses)) = by_file bytes read refuses
-placed_refused source fault (by_file bytes read (inr large)) = absurd large.1
+placed_refused source fault (by_file bytes read (inr large)) = absurd large.1.2
 placed_refused source fault (by_want want) = by_want want
 
 -- one step more

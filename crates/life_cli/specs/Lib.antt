@@ -1,4 +1,3 @@
-pub mod Forms
 pub mod Jobs
 pub mod Origins
 pub mod Plans

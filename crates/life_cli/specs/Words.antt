@@ -9,9 +9,8 @@ pub use Rattle.life_canon.specs.ReadWhole.{ReadsWhole}
 pub use Rattle.life_canon.specs.Running.{AreWorking, ReadsPattern, RunsCanon}
 pub use Rattle.life_canon.specs.Store.{content, IsOfFile, IsRead, IsTrimmed, IsShortageOf, Keeps, universe_in}
 pub use Rattle.life_canon.specs.Texts.{IsCanonical, IsRleOf, IsShownText}
-pub use Rattle.life_cli.specs.Forms.{AreSameIn, HasTooLarge}
 pub use Rattle.life_cli.specs.Jobs.{AreUncompared, IsWrittenInPart, CanonRefuses, HasNoTable, HasNoTextByTable, HasTable, HasTextByTable, IsPatternIn}
-pub use Rattle.life_cli.specs.Jobs.{made_status, made_text, MadeOf, OfFile, OfTable, RefusesSame, RefusesLifeStep, RefusesStepBy, TaskMakes, TaskRan, TaskRefuses}
+pub use Rattle.life_cli.specs.Jobs.{made_status, made_text, MadeOf, OfFile, OfTable, RefusesLifeStep, RefusesStepBy, TaskMakes, TaskRan, TaskRefuses}
 pub use Rattle.life_cli.specs.Jobs.{HasNoTextLater, HasNoTextLaterByTable, HasTextLaterByTable, IsSteppedTimes, RefusesGenerations, RefusesStepOf, RefusesTimes}
 pub use Rattle.life_cli.specs.Jobs.{Worked, WritesPlacedText}
 pub use Rattle.life_cli.specs.Origins.{FailsToOpen, OpensFiles}
@@ -22,7 +21,7 @@ pub use Rattle.life_quad.specs.Cells.{population}
 pub use Rattle.life_quad.specs.Store.{stored_squares}
 pub use Rattle.life_step.specs.Stepped.{IsStepped, IsSteppedBy}
 pub use Rattle.pattern_sources.specs.Faults.{fault_line, refusal_of, status_of, Reports}
-pub use Rattle.pattern_sources.specs.Forms.{IsMovedText, IsTextIn}
+pub use Rattle.pattern_sources.specs.Forms.{IsTextIn}
 pub use Rattle.pattern_sources.specs.Sources.{AreOfInput, ComesOf, HasText, HoldsOneFile, InputRefuses, IsShortageFor, RefusesInForm, RefusesMany}
 pub use Rattle.pattern_sources.specs.declared.refusals.Refusal.{Refusal}
 pub use Rattle.std.specs.Io.KnownBytes.{Appends}

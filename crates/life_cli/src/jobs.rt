@@ -3,7 +3,6 @@
 ghost use Rattle.std.specs.Prelude.{◌≡◌, ◌≢◌, ◌⊎◌, ◌<◌, ◌↔◌, ◌^◌, IsSome, IfSome, IfOk, IfErr, OnOk, IsErrAnd, IsTrue, Ok, Err, true, false};
 ghost use Rattle.life_cli.specs.Words.{Appends, SourceRun, source_run, optional_source_run, sink_run, Refusal, Refuses, Keeps, stored_squares, AreWorking, ReadsPattern, ReadsWhole, RunsCanon, AreOfInput, IsRleOf, IsShownText, fault_line, refusal_of, status_of, Reports, made_status, made_text, MadeOf, TaskMakes, Worked, OfFile, InputRefuses, IsWrittenInPart, ComesOf, AreUncompared, CanonRefuses, IsPatternIn, IsShortageFor, TaskRan, TaskRefuses, RefusesMany, HasSecond, WritesPlacedText, task_of};
 
-use crate::forms::are_same_in;
 use crate::later::{later_by_table_of, later_of};
 use crate::periods::lines_with_period_of;
 use crate::steps::{next_by_table_of, next_of};
@@ -12,6 +11,7 @@ use life_base::{Fault, Kind, MAX_LEVEL, Sink, Source, deliver};
 use life_canon::laws::{patterns_stay, refusals_have_kinds};
 use life_canon::{Pattern, five_lines_of, rle_of};
 use life_quad::Shared;
+use pattern_forms::same_in;
 use pattern_sources::{
     MOST_SQUARES, Refusal, Seeds, pattern_of, status, tell, text_of_source, write_canonical,
 };
@@ -155,7 +155,7 @@ fn compared<A: Source, B: Source>(
     let mut store = Shared::seeded(alloc, seeds.squares, MOST_SQUARES);
     let a = pattern_in(alloc, &mut store, one)?;
     let b = pattern_in(alloc, &mut store, other)?;
-    are_same_in(alloc, &store, form, &a?, &b?)
+    same_in(alloc, &store, form, &a?, &b?)
 }
 
 /// A text that was made, or the refusal with its fault, which is none of a table.

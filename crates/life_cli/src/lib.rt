@@ -22,13 +22,12 @@
 //! `same` ends with status 1 if two files are different. A rule table of the one line `@RULE Spread` is refused with the line `table line 2: NoTable` and
 //! status 2.
 //!
-//! It doesn't know commands over many files, or the system: it is given openers, sources and sinks. It uses `pattern_sources`, `life_forms`, `life_step` and
+//! It doesn't know commands over many files, or the system: it is given openers, sources and sinks. It uses `pattern_sources`, `pattern_forms`, `life_step` and
 //! `life_generations`. Above it is the program, `golly_canon`.
 //!
 //! Read first: `specs/Jobs.antt` (what each task writes, and why it is refused), `src/jobs.rt`, and `src/steps.rt`.
 #![tactic(auto)]
 
-mod forms;
 mod jobs;
 mod later;
 mod origins;

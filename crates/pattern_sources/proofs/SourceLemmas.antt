@@ -17,7 +17,7 @@ use Rattle.life_canon.specs.Running.{AddsForRead, HasRead, ReadRefuses, ReadsPat
 use Rattle.life_canon.specs.Running as reading
 use Rattle.life_canon.specs.Store.{IsRead}
 use Rattle.life_canon.specs.declared.pattern.Pattern.{Pattern}
-use Rattle.command_line.specs.declared.plans.Form.{Form}
+use Rattle.life_base.specs.declared.form.Form.{Form}
 use Rattle.pattern_sources.specs.Faults.{status_of}
 use Rattle.pattern_sources.specs.Sources.{by_length, by_source, HasNoText, by_input, by_file, by_want, RefusesInForm, AreOfInput, HoldsNoneBut, HoldsOneFile, IsTooSmallFor, HasText, ComesOf}
 

@@ -13,11 +13,12 @@ use Rattle.life_canon.specs.Store.{IsRead}
 use Rattle.life_canon.specs.Universe.{IsOnPlane, Universe, macrocell_universe, whole}
 use Rattle.life_canon.specs.declared.pattern.Pattern.{Pattern}
 use Rattle.life_forms.specs.Needed.{HasLargerForm, SomeOfMovedForm}
+use Rattle.pattern_forms.specs.InForm.{HasLargerFormIn}
 use Rattle.life_forms.specs.Turns.{image}
 use Rattle.pattern_sources.specs.Forms.{at_start, FileHasLargeForm, IsTextAtStart, IsTextIn}
 use Rattle.pattern_sources.specs.Sources.{RefusesInForm}
-use Rattle.command_line.specs.declared.plans.Form.{Form}
-use Rattle.command_line.specs.declared.plans.Form.TheVariants.{Placed, Moved, Turned}
+use Rattle.life_base.specs.declared.form.Form.{Form}
+use Rattle.life_base.specs.declared.form.Form.TheVariants.{Placed, Moved, Turned}
 use Rattle.life_canon.proofs.Sameness.{same-is_one}
 use Rattle.life_forms.proofs.SizeFacts.{needs-more}
 
@@ -34,8 +35,8 @@ unfolding whole
 whole_in generation u = refl
 
 -- and forms of the same size
-larger_at : (most : ℕ) (u : Universe) → HasLargerForm most (at_start u) → HasLargerForm most u
-larger_at most u =
+larger_moved : (most : ℕ) (u : Universe) → HasLargerForm most (at_start u) → HasLargerForm most u
+larger_moved most u =
     needs-more (λ P. SomeOfMovedForm P (at_start u)) (λ P. SomeOfMovedForm P u) most
     (λ P some. (
       in_generation u.generation some.0,
@@ -51,6 +52,11 @@ larger_at most u =
       },
       subst (SomePart P) (whole_in u.generation some.0) some.2,
     ))
+
+larger_at : (form : Form) (most : ℕ) (u : Universe) → HasLargerFormIn form most (at_start u) → HasLargerFormIn form most u
+larger_at Placed most u large = large
+larger_at Moved most u large = larger_moved most u large
+larger_at Turned most u large = (large.0, larger_moved most (image large.0 u) large.1)
 
 start_on_plane : (u : Universe) → IsOnPlane MAX_LEVEL u → IsOnPlane MAX_LEVEL (at_start u)
 start_on_plane u h = record { rule = h.rule; generation = lit< tt; states = h.states; outside = h.outside }
@@ -104,20 +110,10 @@ module _ (texts : TextsAreFiles MAX_LEVEL) (plane : FilesAreOnPlane MAX_LEVEL) w
 
       -- its form is no larger than that of the pattern
       large_start : (form : Form) → FileHasLargeForm form MAX_LEVEL (start_text read.universe) → FileHasLargeForm form MAX_LEVEL bytes
-      large_start Placed large = large
-      large_start Moved large = (
+      large_start form large = (
         read.universe,
         read.reads,
-        larger_at (2 ^ 21) read.universe (subst (λ (u : Universe). HasLargerForm (2 ^ 21) u) (says_start large.0 large.1) large.2),
-      )
-      large_start Turned large = (
-        read.universe,
-        read.reads,
-        (
-          large.2.0,
-          larger_at (2 ^ 21) (image large.2.0 read.universe)
-              (subst (λ (u : Universe). HasLargerForm (2 ^ 21) (image large.2.0 u)) (says_start large.0 large.1) large.2.1),
-        ),
+        larger_at form (2 ^ 21) read.universe (subst (λ (u : Universe). HasLargerFormIn form (2 ^ 21) u) (says_start large.0 large.1) large.2),
       )
 
       refuses_start : (form : Form) (fault : Fault) → RefusesInForm form (start_text read.universe) fault → RefusesInForm form bytes fault

@@ -15,7 +15,7 @@ use Rattle.life_canon.specs.Space.{IsSquareOfFile, sufficient_for}
 use Rattle.life_canon.specs.Running.{LacksForRead}
 use Rattle.life_canon.specs.Store.{IsShortageOf}
 use Rattle.life_canon.specs.Texts.{FileHasMoreCells}
-use Rattle.command_line.specs.declared.plans.Form.{Form}
+use Rattle.life_base.specs.declared.form.Form.{Form}
 use Rattle.pattern_sources.specs.Forms.{FileHasLargeForm}
 
 -- why an input isn't read to its end: too much came, or the source failed

@@ -5,9 +5,8 @@ pub use Rattle.life_base.specs.Writing.{WritesText}
 pub use Rattle.life_canon.specs.ReadWhole.{ReadsWhole}
 pub use Rattle.life_canon.specs.Running.{AreWorking, ReadsPattern, RunsCanon}
 pub use Rattle.life_canon.specs.Store.{content, IsOfFile, IsRead, IsTrimmed, IsShortageOf, Keeps, universe_in}
-pub use Rattle.life_forms.specs.Needed.{HasLargeForm}
 pub use Rattle.life_quad.specs.Cells.{population}
 pub use Rattle.life_quad.specs.Store.{stored_squares}
 pub use Rattle.pattern_sources.specs.Faults.{fault_line, is_of_table, line_word, refusal_of, status_of, Reports}
-pub use Rattle.pattern_sources.specs.Forms.{IsMovedText, IsTextAtStart, IsTextIn}
+pub use Rattle.pattern_sources.specs.Forms.{IsTextAtStart, IsTextIn}
 pub use Rattle.pattern_sources.specs.Sources.{AreOfInput, ComesOf, HoldsOneFile, RefusesInForm}

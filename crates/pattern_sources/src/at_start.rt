@@ -3,14 +3,13 @@
 ghost use Rattle.std.specs.Prelude.{◌≡◌, ◌^◌, IfOk, IfErr, List, ℕ};
 ghost use Rattle.pattern_sources.specs.Words.{source_run, OrMemory, IsOfFile, IsRead, IsTextAtStart, ComesOf, RefusesInForm};
 
-use crate::forms::text_in;
 use crate::patterns::{MOST_SQUARES, pattern_of};
 use crate::seeds::Seeds;
-use command_line::Form;
 use life_base::{Fault, MAX_LEVEL, Source};
 use life_canon::Pattern;
 use life_canon::laws::{files_are_on_plane, files_are_unique, texts_are_files};
 use life_quad::Shared;
+use pattern_forms::{Form, text_in};
 use std::alloc::Global;
 
 /// The text in a form of a file's pattern as if its generation were 0.

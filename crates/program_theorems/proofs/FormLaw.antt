@@ -1,5 +1,5 @@
 -- What files say in a form is what they say in the layer below.
-use Rattle.std.proofs.Common.{◌≡◌, ◌↔◌, ℕ, List, Bool, true, false, refl, ap, ap₂, ◌∙◌, sym, subst, arith, ℤ, pos, negsuc, ◌+ℤ◌, if◌then◌else◌}
+use Rattle.std.proofs.Common.{◌≡◌, ◌↔◌, ℕ, ◌^◌, List, Bool, true, false, refl, ap, ap₂, ◌∙◌, sym, subst, arith, ℤ, pos, negsuc, ◌+ℤ◌, if◌then◌else◌}
 use Rattle.life_base.specs.Rules.{IsRule}
 use Rattle.life_canon.specs.Files.{Reads, as_macrocell}
 use Rattle.life_canon.specs.Laws.{FilesAreOnPlane}
@@ -7,14 +7,13 @@ use Rattle.life_canon.specs.Listing.{canon_text, canonical_file}
 use Rattle.life_canon.specs.Texts.{IsCanonical}
 use Rattle.life_canon.specs.Universe.{Universe, IsOnPlane, macrocell_universe}
 use Rattle.life_forms.specs.Forms.{IsShift as LayerShift, IsTurnedShift as LayerTurnedShift}
-use Rattle.life_forms.specs.Images.{IsTurnedText}
 use Rattle.life_forms.specs.Turns.{turn_of}
 use Rattle.life_quad.specs.declared.turning.Turn.{Turn}
 use Rattle.life_forms.specs.Turns as layer
-use Rattle.life_cli.specs.Forms.{AreSameIn, SayRelated}
-use Rattle.pattern_sources.specs.Forms.{IsMovedText, SaysText, IsTextIn as LayerTextIn}
-use Rattle.command_line.specs.declared.plans.Form.{Form}
-use Rattle.command_line.specs.declared.plans.Form.TheVariants.{Placed, Moved, Turned}
+use Rattle.pattern_forms.specs.InForm.{AreSameIn, SayRelated, SaysText}
+use Rattle.pattern_sources.specs.Forms.{IsTextIn as LayerTextIn}
+use Rattle.life_base.specs.declared.form.Form.{Form}
+use Rattle.life_base.specs.declared.form.Form.TheVariants.{Placed, Moved, Turned}
 use Rattle.claims.specs.Files.{pattern_of}
 use Rattle.claims.specs.Pattern.{Pattern}
 use Rattle.claims.proofs.RuleLaw.{rule_in}
@@ -124,22 +123,22 @@ own_text_of laws u text h is =
     record { universe = v; reads = subst (λ (t : List ℕ). Reads 62 t v) (sym is) reads; is = is ∙ sym (laws.fixed u v h reads) }
 
 module _ (laws : LayersAgree) (file text : List ℕ) where
-  pub own_moved : SaysText Moved (IsMovedText 62) 62 file text → IsCanonical 62 text text
+  pub own_moved : SaysText Moved 62 (2 ^ 21) file text → IsCanonical 62 text text
   own_moved h =
       own_text_of laws h.is.form text (laws.moved_on_plane h.universe h.is.form (laws.on_plane file h.universe h.reads) h.is.moved) h.is.is
 
-  pub own_turned : SaysText Turned (IsTurnedText 62) 62 file text → IsCanonical 62 text text
+  pub own_turned : SaysText Turned 62 (2 ^ 21) file text → IsCanonical 62 text text
   own_turned h =
       own_text_of laws h.is.form text
       (laws.turned_on_plane (omega arith) h.universe h.is.form (laws.on_plane file h.universe h.reads) h.is.turned) h.is.is
 
-  pub moved_text_is : SaysText Moved (IsMovedText 62) 62 file text → SameIn Moved file text
+  pub moved_text_is : SaysText Moved 62 (2 ^ 21) file text → SameIn Moved file text
   moved_text_is h =
       let f = laws.moved_files file h.universe h.is.form h.reads h.is.moved in
       let reads = subst (λ (t : List ℕ). Reads 62 t f.file) (sym h.is.is) f.reads in
       same_in_to Moved file text (say_related h.universe f.file h.reads reads f.shift)
 
-  pub turned_text_is : SaysText Turned (IsTurnedText 62) 62 file text → SameIn Turned file text
+  pub turned_text_is : SaysText Turned 62 (2 ^ 21) file text → SameIn Turned file text
   turned_text_is h =
       let f = laws.turned_files file h.universe h.is.form h.reads h.is.turned in
       let reads = subst (λ (t : List ℕ). Reads 62 t f.file) (sym h.is.is) f.reads in

@@ -5,12 +5,11 @@ use Rattle.life_canon.specs.Listing.{canon_text}
 use Rattle.life_canon.specs.Texts.{IsBoundingBox as LayerLeastBox}
 use Rattle.life_canon.specs.Universe.{Universe, IsOnPlane, corner}
 use Rattle.life_forms.specs.Forms.{IsMoved, IsInPlace as LayerInPlace, at_zero, at_edge}
-use Rattle.life_forms.specs.Images.{IsTurnedText as LayerTurnedText}
 use Rattle.life_forms.specs.Turns.{turn_of}
 use Rattle.life_forms.specs.Turns as layer
 use Rattle.life_quad.specs.declared.turning.Turn.{Turn}
-use Rattle.command_line.specs.declared.plans.Form.TheVariants.{Moved, Turned}
-use Rattle.pattern_sources.specs.Forms.{SaysText, IsMovedText as LayerMovedText}
+use Rattle.life_base.specs.declared.form.Form.TheVariants.{Moved, Turned}
+use Rattle.pattern_forms.specs.InForm.{SaysText}
 use Rattle.claims.specs.Pattern.{Pattern}
 use Rattle.claims.specs.Shown.{IsClaimedBoundingBox}
 use Rattle.claims.proofs.RuleLaw.{rule_in}
@@ -87,13 +86,13 @@ moved_is laws p u text says on m =
     (text_of_pattern w m.moved (canon_text 62 w) there (sym m.shift.0 ∙ says.rule) (sym m.shift.1 ∙ says.generation) (λ x y. refl) refl)
 
 module _ (laws : LayersAgree) (file text : List ℕ) where
-  pub moved_exact : (h : SaysText Moved (LayerMovedText 62) 62 file text) → IsClaimedMovedText (files_agree file h.universe h.reads).pattern text
+  pub moved_exact : (h : SaysText Moved 62 (2 ^ 21) file text) → IsClaimedMovedText (files_agree file h.universe h.reads).pattern text
   moved_exact h =
       let p = files_agree file h.universe h.reads in
       let on = laws.on_plane file h.universe h.reads in
       moved_to p.pattern h.universe h.is.form text (said file h.universe p) (laws.moved_on_plane h.universe h.is.form on h.is.moved) h.is.moved h.is.is
 
-  pub turned_exact : (h : SaysText Turned (LayerTurnedText 62) 62 file text) → IsClaimedTurnedText (files_agree file h.universe h.reads).pattern text
+  pub turned_exact : (h : SaysText Turned 62 (2 ^ 21) file text) → IsClaimedTurnedText (files_agree file h.universe h.reads).pattern text
   turned_exact h =
       let p = files_agree file h.universe h.reads in
       let u = h.universe in

@@ -25,8 +25,8 @@ use Rattle.life_cli.specs.Jobs as layer
 use Rattle.pattern_sources.specs.Sources as sources
 use Rattle.command_line.specs.Plans.{HasSecond as LayerSecond}
 use Rattle.pattern_sources.specs.Forms.{IsTextIn as LayerTextIn}
-use Rattle.command_line.specs.declared.plans.Form.{Form}
-use Rattle.command_line.specs.declared.plans.Form.TheVariants.{Placed, Moved, Turned}
+use Rattle.life_base.specs.declared.form.Form.{Form}
+use Rattle.life_base.specs.declared.form.Form.TheVariants.{Placed, Moved, Turned}
 use Rattle.command_line.specs.declared.plans.Task.{Task}
 use Rattle.command_line.specs.declared.plans.Task.TheVariants as tasks
 use Rattle.command_line.specs.declared.plans.Target.TheVariants.{Rle, Mc}

@@ -3,8 +3,8 @@ use Rattle.std.specs.Prelude.{◌≡◌, ◌⊎◌, ℕ, Bool, true, false, if�
 use Rattle.std.specs.Cmp.Lexicographic.{slice_cmp}
 use Rattle.std.specs.Ordering.{nat_cmp, is_gt}
 use Rattle.life_base.specs.declared.bounds.Bounds.{Bounds}
-use Rattle.command_line.specs.declared.plans.Form.{Form}
-use Rattle.command_line.specs.declared.plans.Form.TheVariants.{Placed, Moved, Turned}
+use Rattle.life_base.specs.declared.form.Form.{Form}
+use Rattle.life_base.specs.declared.form.Form.TheVariants.{Placed, Moved, Turned}
 use Rattle.claims.specs.Canonical.{IsTextOfPattern}
 use Rattle.claims.specs.Counting.{IsCanonicalText}
 use Rattle.claims.specs.Files.{pattern_of, SayOnePattern}

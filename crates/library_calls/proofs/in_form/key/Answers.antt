@@ -1,26 +1,21 @@
-use Rattle.std.proofs.Common.{refl, sym, ap, ◌∙◌, subst}
+use Rattle.std.proofs.Common.{refl, sym, ap, ◌∙◌}
 use Rattle.sha2.specs.Sha256.{sha256}
-use Rattle.library_calls.specs.Outputs.{IsOutputText, RefusesTextOf}
 use Rattle.library_calls.specs.Reported.{by_text, by_fault}
-use Rattle.library_calls.specs.declared.texts.Output.{Output}
 use Rattle.library_calls.proofs.Answering.{at-form, no-text}
-use Rattle.library_calls.proofs.TextFacts.{in-form, refused-in-form}
 use Rattle.library_calls.proofs.in_form.key.Goals as goal
 
 pub returns-in-Ok-clause-answers : goal.returns-in-Ok-clause-answers
 returns-in-Ok-clause-answers c =
     at-form _ _ _ c.in-Some.form (sym c.form_of.ensures ∙ c.in-Some.is) (by_text c.digest.result (
       c.in-Ok.text.items,
-      in-form c.in-Some.form c.args.options.limit c.args.bytes.now c.in-Ok.text.items
-          (subst (λ (f : Output). IsOutputText f c.args.options.limit c.args.bytes.now c.in-Ok.text.items) c.text_in.ensures c.in-Ok.ensures.text),
+      c.in-Ok.ensures.text,
       c.digest.ensures ∙ ap sha256 c.as_slice.ensures.value,
     ) c.give.ensures.gives c.give.ensures.line)
 
 pub returns-in-Err-clause-answers : goal.returns-in-Err-clause-answers
 returns-in-Err-clause-answers c =
     at-form _ _ _ c.in-Some.form (sym c.form_of.ensures ∙ c.in-Some.is) (by_fault c.in-Err.fault
-    (refused-in-form c.in-Some.form c.args.options.limit c.args.bytes.now c.in-Err.fault
-    (subst (λ (f : Output). RefusesTextOf f c.args.options.limit c.args.bytes.now c.in-Err.fault) c.text_in.ensures c.in-Err.ensures.fault))
+    c.in-Err.ensures.fault
     (record { status = c.refuse.ensures.status; line = c.refuse.ensures.line; needed = c.refuse.ensures.needed; kept = refl }))
 
 pub returns-in-Err-clause-fits : goal.returns-in-Err-clause-fits

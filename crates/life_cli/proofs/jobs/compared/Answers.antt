@@ -33,33 +33,33 @@ returns-in_err-b-2-clause-err g c =
     let r = rw c.in_ok-a-2.was at a.pattern in
     rw (p.1, p.2) (by_files a.bytes b.bytes a.read b.read (inr ((r.universe, r.reads), rw c.in_err-b-2.was at b.fault)))
 
-pub are_same_in-requires-clause-a : goal.are_same_in-requires-clause-a
-are_same_in-requires-clause-a g c =
+pub same_in-requires-clause-a : goal.same_in-requires-clause-a
+same_in-requires-clause-a g c =
     let a = c.in_ok-a.ensures.pattern in
     let r = rw c.in_ok-a-2.was at a.pattern in
     (a.bytes, c.patterns_stay.ensures a.bytes _ _ _ c.pattern_in-2.ensures.keeps r)
 
-pub are_same_in-requires-clause-b : goal.are_same_in-requires-clause-b
-are_same_in-requires-clause-b g c =
+pub same_in-requires-clause-b : goal.same_in-requires-clause-b
+same_in-requires-clause-b g c =
     let b = c.in_ok-b.ensures.pattern in
     let q = rw c.in_ok-b-2.was at b.pattern in
     (b.bytes, q)
 
-pub are_same_in-requires-clause-limit : goal.are_same_in-requires-clause-limit
-are_same_in-requires-clause-limit g c = c.pattern_in-2.ensures.keeps.limit ∙ c.pattern_in.ensures.keeps.limit ∙ c.seeded-store.ensures.most
-
 pub returns-clause-ok : goal.returns-clause-ok
 returns-clause-ok g c =
-    compared_in c.args.form _ _ c.pattern_in-2.new.store _ _ _ _ c.are_same_in.result c.in_ok-a.ensures.pattern.read c.in_ok-b.ensures.pattern.read
+    compared_in c.args.form _ _ c.pattern_in-2.new.store _ _ _ _
+    (c.pattern_in-2.ensures.keeps.limit ∙ c.pattern_in.ensures.keeps.limit ∙ c.seeded-store.ensures.most) c.in_ok-a.ensures.pattern.read
+    c.in_ok-b.ensures.pattern.read
     (c.patterns_stay.ensures _ _ _ _ c.pattern_in-2.ensures.keeps (rw c.in_ok-a-2.was at c.in_ok-a.ensures.pattern.pattern))
-    (rw c.in_ok-b-2.was at c.in_ok-b.ensures.pattern.pattern) c.are_same_in.ensures.answer c.are_same_in.ensures.small
+    (rw c.in_ok-b-2.was at c.in_ok-b.ensures.pattern.pattern) c.same_in.result c.same_in.ensures.answer c.same_in.ensures.small
 
 pub returns-clause-err : goal.returns-clause-err
 returns-clause-err g c =
-    uncompared_in c.args.form _ _ c.pattern_in-2.new.store _ _ _ _ c.are_same_in.result c.in_ok-a.ensures.pattern.read c.in_ok-b.ensures.pattern.read
+    uncompared_in c.args.form _ _ c.pattern_in-2.new.store _ _ _ _
+    (c.pattern_in-2.ensures.keeps.limit ∙ c.pattern_in.ensures.keeps.limit ∙ c.seeded-store.ensures.most) c.in_ok-a.ensures.pattern.read
+    c.in_ok-b.ensures.pattern.read
     (c.patterns_stay.ensures _ _ _ _ c.pattern_in-2.ensures.keeps (rw c.in_ok-a-2.was at c.in_ok-a.ensures.pattern.pattern))
-    (rw c.in_ok-b-2.was at c.in_ok-b.ensures.pattern.pattern)
-    c.are_same_in.ensures.fault
+    (rw c.in_ok-b-2.was at c.in_ok-b.ensures.pattern.pattern) c.same_in.result c.same_in.ensures.fault
 
 -- what has not failed has not failed once
 unfailed : (n : ℕ) → n ≡ 0 → n ≡ 1 → ⊥

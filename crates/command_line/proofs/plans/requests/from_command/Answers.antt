@@ -1,7 +1,7 @@
 use Rattle.std.proofs.Common.{codes, inl, inr, refl, subst, sym, Some, IfOk}
 use Rattle.clap.specs.Words.{found_of, rows_of, Text}
 use Rattle.command_line.specs.Plans.{HasNoForm, HasNoFormat, IsTaskPlanOf}
-use Rattle.command_line.specs.declared.plans.Form.TheVariants.{Placed}
+use Rattle.life_base.specs.declared.form.Form.TheVariants.{Placed}
 use Rattle.command_line.specs.declared.plans.Task.TheVariants.{Canon, Convert, Same}
 use Rattle.command_line.proofs.TaskLemmas.{file_of, format_is_held, format_of, form_is_held, no_memory, no_other, over_one, over_two, pair_of, show_explains, step_explains, takes_no_form, takes_no_format, word_explains}
 use Rattle.command_line.proofs.plans.requests.from_command.Goals as goal

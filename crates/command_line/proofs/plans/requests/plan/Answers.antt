@@ -6,7 +6,7 @@ use Rattle.command_line.specs.Plans.{HasSecond, IsPlanOf, IsTaskPlanOf, task_of}
 use Rattle.command_line.specs.declared.plans.TaskPlan.{TaskPlan}
 use Rattle.command_line.proofs.MatchesLemmas.{no_plan_of_task, no_plan_of_files, no_plan_of_stream}
 use Rattle.command_line.proofs.TaskLemmas.{anyway}
-use Rattle.command_line.specs.declared.plans.Form.TheVariants.{Placed, Moved}
+use Rattle.life_base.specs.declared.form.Form.TheVariants.{Placed, Moved}
 use Rattle.command_line.proofs.plans.requests.plan.Goals as goal
 
 pub returns-in-Ok-Work-clause-refused : goal.returns-in-Ok-Work-clause-refused

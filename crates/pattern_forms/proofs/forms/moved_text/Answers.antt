@@ -1,5 +1,5 @@
 use Rattle.std.proofs.lemmas.Result.{IfOk-weaker}
-use Rattle.pattern_sources.proofs.forms.moved_text.Goals as goal
+use Rattle.pattern_forms.proofs.forms.moved_text.Goals as goal
 
 pub returns-clause-text : goal.returns-clause-text
 returns-clause-text c =

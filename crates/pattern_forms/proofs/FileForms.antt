@@ -1,0 +1,106 @@
+-- From patterns in a store that are taken in a form to their files.
+use Rattle.std.proofs.Common.{◌≡◌, ◌↔◌, ◌∙◌, ℕ, ◌⊎◌, inl, inr, ap, sym, subst, Bool, List, Result, Ok, Err, IfOk, IfErr, OnOk, IsTrue}
+use Rattle.life_base.specs.Refusal.{OrMemory, fault_of}
+use Rattle.life_base.specs.Rules.{IsRule}
+use Rattle.life_base.specs.Text.{lines_of}
+use Rattle.life_base.specs.declared.cell.TheConstants.{MAX_LEVEL}
+use Rattle.life_base.specs.declared.fault.Fault.{Fault}
+use Rattle.life_base.specs.declared.kind.Kind.TheVariants.{Full}
+use Rattle.life_quad.specs.Store.{Nodes}
+use Rattle.life_canon.specs.Files.{Reads}
+use Rattle.life_canon.specs.Laws.{FilesAreUnique, FilesAreOnPlane, PatternsFit}
+use Rattle.life_canon.specs.Store.{ForEachFile, IsOfFile, IsRead, IsTrimmed, universe_in}
+use Rattle.life_canon.specs.Universe.{Universe}
+use Rattle.life_canon.specs.declared.pattern.Pattern.{Pattern}
+use Rattle.life_canon.proofs.Sameness.{same-is_one}
+use Rattle.pattern_forms.specs.InForm.{FileHasLargerForm, ForEachTwoFiles, HasLargerFormIn, IsFormText, IsTextWithin, SayRelated}
+use Rattle.life_base.specs.declared.form.Form.{Form}
+use Rattle.life_base.specs.declared.form.Form.TheVariants.{Placed, Moved, Turned}
+
+-- neither of two, from what is known of each
+pub neither : {P Q : Type 0} → ¬ P × ¬ Q → P ⊎ Q → ⊥
+neither none (inl p) = none.0 p
+neither none (inr q) = none.1 q
+
+-- what holds in any case
+pub in-any-case : {X P : Type 0} (r : Result X Fault) → P → OnOk r P
+in-any-case (Ok x) p = p
+in-any-case (Err fault) p = tt
+
+module _ (fit : PatternsFit MAX_LEVEL) (store : Nodes) where
+  pub is-trimmed : (p : Pattern) → IsOfFile MAX_LEVEL store p → IsTrimmed store p
+  is-trimmed p of = (fit of.0 store p of.1).0
+
+  -- what a pattern in a store says is what its file says
+  says : (p : Pattern) (bytes : List ℕ) → IsRead MAX_LEVEL bytes store p → Reads MAX_LEVEL bytes (universe_in store p)
+  says p bytes read =
+      subst (λ (u : Universe). Reads MAX_LEVEL bytes u) (same-is_one read.universe (universe_in store p) (fit bytes store p read).1) read.reads
+
+  -- the rule of a file's pattern is one
+  pub is-rule : FilesAreOnPlane MAX_LEVEL → (p : Pattern) → IsOfFile MAX_LEVEL store p → IsRule p.rule
+  is-rule on_plane p of = (on_plane of.0 (universe_in store p) (says p of.0 of.1)).rule
+
+  module _ (form : Form) (most : ℕ) (p : Pattern) where
+    -- a text of the pattern is that of its file
+    text-in : (text : List ℕ) → IsFormText form MAX_LEVEL (universe_in store p) text → ¬ HasLargerFormIn form most (universe_in store p)
+        → ForEachFile store p (λ bytes. IsTextWithin form MAX_LEVEL most bytes text)
+    text-in text is small bytes read = go form is small
+      where
+        u : Universe
+        u = universe_in store p
+
+        go : (f : Form) → IsFormText f MAX_LEVEL u text → ¬ HasLargerFormIn f most u → IsTextWithin f MAX_LEVEL most bytes text
+        go Placed is small = record { universe = u; reads = says p bytes read; is = is }
+        go Moved is small = record { universe = u; reads = says p bytes read; small = small; is = is }
+        go Turned is small = record { universe = u; reads = says p bytes read; small = small; is = is }
+
+    pub form-text : {X : Type 0} (items : X → List ℕ) (r : Result X Fault) → IfOk r (λ x. IsFormText form MAX_LEVEL (universe_in store p) (items x))
+        → OnOk r (¬ HasLargerFormIn form most (universe_in store p))
+        → IfOk r (λ x. ForEachFile store p (λ bytes. IsTextWithin form MAX_LEVEL most bytes (items x)))
+    form-text items (Ok x) is small = text-in (items x) is small
+    form-text items (Err fault) is small = tt
+
+    -- why there is none
+    pub form-fault : {X : Type 0} (r : Result X Fault)
+        → IfErr r (λ fault. OrMemory fault ((fault ≡ fault_of Full) × HasLargerFormIn form most (universe_in store p)))
+        → IfErr r (λ fault. OrMemory fault (ForEachFile store p (λ bytes. (fault ≡ fault_of Full) × FileHasLargerForm form MAX_LEVEL most bytes)))
+    form-fault (Ok x) why = tt
+    form-fault (Err fault) (inl memory) = inl memory
+    form-fault (Err fault) (inr large) = inr (λ bytes read. (large.0, (universe_in store p, says p bytes read, large.1)))
+
+  -- what two patterns are to each other, their files are
+  module _ (relates : Universe → Universe → Type 0) (p q : Pattern) where
+    related : relates (universe_in store p) (universe_in store q) → ForEachTwoFiles store p q (λ a b. SayRelated relates MAX_LEVEL a b)
+    related holds a b one other = record {
+      first = universe_in store p;
+      second = universe_in store q;
+      reads_first = says p a one;
+      reads_second = says q b other;
+      related = holds;
+    }
+
+    are-related : FilesAreUnique MAX_LEVEL
+        → ForEachTwoFiles store p q (λ a b. SayRelated relates MAX_LEVEL a b → relates (universe_in store p) (universe_in store q))
+    are-related unique a b one other are =
+        let u = unique (lines_of a) are.first (universe_in store p) are.reads_first (says p a one) in
+        let v = unique (lines_of b) are.second (universe_in store q) are.reads_second (says q b other) in
+        subst (λ (w : Universe). relates w (universe_in store q)) u (subst (relates are.first) v are.related)
+
+    pub two-answers : FilesAreUnique MAX_LEVEL → (r : Result Bool Fault)
+        → IfOk r (λ answer. IsTrue answer ↔ relates (universe_in store p) (universe_in store q))
+        → IfOk r (λ answer. ForEachTwoFiles store p q (λ a b. IsTrue answer ↔ SayRelated relates MAX_LEVEL a b))
+    two-answers unique (Ok answer) is =
+        λ a b one other. (λ yes. related (is.0 yes) a b one other, λ are. is.1 (are-related unique a b one other are))
+    two-answers unique (Err fault) is = tt
+
+    pub two-small : FilesAreUnique MAX_LEVEL → (r : Result Bool Fault) → OnOk r (¬ relates (universe_in store p) (universe_in store q))
+        → OnOk r (ForEachTwoFiles store p q (λ a b. ¬ SayRelated relates MAX_LEVEL a b))
+    two-small unique (Ok answer) none = λ a b one other are. none (are-related unique a b one other are)
+    two-small unique (Err fault) none = tt
+
+    pub two-fault : (r : Result Bool Fault)
+        → IfErr r (λ fault. OrMemory fault ((fault ≡ fault_of Full) × relates (universe_in store p) (universe_in store q)))
+        → IfErr r (λ fault. OrMemory fault (ForEachTwoFiles store p q (λ a b. (fault ≡ fault_of Full) × SayRelated relates MAX_LEVEL a b)))
+    two-fault (Ok answer) why = tt
+    two-fault (Err fault) (inl memory) = inl memory
+    two-fault (Err fault) (inr large) = inr (λ a b one other. (large.0, related large.1 a b one other))

@@ -1,0 +1,2 @@
+pub mod InForm
+pub mod Words

@@ -1,0 +1,28 @@
+//! Patterns in the form that a caller chooses: in their place, moved, or turned.
+//!
+//! This crate answers what the text of a pattern is in a [`Form`], and whether two patterns are the same in it. Whoever has a form as a value comes here, so
+//! that the cases of the form are in one place.
+//!
+//! Begin here, with a pattern that `life_canon` has read into a store:
+//!
+//! 1. [`text_in`] returns its canonical text in a form.
+//! 2. [`same_in`] compares it with another pattern of the store.
+//!
+//! An example: two gliders, the second one moved and turned.
+//!
+//! ```text
+//! Placed        different
+//! Moved         different
+//! Turned        same
+//! ```
+//!
+//! It doesn't know how a form is made, which is the work of `life_forms`. Above it, `pattern_sources` and `life_cli` do what the program is asked for, and
+//! `library_calls` what C asks for.
+//!
+//! Read first: `specs/InForm.antt`, and `src/forms.rt`.
+#![tactic(auto)]
+
+mod forms;
+
+pub use forms::{same_in, text_in};
+pub use life_base::Form;
