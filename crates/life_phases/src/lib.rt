@@ -7,6 +7,7 @@
 //!
 //! 1. [`period_of`] takes a square and the greatest period to look for. It returns a [`Period`], or `None` if there is no period up to that.
 //! 2. A [`Period`] has the number of generations, and a [`Shift`]: so many columns east and rows south.
+//! 3. [`in_middle`] moves a pattern to the middle of the plane in another store, as far as [`way_to_middle`] says for its bounding box.
 //!
 //! An example: with the square of a glider, `period_of(alloc, &store, &rule, glider, 100)` returns 4 generations, 1 column and 1 row. With 3 in place of 100 it
 //! returns `None`.
@@ -15,7 +16,7 @@
 //! of its own, so that two phases are shifts of each other exactly if they have one Id. No cells and no texts are compared.
 //!
 //! It doesn't know files, the generation that a pattern is in, what people call a pattern, or rules by tables. It steps by `life_later`, and moves by
-//! `life_slide`. Above it, `life_periods` finds the period of a file.
+//! `life_slide`. Above it, `life_periods` finds the period of a file, and `life_phase_forms` writes one text for all phases of a pattern.
 //!
 //! Read first: `specs/Periods.antt` (`HasPeriod` says what a period is), `specs/Laws.antt`, and `src/period.rt`.
 #![tactic(auto)]
@@ -24,5 +25,5 @@ pub mod laws;
 mod middle;
 mod period;
 
-pub use middle::Shift;
+pub use middle::{Shift, in_middle, way_to_middle};
 pub use period::{Period, period_of};

@@ -30,7 +30,7 @@ fn side_to_middle(low: i64, high: i64) -> i64
 }
 
 /// How far a box moves to the middle of the plane.
-pub(crate) fn way_to_middle(found: &Bounds) -> Shift
+pub fn way_to_middle(found: &Bounds) -> Shift
     requires plane { IsBoxOnPlane found.now }
     requires columns { found.now.left ≤ℤ found.now.right }
     requires rows { found.now.top ≤ℤ found.now.bottom }
@@ -57,7 +57,7 @@ fn half_side(level: u8) -> i64
 /// # Errors
 ///
 /// `Full` if the other store has reached its limit, and `Memory` if memory ran out. After an error each Id still has its square.
-pub(crate) fn in_middle<S: SharedSquares, T: Squares>(
+pub fn in_middle<S: SharedSquares, T: Squares>(
     alloc: Global,
     from: &S,
     to: &mut T,
