@@ -1,0 +1,17 @@
+use Rattle.std.proofs.Common.{inr, sym, ◌∙◌}
+use Rattle.std.proofs.lemmas.Result.{err_from_is_err_and}
+use Rattle.life_phase_forms.proofs.compare.are_phases.Goals as goal
+
+pub returns-clause-answer : goal.returns-clause-answer
+returns-clause-answer c = λ first r second s.
+    let tell = c.phases_texts_tell_files.ensures c.args.most first second c.in_ok-first.first.items c.in_ok-second.second.items
+    (c.in_ok-first.ensures.text first r) (c.in_ok-second.ensures.text second s) in
+    let test = c.are_equal.ensures in
+    let one = c.deref.ensures.value in
+    let two = c.deref-2.ensures.value in
+    (λ t. tell.0 (sym one ∙ test.0 t ∙ two), λ h. test.1 (one ∙ tell.1 h ∙ sym two))
+
+pub returns-in_err-second-clause-refused : goal.returns-in_err-second-clause-refused
+returns-in_err-second-clause-refused c =
+    let p = err_from_is_err_and c.from_residual-in_err-second.result c.from_residual-in_err-second.ensures.1 in
+    rw (p.1, p.2) (inr c.in_err-second.ensures.refused)

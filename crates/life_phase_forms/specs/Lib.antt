@@ -1,0 +1,4 @@
+pub mod Phases
+pub mod OfFile
+pub mod Laws
+pub mod Words

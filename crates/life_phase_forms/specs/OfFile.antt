@@ -1,0 +1,42 @@
+-- The text of the pattern of a file for all its places, orientations and phases, and why it has none. The refusals are this project's own.
+use Rattle.std.specs.Prelude.{◌≡◌, ◌⊎◌, ℕ, List}
+use Rattle.life_base.specs.Refusal.{fault_of}
+use Rattle.life_base.specs.declared.cell.TheConstants.{MAX_LEVEL}
+use Rattle.life_base.specs.declared.fault.Fault.{Fault}
+use Rattle.life_base.specs.declared.kind.Kind.TheVariants.{Full, Memory, OutOfPlane}
+use Rattle.life_quad.specs.Store.{Nodes}
+use Rattle.life_canon.specs.Files.{Reads}
+use Rattle.life_canon.specs.Store.{ForEachFile}
+use Rattle.life_canon.specs.Universe.{Universe}
+use Rattle.life_canon.specs.declared.pattern.Pattern.{Pattern}
+use Rattle.life_phase_forms.specs.Phases.{AreOfOneCourse, IsPhasesText, LeavesUnderway}
+
+-- the bytes are a file whose pattern has this text
+pub record IsPhasesTextOf (most : ℕ) (bytes text : List ℕ) : Type 0 where
+  pub universe : Universe
+  pub reads : Reads MAX_LEVEL bytes universe
+  pub stays : ¬ (LeavesUnderway most universe)
+  pub is : IsPhasesText MAX_LEVEL most universe text
+
+-- the bytes are a file whose pattern is refused for this
+pub record RefusesPhasesOf (most : ℕ) (bytes : List ℕ) (fault : Fault) : Type 0 where
+  pub universe : Universe
+  pub reads : Reads MAX_LEVEL bytes universe
+  pub kind : fault ≡ fault_of OutOfPlane
+  pub leaves : LeavesUnderway most universe
+
+-- memory ran out; or a store is full, or the form of a phase has too many squares
+abbrev pub IsShortage : Fault → Type 0
+IsShortage fault = (fault ≡ fault_of Memory) ⊎ (fault ≡ fault_of Full)
+
+-- why a pattern in a store has no such text: one of these, or it leaves the plane
+abbrev pub RefusesPhases : ℕ → Nodes → Pattern → Fault → Type 0
+RefusesPhases most store pattern fault = IsShortage fault ⊎ ForEachFile store pattern (λ bytes. RefusesPhasesOf most bytes fault)
+
+-- both bytes are files, of patterns that are one but for their places, orientations and phases
+pub record SayOneCourse (most : ℕ) (a b : List ℕ) : Type 0 where
+  pub first : Universe
+  pub second : Universe
+  pub reads_first : Reads MAX_LEVEL a first
+  pub reads_second : Reads MAX_LEVEL b second
+  pub course : AreOfOneCourse most first second
