@@ -1,21 +1,18 @@
 -- Patterns that a turn and a shift take to each other, their phases and their periods.
-use Rattle.std.proofs.Common.{◌≡◌, ◌⊎◌, inl, inr, ℕ, zero, suc, ◌+◌, ◌-◌, ◌<◌, ◌≤◌, true, refl, sym, ◌∙◌, ap, subst, ℤ, ◌+ℤ◌, arith}
+use Rattle.std.proofs.Common.{◌≡◌, inl, inr, ℕ, zero, suc, ◌+◌, ◌-◌, ◌<◌, ◌≤◌, refl, sym, ◌∙◌, ap, subst, ℤ, arith}
 use Rattle.life_base.specs.Sets.{OuterTotalistic}
 use Rattle.life_base.proofs.Basics.{le_or_lt}
 use Rattle.life_canon.specs.Universe.{Universe}
 use Rattle.life_canon.proofs.Sameness.{same-sym}
 use Rattle.life_forms.specs.Forms.{IsShift, IsTurnedShift}
 use Rattle.life_forms.specs.Turns.{Turn, image, turn_after, upright}
-use Rattle.life_forms.proofs.LeastFacts.{turned-shift-sym}
 use Rattle.life_forms.proofs.ShiftFacts.{same-refl, shift-sym, shift-trans, still}
 use Rattle.life_forms.proofs.TurnFacts.{images-keep-shifts, turns-are-closed}
-use Rattle.life_leap.specs.After.{after}
 use Rattle.life_leap.proofs.AfterLemmas.{after-adds, after-none}
 use Rattle.life_phases.specs.Middle.{IsMovedBy}
 use Rattle.life_phases.specs.Periods.{HasPeriod}
 use Rattle.life_phases.proofs.ShiftLemmas.{after-moves}
-use Rattle.life_phase_forms.specs.Phases.{begun, keeps_turns, phase}
-use Rattle.life_phase_forms.specs.Laws.{turned_cells}
+use Rattle.life_phase_forms.specs.Phases.{begun, phase}
 use Rattle.life_phase_forms.proofs.TurnLemmas.{after-turned}
 
 -- ---- shifts after turns
@@ -56,15 +53,14 @@ module _ (rule : OuterTotalistic) where
         cells = (after-moves rule k s.columns s.rows u.cell v.cell moved).cells;
       }
 
-  module _ (keeps : keeps_turns rule.near ≡ true) where
-    pub phase-image : (k : ℕ) (turn : Turn) (u : Universe) → phase rule k (image turn u) ≡ image turn (phase rule k u)
-    phase-image k turn u = ap (as_phase u) (after-turned rule keeps k turn u.cell)
+  pub phase-image : (k : ℕ) (turn : Turn) (u : Universe) → phase rule k (image turn u) ≡ image turn (phase rule k u)
+  phase-image k turn u = ap (as_phase u) (after-turned rule k turn u.cell)
 
-    pub phase-turned : (k : ℕ) (u v : Universe) → IsTurnedShift u v → IsTurnedShift (phase rule k u) (phase rule k v)
-    phase-turned k u v s = record {
-      turn = s.turn;
-      shift = subst (λ w. IsShift w (phase rule k v)) (phase-image k s.turn u) (phase-shift k (image s.turn u) v s.shift);
-    }
+  pub phase-turned : (k : ℕ) (u v : Universe) → IsTurnedShift u v → IsTurnedShift (phase rule k u) (phase rule k v)
+  phase-turned k u v s = record {
+    turn = s.turn;
+    shift = subst (λ w. IsShift w (phase rule k v)) (phase-image k s.turn u) (phase-shift k (image s.turn u) v s.shift);
+  }
 
   -- ---- periods
 
@@ -84,62 +80,61 @@ module _ (rule : OuterTotalistic) where
       let e : k + n ≡ n + k = omega arith in
       subst (IsShift (phase rule k u)) (phase-adds k n u ∙ ap (λ m. phase rule m u) e ∙ sym (phase-adds n k u)) (phase-shift k (begun u) (phase rule n u) s)
 
-  module _ (keeps : keeps_turns rule.near ≡ true) where
-    -- so is what a turn and a shift make of the pattern
-    pub returns-turned : (n : ℕ) (u v : Universe) → IsTurnedShift (begun u) (begun v) → Returns n u → Returns n v
-    returns-turned n u v t s =
-        let here = images-keep-shifts t.turn (begun u) (phase rule n u) s in
-        let there = phase-shift n (image t.turn (begun u)) (begun v) t.shift in
-        shift-trans (begun v) (image t.turn (begun u)) (phase rule n v) (shift-sym _ _ t.shift)
-        (shift-trans (image t.turn (begun u)) (image t.turn (phase rule n u)) (phase rule n v) here
-        (subst (λ w. IsShift w (phase rule n v)) (phase-image keeps n t.turn (begun u)) there))
+  -- so is what a turn and a shift make of the pattern
+  pub returns-turned : (n : ℕ) (u v : Universe) → IsTurnedShift (begun u) (begun v) → Returns n u → Returns n v
+  returns-turned n u v t s =
+      let here = images-keep-shifts t.turn (begun u) (phase rule n u) s in
+      let there = phase-shift n (image t.turn (begun u)) (begun v) t.shift in
+      shift-trans (begun v) (image t.turn (begun u)) (phase rule n v) (shift-sym _ _ t.shift)
+      (shift-trans (image t.turn (begun u)) (image t.turn (phase rule n u)) (phase rule n v) here
+      (subst (λ w. IsShift w (phase rule n v)) (phase-image n t.turn (begun u)) there))
 
-    -- ---- a pattern with a period
+  -- ---- a pattern with a period
 
-    module _ (p : ℕ) (some : 1 ≤ p) (u : Universe) (s : Returns p u) where
-      -- its phases repeat
-      pub phase-repeats : (k : ℕ) → IsTurnedShift (phase rule k u) (phase rule (k + p) u)
-      phase-repeats k =
-          subst (IsTurnedShift (phase rule k u)) (phase-adds k p u) (turned-of-shift _ _ (phase-shift k (begun u) (phase rule p u) s))
+  module _ (p : ℕ) (some : 1 ≤ p) (u : Universe) (s : Returns p u) where
+    -- its phases repeat
+    pub phase-repeats : (k : ℕ) → IsTurnedShift (phase rule k u) (phase rule (k + p) u)
+    phase-repeats k =
+        subst (IsTurnedShift (phase rule k u)) (phase-adds k p u) (turned-of-shift _ _ (phase-shift k (begun u) (phase rule p u) s))
 
-      -- each phase is one of the first
-      pub early-phase : (n : ℕ) → (k : ℕ) × (k < p) × IsTurnedShift (phase rule k u) (phase rule n u)
-      early-phase zero = (0, omega arith, turned-refl (phase rule 0 u))
-      early-phase (suc n) =
-          let h = early-phase n in
-          let l = h.1 in
-          let e : 1 + n ≡ suc n = omega arith in
-          let next = phase-turned keeps 1 (phase rule h.0 u) (phase rule n u) h.2 in
-          let there : IsTurnedShift (phase rule (1 + h.0) u) (phase rule (suc n) u) =
-          subst (λ w. IsTurnedShift w (phase rule (suc n) u)) (phase-adds 1 h.0 u)
-          (subst (IsTurnedShift (phase rule 1 (phase rule h.0 u))) (phase-adds 1 n u ∙ ap (λ m. phase rule m u) e) next) in
-          elim (le_or_lt p (1 + h.0)) [
-            | inr below ↦ (1 + h.0, below, there)
-            | inl above ↦
-                let f : 1 + h.0 ≡ 0 + p = omega (arith, above, l) in (
-                  0,
-                  omega (arith, some),
-                  turned-trans (phase rule 0 u) (phase rule (1 + h.0) u) (phase rule (suc n) u)
-                      (subst (λ m. IsTurnedShift (phase rule 0 u) (phase rule m u)) (sym f) (phase-repeats 0)) there,
-                )
-          ]
-
-      -- some generations after each phase the first one comes again
-      pub comes-again : (n : ℕ) → (m : ℕ) × IsTurnedShift (begun u) (phase rule (m + n) u)
-      comes-again zero = (
-        0,
-        subst (λ w. IsTurnedShift w (phase rule (0 + 0) u)) (phase-none u)
-            (subst (λ m. IsTurnedShift (phase rule 0 u) (phase rule m u)) (omega arith) (turned-refl (phase rule 0 u))),
-      )
-      comes-again (suc n) = by (comes-again n).0 (comes-again n).1
-        where
-          by : (m : ℕ) → IsTurnedShift (begun u) (phase rule (m + n) u) → (k : ℕ) × IsTurnedShift (begun u) (phase rule (k + suc n) u)
-          by (suc m) h =
-              let e : suc m + n ≡ m + suc n = omega arith in
-              (m, subst (λ k. IsTurnedShift (begun u) (phase rule k u)) e h)
-          by zero h =
-              let e : (0 + n) + p ≡ (p - 1) + suc n = omega (arith, some) in (
-                p - 1,
-                turned-trans (begun u) (phase rule (0 + n) u) (phase rule ((p - 1) + suc n) u) h
-                    (subst (λ k. IsTurnedShift (phase rule (0 + n) u) (phase rule k u)) e (phase-repeats (0 + n))),
+    -- each phase is one of the first
+    pub early-phase : (n : ℕ) → (k : ℕ) × (k < p) × IsTurnedShift (phase rule k u) (phase rule n u)
+    early-phase zero = (0, omega arith, turned-refl (phase rule 0 u))
+    early-phase (suc n) =
+        let h = early-phase n in
+        let l = h.1 in
+        let e : 1 + n ≡ suc n = omega arith in
+        let next = phase-turned 1 (phase rule h.0 u) (phase rule n u) h.2 in
+        let there : IsTurnedShift (phase rule (1 + h.0) u) (phase rule (suc n) u) =
+        subst (λ w. IsTurnedShift w (phase rule (suc n) u)) (phase-adds 1 h.0 u)
+        (subst (IsTurnedShift (phase rule 1 (phase rule h.0 u))) (phase-adds 1 n u ∙ ap (λ m. phase rule m u) e) next) in
+        elim (le_or_lt p (1 + h.0)) [
+          | inr below ↦ (1 + h.0, below, there)
+          | inl above ↦
+              let f : 1 + h.0 ≡ 0 + p = omega (arith, above, l) in (
+                0,
+                omega (arith, some),
+                turned-trans (phase rule 0 u) (phase rule (1 + h.0) u) (phase rule (suc n) u)
+                    (subst (λ m. IsTurnedShift (phase rule 0 u) (phase rule m u)) (sym f) (phase-repeats 0)) there,
               )
+        ]
+
+    -- some generations after each phase the first one comes again
+    pub comes-again : (n : ℕ) → (m : ℕ) × IsTurnedShift (begun u) (phase rule (m + n) u)
+    comes-again zero = (
+      0,
+      subst (λ w. IsTurnedShift w (phase rule (0 + 0) u)) (phase-none u)
+          (subst (λ m. IsTurnedShift (phase rule 0 u) (phase rule m u)) (omega arith) (turned-refl (phase rule 0 u))),
+    )
+    comes-again (suc n) = by (comes-again n).0 (comes-again n).1
+      where
+        by : (m : ℕ) → IsTurnedShift (begun u) (phase rule (m + n) u) → (k : ℕ) × IsTurnedShift (begun u) (phase rule (k + suc n) u)
+        by (suc m) h =
+            let e : suc m + n ≡ m + suc n = omega arith in
+            (m, subst (λ k. IsTurnedShift (begun u) (phase rule k u)) e h)
+        by zero h =
+            let e : (0 + n) + p ≡ (p - 1) + suc n = omega (arith, some) in (
+              p - 1,
+              turned-trans (begun u) (phase rule (0 + n) u) (phase rule ((p - 1) + suc n) u) h
+                  (subst (λ k. IsTurnedShift (phase rule (0 + n) u) (phase rule k u)) e (phase-repeats (0 + n))),
+            )

@@ -1,5 +1,5 @@
 -- The text of a pattern that was read, and of its file.
-use Rattle.std.proofs.Common.{◌≡◌, ◌⊎◌, inl, inr, ℕ, ◌≤◌, true, false, true≢false, List, Some, None, refl, sym, ◌∙◌, ap, subst, ℤ}
+use Rattle.std.proofs.Common.{◌≡◌, inl, inr, ℕ, ◌≤◌, List, sym, ◌∙◌, ap, subst}
 use Rattle.life_base.specs.Refusal.{fault_of}
 use Rattle.life_base.specs.Sets.{OuterTotalistic}
 use Rattle.life_base.specs.Tree.{Tree, tree_cell}
@@ -11,13 +11,13 @@ use Rattle.life_base.specs.declared.rule.Rule.TheVariants.{Life}
 use Rattle.life_quad.specs.Store.{Nodes, content}
 use Rattle.life_canon.specs.Laws.{PatternsFit}
 use Rattle.life_canon.specs.Store.{IsRead, IsTrimmed, universe_in}
-use Rattle.life_canon.specs.Universe.{Universe, IsSame, square_universe}
+use Rattle.life_canon.specs.Universe.{IsSame, square_universe}
 use Rattle.life_canon.specs.declared.pattern.Pattern.{Pattern}
 use Rattle.life_forms.specs.Images.{IsTurnedText}
 use Rattle.life_phases.specs.Periods.{HasNoPeriodUpTo, IsLeastPeriod, IsPeriodFault, LeavesFromMiddle}
 use Rattle.life_phases.specs.declared.period.Period.{Period}
 use Rattle.life_phase_forms.specs.OfFile.{IsPhasesTextOf, RefusesPhases, RefusesPhasesOf}
-use Rattle.life_phase_forms.specs.Phases.{HasNoPhases, HasPhases, IsLeastOfPhases, LeavesUnderway, begun, keeps_turns, of_pattern, of_phases}
+use Rattle.life_phase_forms.specs.Phases.{HasNoPhases, HasPhases, IsLeastOfPhases, LeavesUnderway, begun, of_pattern, of_phases}
 use Rattle.life_phase_forms.proofs.SameLemmas.{life-same}
 
 -- a pattern fits its store in generation 0 too
@@ -55,18 +55,11 @@ module _ (fit : PatternsFit MAX_LEVEL) (most : ℕ) (store : Nodes) (pattern : P
   pub named-text : (text : List ℕ) → ((life : OuterTotalistic) → pattern.rule ≡ Life life → ⊥)
       → IsTurnedText MAX_LEVEL (square_universe pattern.rule 0 (content store pattern.root)) text → IsPhasesTextOf most bytes text
   named-text text other h =
-      text-alone text (λ rule under turns. absurd (other rule (sym same.rule ∙ under))) (λ leaves. other leaves.rule (sym same.rule ∙ leaves.under)) h
+      text-alone text (λ rule under. absurd (other rule (sym same.rule ∙ under))) (λ leaves. other leaves.rule (sym same.rule ∙ leaves.under)) h
 
   module _ (life : OuterTotalistic) (is : pattern.rule ≡ Life life) where
     rule-is : (rule : OuterTotalistic) → r.universe.rule ≡ Life rule → rule ≡ life
     rule-is rule e = life-same rule life (sym e ∙ same.rule ∙ is)
-
-    pub unkept-text : (text : List ℕ) → keeps_turns life.near ≡ false
-        → IsTurnedText MAX_LEVEL (square_universe pattern.rule 0 (content store pattern.root)) text → IsPhasesTextOf most bytes text
-    unkept-text text e h =
-        let clash = λ (rule : OuterTotalistic) (under : r.universe.rule ≡ Life rule) (turns : keeps_turns rule.near ≡ true).
-        true≢false (sym turns ∙ ap (λ (o : OuterTotalistic). keeps_turns o.near) (rule-is rule under) ∙ e) in
-        text-alone text (λ rule under turns. absurd (clash rule under turns)) (λ leaves. clash leaves.rule leaves.under leaves.turns) h
 
     stays-underway : ¬ (LeavesFromMiddle life most (tree_cell (content store pattern.root))) → ¬ (LeavesUnderway most r.universe)
     stays-underway stays h =
@@ -78,20 +71,19 @@ module _ (fit : PatternsFit MAX_LEVEL) (most : ℕ) (store : Nodes) (pattern : P
         → IsTurnedText MAX_LEVEL (square_universe pattern.rule 0 (content store pattern.root)) text → IsPhasesTextOf most bytes text
     aperiodic-text text none stays h =
         let never : HasNoPeriodUpTo life r.universe.cell most = subst (λ f. HasNoPeriodUpTo life f most) (sym cells-are) none in
-        text-alone text (λ rule under turns. subst (λ o. HasNoPeriodUpTo o r.universe.cell most) (sym (rule-is rule under)) never) (stays-underway stays) h
+        text-alone text (λ rule under. subst (λ o. HasNoPeriodUpTo o r.universe.cell most) (sym (rule-is rule under)) never) (stays-underway stays) h
 
-    pub periodic-text : (text : List ℕ) (period : Period) → keeps_turns life.near ≡ true → period.generations ≤ most
+    pub periodic-text : (text : List ℕ) (period : Period) → period.generations ≤ most
         → IsLeastPeriod life (tree_cell (content store pattern.root)) period → ¬ (LeavesFromMiddle life most (tree_cell (content store pattern.root)))
         → IsLeastOfPhases MAX_LEVEL life period.generations (square_universe (Life life) 0 (content store pattern.root)) text
         → IsPhasesTextOf most bytes text
-    periodic-text text period turns within period_is stays h =
+    periodic-text text period within period_is stays h =
         let t = content store pattern.root in
         let path : begun r.universe ≡ square_universe (Life life) 0 t = begun-is ∙ ap (λ q. square_universe q 0 t) is in
         let least : IsLeastOfPhases MAX_LEVEL life period.generations (begun r.universe) text =
         subst (λ u. IsLeastOfPhases MAX_LEVEL life period.generations u text) (sym path) h in
         let has : HasPhases most r.universe life period = record {
           under = same.rule ∙ is;
-          turns = turns;
           within = within;
           least = subst (λ f. IsLeastPeriod life f period) (sym cells-are) period_is;
         } in
@@ -102,25 +94,24 @@ module _ (fit : PatternsFit MAX_LEVEL) (most : ℕ) (store : Nodes) (pattern : P
           is = of_phases life period has (record { number = least.number; below = least.below; is = least.is; least = least.least });
         }
 
-    pub leaving-refused : (fault : Fault) → keeps_turns life.near ≡ true → fault ≡ fault_of kinds.OutOfPlane
+    pub leaving-refused : (fault : Fault) → fault ≡ fault_of kinds.OutOfPlane
         → LeavesFromMiddle life most (tree_cell (content store pattern.root)) → RefusesPhasesOf most bytes fault
-    leaving-refused fault turns e leaves = record {
+    leaving-refused fault e leaves = record {
       universe = r.universe;
       reads = r.reads;
       kind = e;
       leaves = record {
         rule = life;
         under = same.rule ∙ is;
-        turns = turns;
         leaves = subst (LeavesFromMiddle life most) (sym cells-are) leaves;
       };
     }
 
 -- why the period isn't found is why there is no text
 pub period-refused : PatternsFit MAX_LEVEL → (most : ℕ) (store : Nodes) (pattern : Pattern) (life : OuterTotalistic) → pattern.rule ≡ Life life
-    → keeps_turns life.near ≡ true → (fault : Fault) → IsPeriodFault life most (tree_cell (content store pattern.root)) fault
+    → (fault : Fault) → IsPeriodFault life most (tree_cell (content store pattern.root)) fault
     → RefusesPhases most store pattern fault
-period-refused fit most store pattern life is turns fault (inl memory) = inl (inl memory)
-period-refused fit most store pattern life is turns fault (inr (inl full)) = inl (inr full)
-period-refused fit most store pattern life is turns fault (inr (inr h)) =
-    inr (λ bytes r. leaving-refused fit most store pattern bytes r life is fault turns h.0 h.1)
+period-refused fit most store pattern life is fault (inl memory) = inl (inl memory)
+period-refused fit most store pattern life is fault (inr (inl full)) = inl (inr full)
+period-refused fit most store pattern life is fault (inr (inr h)) =
+    inr (λ bytes r. leaving-refused fit most store pattern bytes r life is fault h.0 h.1)

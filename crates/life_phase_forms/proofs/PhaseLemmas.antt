@@ -1,5 +1,5 @@
 -- The squares of the phases, and why a phase is refused.
-use Rattle.std.proofs.Common.{◌≡◌, ◌⊎◌, inl, inr, ℕ, ◌+◌, ◌<◌, ◌≤◌, false, refl, sym, ◌∙◌, ap, ap₂, subst, ℤ, neg_ℤ, List, arith, lit≤}
+use Rattle.std.proofs.Common.{◌≡◌, inl, inr, ℕ, ◌+◌, ◌<◌, ◌≤◌, false, refl, sym, ◌∙◌, ap, subst, ℤ, neg_ℤ, List, arith, lit≤}
 use Rattle.life_base.specs.Refusal.{OrMemory, fault_of}
 use Rattle.life_base.specs.Rules.{has_digit}
 use Rattle.life_base.specs.Sets.{OuterTotalistic}
@@ -10,7 +10,7 @@ use Rattle.life_base.specs.declared.kind.Kind.{Kind}
 use Rattle.life_base.specs.declared.kind.Kind.TheVariants as kinds
 use Rattle.life_base.specs.declared.rule.Rule.TheVariants.{Life}
 use Rattle.life_mc.specs.Squares.{HasStatesUpTo}
-use Rattle.life_quad.specs.Keeping.{IsShortageFault, IsShortageKind}
+use Rattle.life_quad.specs.Keeping.{IsShortageKind}
 use Rattle.life_quad.specs.Moves.{trimmed_square}
 use Rattle.life_quad.specs.Store.{Nodes, content}
 use Rattle.life_quad.specs.declared.id.Id.{Id}
@@ -27,7 +27,7 @@ use Rattle.life_leap.specs.After.{after}
 use Rattle.life_later.specs.Course.{IsCourseFault, LeavesWithin}
 use Rattle.life_later.proofs.StayLemmas.{leaves-then}
 use Rattle.life_phases.specs.Middle.{IsInMiddle, IsMovedBy, moved_by}
-use Rattle.life_phases.specs.Periods.{HasPeriod, IsLeastPeriod, LeavesFirst, LeavesFromMiddle}
+use Rattle.life_phases.specs.Periods.{IsLeastPeriod, LeavesFirst, LeavesFromMiddle}
 use Rattle.life_phases.specs.declared.period.Period.{Period}
 use Rattle.life_phases.proofs.PeriodLemmas.{blank-still}
 use Rattle.life_phases.proofs.ShiftLemmas.{moved-back, period-moved}

@@ -1,11 +1,10 @@
 -- Each phase of a pattern that doesn't leave the plane underway is a shift of a pattern of the plane.
-use Rattle.std.proofs.Common.{◌≡◌, ◌⊎◌, inl, inr, ℕ, zero, suc, ◌+◌, ◌/◌, ◌^◌, ◌<◌, ◌≤◌, false, refl, sym, ◌∙◌, ap, ap₂, subst, ℤ, pos, negsuc, neg_ℤ, ◌+ℤ◌, ◌≤ℤ◌, arith, lit<}
+use Rattle.std.proofs.Common.{◌≡◌, ◌⊎◌, inl, inr, ℕ, zero, suc, ◌+◌, ◌/◌, ◌<◌, ◌≤◌, false, refl, sym, ◌∙◌, ap, ap₂, subst, ℤ, pos, negsuc, neg_ℤ, ◌+ℤ◌, ◌≤ℤ◌, arith, lit<}
 use Rattle.std.proofs.lemmas.Int.{ints}
 use Rattle.life_base.specs.Rules.{IsRule, has_digit}
 use Rattle.life_base.specs.Sets.{OuterTotalistic}
 use Rattle.life_base.specs.declared.bounds.Bounds.{Bounds}
 use Rattle.life_base.specs.declared.cell.TheConstants.{MAX_LEVEL}
-use Rattle.life_base.specs.declared.rule.Rule.TheVariants.{Life}
 use Rattle.life_base.proofs.Basics.{zero_unless}
 use Rattle.life_mc.specs.Macrocell.{largest_state}
 use Rattle.life_block.proofs.PieceLemmas.{next-zero}
@@ -132,7 +131,6 @@ module _ (most : ℕ) (u : Universe) (plane : IsOnPlane MAX_LEVEL u) (rule : Out
     outside x y out = zero_unless _ (λ some. stays (record {
       rule = rule;
       under = h.under;
-      turns = h.turns;
       leaves = record {
         columns = a;
         rows = b;

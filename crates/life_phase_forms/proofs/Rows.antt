@@ -1,21 +1,13 @@
 -- The definitions, on worked examples.
-use Rattle.std.proofs.Common.{◌≡◌, ℕ, true, ◌&&◌, int_le, List, [], ◌∷◌, map, refl, ℤ, pos, negsuc, if◌then◌else◌}
+use Rattle.std.proofs.Common.{◌≡◌, ℕ, ◌&&◌, int_le, List, [], ◌∷◌, map, refl, ℤ, pos, negsuc, if◌then◌else◌}
 use Rattle.std.specs.Ordering.{int_eq}
 use Rattle.life_base.specs.Sets.{OuterTotalistic}
-use Rattle.life_base.specs.declared.rule.Near.{Near}
-use Rattle.life_base.specs.declared.rule.Near.TheVariants.{Moore, VonNeumann}
+use Rattle.life_base.specs.declared.rule.Near.TheVariants.{Moore}
 use Rattle.life_base.specs.declared.rule.Rule.TheVariants.{Life}
 use Rattle.life_canon.specs.Universe.{Universe}
 use Rattle.life_forms.specs.Turns.{image, transpose}
 use Rattle.life_leap.specs.After.{after}
-use Rattle.life_phase_forms.specs.Phases.{begun, keeps_turns, phase}
-
--- the turns keep both neighbourhoods
-keeps-eight : keeps_turns Moore ≡ true
-keeps-eight = refl
-
-keeps-four : keeps_turns VonNeumann ≡ true
-keeps-four = refl
+use Rattle.life_phase_forms.specs.Phases.{begun, phase}
 
 -- three cells in a row, in generation 7, under B3/S23
 abbrev life : OuterTotalistic

@@ -1,21 +1,20 @@
 -- What the texts tell, of patterns of the plane and of files.
-use Rattle.std.proofs.Common.{◌≡◌, ◌↔◌, ℕ, ◌+◌, ◌≤◌, true, List, refl, sym, ◌∙◌, subst, lit≤}
+use Rattle.std.proofs.Common.{◌≡◌, ℕ, ◌+◌, ◌≤◌, List, refl, sym, ◌∙◌, subst, lit≤}
 use Rattle.life_base.specs.Sets.{OuterTotalistic}
 use Rattle.life_base.specs.Text.{lines_of}
 use Rattle.life_base.specs.declared.cell.TheConstants.{MAX_LEVEL}
 use Rattle.life_canon.specs.Files.{Reads, as_macrocell}
 use Rattle.life_canon.specs.Laws.{FilesAreOnPlane, FilesAreUnique, TextsAreFiles, TextsTellUniverses}
 use Rattle.life_canon.specs.Listing.{canon_text, canonical_file}
-use Rattle.life_canon.specs.Universe.{Universe, IsOnPlane, IsSame, macrocell_universe}
-use Rattle.life_canon.proofs.Sameness.{same-sym}
+use Rattle.life_canon.specs.Universe.{Universe, IsOnPlane, macrocell_universe}
 use Rattle.life_forms.specs.Forms.{IsTurnedShift}
 use Rattle.life_forms.specs.Images.{IsTurnedText}
 use Rattle.life_forms.proofs.LeastFacts.{turned-on-plane, turned-shift-sym, turned-texts}
 use Rattle.life_forms.proofs.ShiftFacts.{same-refl, shift-trans, still}
 use Rattle.life_phases.specs.declared.period.Period.{Period}
 use Rattle.life_phase_forms.specs.Laws.{IsFileOfCourse, PhasesTextsAreFiles, PhasesTextsTellFiles}
-use Rattle.life_phase_forms.specs.OfFile.{IsPhasesTextOf, SayOneCourse}
-use Rattle.life_phase_forms.specs.Phases.{AreOfOneCourse, HasNoPhases, HasPhases, IsLeastOfPhases, IsPhasesText, LeavesUnderway, begun, in_one_phase, in_two_phases, of_pattern, of_phases, phase}
+use Rattle.life_phase_forms.specs.OfFile.{SayOneCourse}
+use Rattle.life_phase_forms.specs.Phases.{AreOfOneCourse, HasPhases, IsPhasesText, LeavesUnderway, begun, in_one_phase, in_two_phases, of_pattern, of_phases, phase}
 use Rattle.life_phase_forms.proofs.CourseLemmas.{comes-again, phase-adds, phase-turned, turned-of-shift, turned-trans}
 use Rattle.life_phase_forms.proofs.PlaneLemmas.{IsMovedToPlane, begun-on-plane, phase-on-plane}
 use Rattle.life_phase_forms.proofs.SameLemmas.{has-period, returns-of, same-rules, same-text}
@@ -44,11 +43,11 @@ module _ (tells : TextsTellUniverses MAX_LEVEL) where
     both-later : (rule : OuterTotalistic) (a b : Period) → HasPhases most u rule a → HasPhases most v rule b → (k l : ℕ)
         → IsTurnedShift (phase rule k u) (phase rule l v) → AreOfOneCourse most u v
     both-later rule a b h j k l t =
-        let again = comes-again rule j.turns b.generations j.least.is.some v (returns-of most v rule b j) l in
+        let again = comes-again rule b.generations j.least.is.some v (returns-of most v rule b j) l in
         let m = again.0 in
         let there : IsTurnedShift (phase rule (m + k) u) (phase rule (m + l) v) =
         subst (λ w. IsTurnedShift w (phase rule (m + l) v)) (phase-adds rule m k u)
-        (subst (IsTurnedShift (phase rule m (phase rule k u))) (phase-adds rule m l v) (phase-turned rule h.turns m _ _ t)) in
+        (subst (IsTurnedShift (phase rule m (phase rule k u))) (phase-adds rule m l v) (phase-turned rule m _ _ t)) in
         in_two_phases rule a h (m + k) (turned-trans _ _ (begun v) there (turned-shift-sym (begun v) (phase rule (m + l) v) again.1))
 
     tell : x ≡ y → IsPhasesText MAX_LEVEL most u x → IsPhasesText MAX_LEVEL most v y → AreOfOneCourse most u v

@@ -1,5 +1,5 @@
 -- The texts of turned patterns and of phases.
-use Rattle.std.proofs.Common.{◌≡◌, ◌⊎◌, inl, inr, ℕ, ◌+◌, ◌<◌, ◌≤◌, true, false, true≢false, List, [], refl, sym, ◌∙◌, ap, subst, append-nil, Ordering, Less, Equal, Greater, is_gt, nat_cmp, arith}
+use Rattle.std.proofs.Common.{◌≡◌, ◌⊎◌, inl, inr, ℕ, ◌+◌, ◌<◌, true, false, true≢false, List, [], refl, sym, ap, subst, append-nil, Ordering, Less, Equal, Greater, is_gt, nat_cmp, arith}
 use Rattle.std.specs.Cmp.Lexicographic.{slice_cmp}
 use Rattle.std.specs.Ordering.{is_lt}
 use Rattle.life_base.specs.Sets.{OuterTotalistic}
@@ -9,13 +9,12 @@ use Rattle.life_canon.specs.Listing.{canon_text}
 use Rattle.life_canon.specs.Universe.{Universe}
 use Rattle.life_canon.proofs.OrderFacts.{old-is-lesser, up-to-itself, up-to-on}
 use Rattle.life_canon.proofs.Sameness.{same-sym}
-use Rattle.life_forms.specs.Forms.{IsMoved, IsShift, IsTurned, IsTurnedShift}
+use Rattle.life_forms.specs.Forms.{IsMoved, IsShift, IsTurnedShift}
 use Rattle.life_forms.specs.Images.{IsTurnedText}
 use Rattle.life_forms.specs.Turns.{Turn, image, inverse_turn, turn_after}
 use Rattle.life_forms.proofs.LeastFacts.{turned-shift-sym}
 use Rattle.life_forms.proofs.ShiftFacts.{shift-sym, shift-trans, still}
 use Rattle.life_forms.proofs.TurnFacts.{images-keep-shifts, turns-are-closed, turns-have-inverses}
-use Rattle.life_leap.specs.After.{after}
 use Rattle.life_leap.proofs.AfterLemmas.{after-none}
 use Rattle.life_phase_forms.specs.Phases.{IsLeastOfPhases, begun, phase}
 

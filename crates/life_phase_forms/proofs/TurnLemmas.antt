@@ -1,5 +1,5 @@
 -- The generations of turned patterns.
-use Rattle.std.proofs.Common.{◌≡◌, ℕ, zero, suc, ◌+◌, Bool, true, false, [], ◌∷◌, refl, sym, ◌∙◌, ap, ap₂, ℤ, negsuc, ◌+ℤ◌, arith, if◌then◌else◌}
+use Rattle.std.proofs.Common.{◌≡◌, ℕ, zero, suc, Bool, true, false, [], ◌∷◌, refl, sym, ◌∙◌, ap, ℤ, arith, if◌then◌else◌}
 use Rattle.std.proofs.lemmas.Int.{ints}
 use Rattle.life_base.specs.Sets.{OuterTotalistic}
 use Rattle.life_base.specs.declared.rule.Near.{Near}
@@ -10,7 +10,6 @@ use Rattle.life_leap.specs.After.{after}
 use Rattle.life_leap.proofs.AfterLemmas.{after-none, after-next}
 use Rattle.life_forms.specs.Turns.{Turn, counted_coordinate, opposite_coordinate}
 use Rattle.life_forms.proofs.TurnFacts.{backwards-is}
-use Rattle.life_phase_forms.specs.Phases.{keeps_turns}
 use Rattle.life_phase_forms.specs.Laws.{GenerationsKeepTurns, turned_cells}
 
 -- ---- counts don't depend on the order
@@ -59,13 +58,13 @@ abbrev under : OuterTotalistic → Near → OuterTotalistic
 under rule near = record { sets = rule.sets; near = near }
 
 module _ (rule : OuterTotalistic) (f : ℤ → ℤ → ℕ) (x y : ℤ) where
-  flip-next : (near : Near) → keeps_turns near ≡ true → next_life (under rule near) (λ u v. f v u) x y ≡ next_life (under rule near) f y x
-  flip-next Moore keeps = ap (next_by_count rule.sets (f y x)) (exchanged-eight _ _ _ _ _ _ _ _)
-  flip-next VonNeumann keeps = ap (next_by_count rule.sets (f y x)) (exchanged-four _ _ _ _)
+  flip-next : (near : Near) → next_life (under rule near) (λ u v. f v u) x y ≡ next_life (under rule near) f y x
+  flip-next Moore = ap (next_by_count rule.sets (f y x)) (exchanged-eight _ _ _ _ _ _ _ _)
+  flip-next VonNeumann = ap (next_by_count rule.sets (f y x)) (exchanged-four _ _ _ _)
 
-  mirror-next : (near : Near) → keeps_turns near ≡ true
+  mirror-next : (near : Near)
       → next_life (under rule near) (λ u v. f (opposite_coordinate u) v) x y ≡ next_life (under rule near) f (opposite_coordinate x) y
-  mirror-next Moore keeps =
+  mirror-next Moore =
       let w = before-opposite x in
       let e = after-opposite x in
       let n = one_before y in
@@ -74,7 +73,7 @@ module _ (rule : OuterTotalistic) (f : ℤ → ℤ → ℕ) (x y : ℤ) where
       (λ i. next_by_count rule.sets (f o y)
       (count_of 1 (f o n ∷ f (e i) n ∷ f (e i) y ∷ f (e i) s ∷ f o s ∷ f (w i) s ∷ f (w i) y ∷ f (w i) n ∷ [])))
       ∙ ap (next_by_count rule.sets (f o y)) (mirrored-eight _ _ _ _ _ _ _ _)
-  mirror-next VonNeumann keeps =
+  mirror-next VonNeumann =
       let w = before-opposite x in
       let e = after-opposite x in
       let n = one_before y in
@@ -83,22 +82,22 @@ module _ (rule : OuterTotalistic) (f : ℤ → ℤ → ℕ) (x y : ℤ) where
       (λ i. next_by_count rule.sets (f o y) (count_of 1 (f o n ∷ f (e i) y ∷ f o s ∷ f (w i) y ∷ [])))
       ∙ ap (next_by_count rule.sets (f o y)) (mirrored-four _ _ _ _)
 
-module _ (rule : OuterTotalistic) (keeps : keeps_turns rule.near ≡ true) where
+module _ (rule : OuterTotalistic) where
   next-exchanged : (e : Bool) (f : ℤ → ℤ → ℕ) (x y : ℤ)
       → next_life rule (exchanged e f) x y ≡ next_life rule f (if e then y else x) (if e then x else y)
   next-exchanged false f x y = refl
-  next-exchanged true f x y = flip-next rule f x y rule.near keeps
+  next-exchanged true f x y = flip-next rule f x y rule.near
 
   next-columns : (c : Bool) (f : ℤ → ℤ → ℕ) (x y : ℤ) → next_life rule (columns_from c f) x y ≡ next_life rule f (counted_coordinate c x) y
   next-columns false f x y = refl
-  next-columns true f x y = mirror-next rule f x y rule.near keeps
+  next-columns true f x y = mirror-next rule f x y rule.near
 
   next-rows : (r : Bool) (f : ℤ → ℤ → ℕ) (x y : ℤ) → next_life rule (rows_from r f) x y ≡ next_life rule f x (counted_coordinate r y)
   next-rows false f x y = refl
   next-rows true f x y =
-      flip-next rule (λ u v. f v (opposite_coordinate u)) x y rule.near keeps
-      ∙ mirror-next rule (λ u v. f v u) y x rule.near keeps
-      ∙ flip-next rule f (opposite_coordinate y) x rule.near keeps
+      flip-next rule (λ u v. f v (opposite_coordinate u)) x y rule.near
+      ∙ mirror-next rule (λ u v. f v u) y x rule.near
+      ∙ flip-next rule f (opposite_coordinate y) x rule.near
 
   next-turned : (turn : Turn) (f : ℤ → ℤ → ℕ) (x y : ℤ) → next_life rule (turned_cells turn f) x y ≡ turned_cells turn (next_life rule f) x y
   next-turned turn f x y =
@@ -117,4 +116,4 @@ module _ (rule : OuterTotalistic) (keeps : keeps_turns rule.near ≡ true) where
       ∙ (λ i x y. next-turned turn (after rule n f) x y i) ∙ ap (turned_cells turn) (sym (after-next rule n f))
 
 pub generations-turned : GenerationsKeepTurns
-generations-turned rule n turn cells keeps x y = ap (λ (g : ℤ → ℤ → ℕ). g x y) (after-turned rule keeps n turn cells)
+generations-turned rule n turn cells x y = ap (λ (g : ℤ → ℤ → ℕ). g x y) (after-turned rule n turn cells)

@@ -1,5 +1,5 @@
 -- The laws of phases, and what the texts tell.
-use Rattle.std.specs.Prelude.{◌≡◌, ◌↔◌, ℕ, true, ℤ, List}
+use Rattle.std.specs.Prelude.{◌≡◌, ◌↔◌, ℕ, ℤ, List}
 use Rattle.life_base.specs.Sets.{OuterTotalistic}
 use Rattle.life_base.specs.declared.cell.TheConstants.{MAX_LEVEL}
 use Rattle.life_leap.specs.After.{after}
@@ -10,16 +10,16 @@ use Rattle.life_canon.specs.Universe.{Universe}
 use Rattle.life_forms.specs.Forms.{IsTurnedShift}
 use Rattle.life_forms.specs.Turns.{Turn, turned_column, turned_row}
 use Rattle.life_phase_forms.specs.OfFile.{IsPhasesTextOf, SayOneCourse}
-use Rattle.life_phase_forms.specs.Phases.{AreOfOneCourse, IsPhasesText, begun, keeps_turns, phase}
+use Rattle.life_phase_forms.specs.Phases.{AreOfOneCourse, IsPhasesText, begun, phase}
 
 -- the cells of the image of a pattern by a turn
 abbrev pub turned_cells : Turn → (ℤ → ℤ → ℕ) → ℤ → ℤ → ℕ
 turned_cells turn cells x y = cells (turned_column turn x y) (turned_row turn x y)
 
--- the generations of the image of a pattern are the images of its generations, if the turns keep the neighbourhood of the rule
+-- The generations of the image of a pattern are the images of its generations: a turn takes the neighbours of a cell to the neighbours of its image.
 abbrev pub GenerationsKeepTurns : Type 0
 GenerationsKeepTurns =
-    (rule : OuterTotalistic) (n : ℕ) (turn : Turn) (cells : ℤ → ℤ → ℕ) → keeps_turns rule.near ≡ true → (x y : ℤ)
+    (rule : OuterTotalistic) (n : ℕ) (turn : Turn) (cells : ℤ → ℤ → ℕ) (x y : ℤ)
     → after rule n (turned_cells turn cells) x y ≡ turned_cells turn (after rule n cells) x y
 
 -- n generations later the pattern is the same, moved or not
@@ -29,7 +29,7 @@ HasSomePeriod rule n u = (columns : ℤ) × (rows : ℤ) × HasPeriod rule u.cel
 -- a pattern with a period, and what a turn and a shift make of it some generations later, have the same periods
 abbrev pub CoursesKeepPeriods : Type 0
 CoursesKeepPeriods =
-    (rule : OuterTotalistic) (u v : Universe) (p n k : ℕ) → keeps_turns rule.near ≡ true → HasSomePeriod rule p u
+    (rule : OuterTotalistic) (u v : Universe) (p n k : ℕ) → HasSomePeriod rule p u
     → IsTurnedShift (phase rule k u) (begun v) → HasSomePeriod rule n u ↔ HasSomePeriod rule n v
 
 -- two files have one text exactly if their patterns are one but for places, orientations and phases

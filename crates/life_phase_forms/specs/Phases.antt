@@ -1,9 +1,7 @@
 -- The phases of a pattern, and the text that all of them share. The form is this project's own; phases and periods are those of the field (LifeWiki, Phase,
 -- Oscillator and Spaceship).
-use Rattle.std.specs.Prelude.{◌≡◌, ℕ, ◌≤◌, ◌<◌, Bool, true, List}
+use Rattle.std.specs.Prelude.{◌≡◌, ℕ, ◌≤◌, ◌<◌, List}
 use Rattle.life_base.specs.Sets.{OuterTotalistic}
-use Rattle.life_base.specs.declared.rule.Near.{Near}
-use Rattle.life_base.specs.declared.rule.Near.TheVariants.{Moore, VonNeumann}
 use Rattle.life_base.specs.declared.rule.Rule.TheVariants.{Life}
 use Rattle.life_leap.specs.After.{after}
 use Rattle.life_phases.specs.Periods.{HasNoPeriodUpTo, IsLeastPeriod, LeavesFromMiddle}
@@ -21,22 +19,15 @@ begun u = record { rule = u.rule; generation = 0; cell = u.cell }
 abbrev pub phase : OuterTotalistic → ℕ → Universe → Universe
 phase rule k u = record { rule = u.rule; generation = 0; cell = after rule k u.cell }
 
--- Each of the eight turns takes the neighbours of a cell to the neighbours of its image: the eight around a cell, and the four that share a side with it. (A
--- turn takes the six of a hexagonal neighbourhood to others.)
-abbrev pub keeps_turns : Near → Bool
-keeps_turns Moore = true
-keeps_turns VonNeumann = true
-
--- The pattern has phases: those of its least period, which is at most so many generations. Its rule is a B/S rule whose neighbourhood the turns keep.
+-- The pattern has phases: those of its least period under its B/S rule, which is at most so many generations.
 pub record HasPhases (most : ℕ) (u : Universe) (rule : OuterTotalistic) (period : Period) : Type 0 where
   pub under : u.rule ≡ Life rule
-  pub turns : keeps_turns rule.near ≡ true
   pub within : period.generations ≤ most
   pub least : IsLeastPeriod rule u.cell period
 
--- it has none: its rule is no such rule, or it has no period up to so many generations
+-- it has none: its rule is a name, or it has no period up to so many generations
 abbrev pub HasNoPhases : ℕ → Universe → Type 0
-HasNoPhases most u = (rule : OuterTotalistic) → u.rule ≡ Life rule → keeps_turns rule.near ≡ true → HasNoPeriodUpTo rule u.cell most
+HasNoPhases most u = (rule : OuterTotalistic) → u.rule ≡ Life rule → HasNoPeriodUpTo rule u.cell most
 
 -- the text is that of the turned form of one of the first `count` phases, and no greater than that of any of them
 pub record IsLeastOfPhases (top : ℕ) (rule : OuterTotalistic) (count : ℕ) (u : Universe) (text : List ℕ) : Type 0 where
@@ -63,5 +54,4 @@ pub data AreOfOneCourse (most : ℕ) (u v : Universe) : Type 0 where
 pub record LeavesUnderway (most : ℕ) (u : Universe) : Type 0 where
   pub rule : OuterTotalistic
   pub under : u.rule ≡ Life rule
-  pub turns : keeps_turns rule.near ≡ true
   pub leaves : LeavesFromMiddle rule most u.cell

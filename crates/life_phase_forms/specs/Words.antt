@@ -10,4 +10,4 @@ pub use Rattle.life_leap.specs.After.{after}
 pub use Rattle.life_phases.specs.Periods.{IsLeastPeriod, LeavesFromMiddle}
 pub use Rattle.life_phase_forms.specs.Laws.{CoursesKeepPeriods, GenerationsKeepTurns, PhasesTextsAreFiles, PhasesTextsTellFiles}
 pub use Rattle.life_phase_forms.specs.OfFile.{IsPhasesTextOf, IsShortage, RefusesPhases, SayOneCourse}
-pub use Rattle.life_phase_forms.specs.Phases.{begun, IsLeastOfPhases, keeps_turns}
+pub use Rattle.life_phase_forms.specs.Phases.{begun, IsLeastOfPhases}

@@ -5,7 +5,7 @@ use life_canon::laws::{
     files_are_on_plane, files_are_unique, texts_are_files, texts_tell_universes,
 };
 
-/// The generations of the image of a pattern are the images of its generations, if the turns keep the neighbourhood of the rule.
+/// The generations of the image of a pattern are the images of its generations.
 pub fn generations_keep_turns()
     ensures { GenerationsKeepTurns }
 {}

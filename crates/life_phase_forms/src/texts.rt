@@ -1,9 +1,9 @@
 //! The text of a pattern for all its places, orientations and phases.
 
 ghost use Rattle.std.specs.Prelude.{◌≡◌, ℤ, ◌<◌, ◌≤◌, IfOk, IfErr};
-ghost use Rattle.life_phase_forms.specs.Words.{after, content, depth, ForEachFile, IsKnownInShared, IsLeastOfPhases, IsLeastPeriod, IsLesserText, IsOfFile, IsPhasesTextOf, IsTrimmed, IsTurnedText, IsShortage, keeps_turns, LeavesFromMiddle, LeavesWithin, RefusesPhases, square_universe, tree_cell};
+ghost use Rattle.life_phase_forms.specs.Words.{after, content, depth, ForEachFile, IsKnownInShared, IsLeastOfPhases, IsLeastPeriod, IsLesserText, IsOfFile, IsPhasesTextOf, IsTrimmed, IsTurnedText, IsShortage, LeavesFromMiddle, LeavesWithin, RefusesPhases, square_universe, tree_cell};
 
-use life_base::{Fault, LifeRule, MAX_LEVEL, Near, Rule};
+use life_base::{Fault, LifeRule, MAX_LEVEL, Rule};
 use life_canon::Pattern;
 use life_canon::laws::{files_are_on_plane, patterns_fit, squares_are_centred};
 use life_forms::turned_text;
@@ -14,15 +14,6 @@ use std::alloc::Global;
 
 /// The least level of the square of a phase: that of a leaf under a B/S rule.
 const LEAST_LEVEL: u8 = 3;
-
-/// Whether each of the eight turns takes the neighbours of a cell to the neighbours of its image.
-fn keeps_turns(rule: &LifeRule) -> bool
-    ensures { result ≡ keeps_turns rule.now.near }
-{
-    match rule.near {
-        Near::Moore | Near::VonNeumann => true,
-    }
-}
 
 /// The lesser of two texts, byte by byte.
 fn lesser(first: Vec<u8>, second: Vec<u8>) -> Vec<u8>
@@ -161,9 +152,6 @@ pub fn phases_text(
     let Rule::Life(rule) = &pattern.rule else {
         return Ok(first);
     };
-    if !keeps_turns(rule) {
-        return Ok(first);
-    }
     let found = period_of(alloc, store, rule, pattern.root, most)?;
     let Some(period) = found else {
         return Ok(first);

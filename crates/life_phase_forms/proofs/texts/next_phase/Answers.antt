@@ -1,6 +1,5 @@
 use Rattle.std.proofs.Common.{refl, ◌∙◌}
 use Rattle.std.proofs.lemmas.Result.{err_from_is_err_and}
-use Rattle.life_base.specs.Tree.{tree_cell}
 use Rattle.life_quad.specs.Store.{content}
 use Rattle.life_quad.proofs.LawLemmas.{known_squares_are_full}
 use Rattle.life_later.proofs.CourseLemmas.{binary-later}

@@ -1,20 +1,13 @@
-use Rattle.std.proofs.Common.{◌≡◌, ◌≤◌, true, refl, subst}
+use Rattle.std.proofs.Common.{◌≤◌, subst}
 use Rattle.std.proofs.lemmas.Result.{err_from_is_err_and, IfOk-weaker}
 use Rattle.life_base.specs.Tree.{depth}
-use Rattle.life_base.specs.declared.rule.Near.{Near}
-use Rattle.life_base.specs.declared.rule.Near.TheVariants.{Moore, VonNeumann}
 use Rattle.life_mc.specs.Macrocell.{largest_state}
 use Rattle.life_mc.specs.Squares.{HasStatesUpTo}
 use Rattle.life_quad.specs.Store.{content}
 use Rattle.life_canon.specs.Universe.{least_level}
-use Rattle.life_phase_forms.specs.Phases.{keeps_turns}
 use Rattle.life_phase_forms.proofs.FileLemmas.{aperiodic-text, named-text, period-refused, periodic-text, text-under, trimmed-again}
 use Rattle.life_phase_forms.proofs.PhaseLemmas.{trimmed-binary}
 use Rattle.life_phase_forms.proofs.texts.phases_text.Goals as goal
-
-keeps : (near : Near) → keeps_turns near ≡ true
-keeps Moore = refl
-keeps VonNeumann = refl
 
 pub turned_text_of-requires : goal.turned_text_of-requires
 turned_text_of-requires c =
@@ -42,7 +35,7 @@ pub returns-in_err-found-clause-refused : goal.returns-in_err-found-clause-refus
 returns-in_err-found-clause-refused c =
     let p = err_from_is_err_and c.from_residual-in_err-found.result c.from_residual-in_err-found.ensures.1 in
     rw (p.1, p.2) (period-refused c.patterns_fit.ensures c.args.most c.args.store.now c.args.pattern.now c.in-Life.rule c.in-Life.is
-    (keeps c.in-Life.rule.near) _ c.in_err-found.ensures.refusals)
+    _ c.in_err-found.ensures.refusals)
 
 pub returns-in_default-found-clause-text : goal.returns-in_default-found-clause-text
 returns-in_default-found-clause-text c =
@@ -69,4 +62,4 @@ returns-clause-text c =
     let found = rw c.in-Some.is at c.in_ok-found.ensures.period in
     IfOk-weaker c.least_text_of.result _ _
     (λ text h bytes r. periodic-text c.patterns_fit.ensures c.args.most c.args.store.now c.args.pattern.now bytes r c.in-Life.rule c.in-Life.is text.items
-    c.in-Some.period (keeps c.in-Life.rule.near) found.0 found.1 c.in_ok-found.ensures.stays h) c.least_text_of.ensures.text
+    c.in-Some.period found.0 found.1 c.in_ok-found.ensures.stays h) c.least_text_of.ensures.text
