@@ -31,7 +31,7 @@ use Rattle.life_phases.specs.Periods.{IsLeastPeriod, LeavesFirst, LeavesFromMidd
 use Rattle.life_phases.specs.declared.period.Period.{Period}
 use Rattle.life_phases.proofs.PeriodLemmas.{blank-still}
 use Rattle.life_phases.proofs.ShiftLemmas.{moved-back, period-moved}
-use Rattle.life_phase_forms.specs.OfFile.{IsShortage}
+use Rattle.life_phase_forms.specs.OfFile.{IsMemoryOrFull}
 use Rattle.life_phase_forms.specs.Phases.{IsLeastOfPhases, phase}
 use Rattle.life_phase_forms.proofs.CourseLemmas.{phase-shift, turned-of-shift}
 use Rattle.life_phase_forms.proofs.TextLemmas.{first-least, least-again, more-least, turned-again}
@@ -175,20 +175,20 @@ module _ (rule : OuterTotalistic) where
 
 -- ---- refusals
 
-pub memory-want : (kind : Kind) (fault : Fault) → fault ≡ fault_of kind → kind ≡ kinds.Memory → IsShortage fault
+pub memory-want : (kind : Kind) (fault : Fault) → fault ≡ fault_of kind → kind ≡ kinds.Memory → IsMemoryOrFull fault
 memory-want kind fault is e = inl (is ∙ ap fault_of e)
 
 pub shortage-want : (stored : List Tree) (limit : ℕ) (kind : Kind) (fault : Fault) → fault ≡ fault_of kind → IsShortageKind stored limit kind
-    → IsShortage fault
+    → IsMemoryOrFull fault
 shortage-want stored limit kind fault is (inl memory) = inl (is ∙ ap fault_of memory)
 shortage-want stored limit kind fault is (inr full) = inr (is ∙ ap fault_of full.0)
 
-pub turning-want : (fault : Fault) (P : Type 0) → OrMemory fault ((fault ≡ fault_of kinds.Full) × P) → IsShortage fault
+pub turning-want : (fault : Fault) (P : Type 0) → OrMemory fault ((fault ≡ fault_of kinds.Full) × P) → IsMemoryOrFull fault
 turning-want fault P (inl memory) = inl memory
 turning-want fault P (inr full) = inr full.0
 
 pub course-want : (rule : OuterTotalistic) (n : ℕ) (cells : ℤ → ℤ → ℕ) (stored : List Tree) (limit : ℕ) (fault : Fault)
-    → IsCourseFault rule n cells stored limit fault → ¬ (LeavesWithin rule n cells) → IsShortage fault
+    → IsCourseFault rule n cells stored limit fault → ¬ (LeavesWithin rule n cells) → IsMemoryOrFull fault
 course-want rule n cells stored limit fault (inl (inl memory)) stays = inl memory
 course-want rule n cells stored limit fault (inl (inr full)) stays = inr full.0
 course-want rule n cells stored limit fault (inr leaves) stays = absurd (stays leaves.1)

@@ -4,7 +4,7 @@ use Rattle.std.proofs.lemmas.Int.{ints}
 use Rattle.life_base.specs.Sets.{OuterTotalistic}
 use Rattle.life_base.specs.declared.rule.Near.{Near}
 use Rattle.life_base.specs.declared.rule.Near.TheVariants.{Moore, VonNeumann}
-use Rattle.life_sweep.specs.Generation.{one_before, one_after, next_by_count, next_life}
+use Rattle.life_next.specs.Generation.{one_before, one_after, next_by_count, next_life}
 use Rattle.life_table.specs.Meaning.{count_of}
 use Rattle.life_leap.specs.After.{after}
 use Rattle.life_leap.proofs.AfterLemmas.{after-none, after-next}

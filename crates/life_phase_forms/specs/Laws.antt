@@ -1,4 +1,4 @@
--- The laws of phases, and what the texts tell.
+-- The laws of phases, and when two texts are equal.
 use Rattle.std.specs.Prelude.{◌≡◌, ◌↔◌, ℕ, ℤ, List}
 use Rattle.life_base.specs.Sets.{OuterTotalistic}
 use Rattle.life_base.specs.declared.cell.TheConstants.{MAX_LEVEL}

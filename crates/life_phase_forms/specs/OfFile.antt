@@ -26,12 +26,12 @@ pub record RefusesPhasesOf (most : ℕ) (bytes : List ℕ) (fault : Fault) : Typ
   pub leaves : LeavesUnderway most universe
 
 -- memory ran out; or a store is full, or the form of a phase has too many squares
-abbrev pub IsShortage : Fault → Type 0
-IsShortage fault = (fault ≡ fault_of Memory) ⊎ (fault ≡ fault_of Full)
+abbrev pub IsMemoryOrFull : Fault → Type 0
+IsMemoryOrFull fault = (fault ≡ fault_of Memory) ⊎ (fault ≡ fault_of Full)
 
 -- why a pattern in a store has no such text: one of these, or it leaves the plane
 abbrev pub RefusesPhases : ℕ → Nodes → Pattern → Fault → Type 0
-RefusesPhases most store pattern fault = IsShortage fault ⊎ ForEachFile store pattern (λ bytes. RefusesPhasesOf most bytes fault)
+RefusesPhases most store pattern fault = IsMemoryOrFull fault ⊎ ForEachFile store pattern (λ bytes. RefusesPhasesOf most bytes fault)
 
 -- both bytes are files, of patterns that are one but for their places, orientations and phases
 pub record SayOneCourse (most : ℕ) (a b : List ℕ) : Type 0 where

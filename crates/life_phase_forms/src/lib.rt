@@ -23,7 +23,7 @@
 //! It doesn't know what a period is called, tables, commands and devices. It takes texts from `life_forms`, periods from `life_phases`, and generations from
 //! `life_later`.
 //!
-//! Read first: `specs/Phases.antt` (the text), `specs/Laws.antt` (what two texts tell), and `src/texts.rt`.
+//! Read first: `specs/Phases.antt` (the text), `specs/Laws.antt` (when two texts are equal), and `src/texts.rt`.
 #![tactic(auto)]
 
 mod compare;

@@ -1,7 +1,7 @@
 //! The text of a pattern for all its places, orientations and phases.
 
 ghost use Rattle.std.specs.Prelude.{◌≡◌, ℤ, ◌<◌, ◌≤◌, IfOk, IfErr};
-ghost use Rattle.life_phase_forms.specs.Words.{after, content, depth, ForEachFile, IsKnownInShared, IsLeastOfPhases, IsLeastPeriod, IsLesserText, IsOfFile, IsPhasesTextOf, IsTrimmed, IsTurnedText, IsShortage, LeavesFromMiddle, LeavesWithin, RefusesPhases, square_universe, tree_cell};
+ghost use Rattle.life_phase_forms.specs.Words.{after, content, depth, ForEachFile, IsKnownInShared, IsLeastOfPhases, IsLeastPeriod, IsLesserText, IsOfFile, IsPhasesTextOf, IsTrimmed, IsTurnedText, IsMemoryOrFull, LeavesFromMiddle, LeavesWithin, RefusesPhases, square_universe, tree_cell};
 
 use life_base::{Fault, LifeRule, MAX_LEVEL, Rule};
 use life_canon::Pattern;
@@ -31,7 +31,7 @@ fn turned_text_of(alloc: Global, store: &Shared, rule: Rule, root: Id) -> Result
     requires { IsTrimmed store.now (record { rule = rule; generation = 0; root = root }) }
     ensures text { IfOk result (λ text. IsTurnedText MAX_LEVEL
         (square_universe rule 0 (content store.now root)) text.items) }
-    ensures refused { IfErr result IsShortage }
+    ensures refused { IfErr result IsMemoryOrFull }
 {
     let pattern = Pattern {
         rule,
@@ -51,7 +51,7 @@ fn next_phase(alloc: Global, course: &mut Shared, rule: &LifeRule, now: Id) -> R
         (record { rule = Rule.Life rule.now; generation = 0; root = next })) }
     ensures later { IfOk result (λ next. (x y : ℤ) → tree_cell (content course.new next) x y
         ≡ after rule.now 1 (tree_cell (content course.old now)) x y) }
-    ensures refused { IfErr result IsShortage }
+    ensures refused { IfErr result IsMemoryOrFull }
 {
     squares_are_centred();
     let next = later(alloc, course, rule, now, 1)?;
@@ -76,7 +76,7 @@ fn least_text(
         (square_universe (Rule.Life rule.now) 0 (content course.old start)) first.items }
     ensures text { IfOk result (λ text. IsLeastOfPhases MAX_LEVEL rule.now count
         (square_universe (Rule.Life rule.now) 0 (content course.old start)) text.items) }
-    ensures refused { IfErr result IsShortage }
+    ensures refused { IfErr result IsMemoryOrFull }
 {
     let mut now = start;
     let mut best = first;
@@ -109,7 +109,7 @@ fn least_text_of(
         (square_universe (Rule.Life rule.now) 0 (content store.now root)) first.items }
     ensures text { IfOk result (λ text. IsLeastOfPhases MAX_LEVEL rule.now period.now.generations
         (square_universe (Rule.Life rule.now) 0 (content store.now root)) text.items) }
-    ensures refused { IfErr result IsShortage }
+    ensures refused { IfErr result IsMemoryOrFull }
 {
     squares_are_centred();
     // Reading a field gives its invariant to the proof: no cell is born without live neighbours.

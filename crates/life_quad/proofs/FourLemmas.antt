@@ -49,7 +49,8 @@ module _ {S : Type 0} {knows : S → Id → Type 0} {content : S → Id → Tree
         adds_2 = adds-then _ nw.adds ne.adds (λ P n. inr (inl (parts i P n))) (λ P n. inr (inr (inl (parts j P n))))
 
         pub refused-sw : {s_3 : S} {e : Kind} (x : Result Id Kind) → IsErrAnd x (λ f. f ≡ e)
-            → Makes knows content stored most needs Needs s_2 s_3 (square k) (Err e) → MakesWhole knows content stored most needs o s_3 (of_four square i j k l) x
+            → Makes knows content stored most needs Needs s_2 s_3 (square k) (Err e)
+            → MakesWhole knows content stored most needs o s_3 (of_four square i j k l) x
         refused-sw x reported call =
             refused-behind _ x reported (keeps-then nw.keeps ne.keeps) adds_2 call (λ P n. inr (inr (inr (inl (parts k P n)))))
 
@@ -58,7 +59,8 @@ module _ {S : Type 0} {knows : S → Id → Type 0} {content : S → Id → Tree
           adds_3 = adds-then _ adds_2 sw.adds (λ P a. a) (λ P n. inr (inr (inr (inl (parts k P n)))))
 
           pub refused-se : {s_4 : S} {e : Kind} (x : Result Id Kind) → IsErrAnd x (λ f. f ≡ e)
-              → Makes knows content stored most needs Needs s_3 s_4 (square l) (Err e) → MakesWhole knows content stored most needs o s_4 (of_four square i j k l) x
+              → Makes knows content stored most needs Needs s_3 s_4 (square l) (Err e)
+              → MakesWhole knows content stored most needs o s_4 (of_four square i j k l) x
           refused-se x reported call =
               refused-behind _ x reported (keeps-then (keeps-then nw.keeps ne.keeps) sw.keeps) adds_3 call
               (λ P n. inr (inr (inr (inr (parts l P n)))))

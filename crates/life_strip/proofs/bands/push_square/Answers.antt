@@ -33,7 +33,12 @@ returns-then-cells-eq0-clause-grows g c = grows-same _ c.args.squares.now tt
 pub returns-in_err-id-clause-grows : goal.returns-in_err-id-clause-grows
 returns-in_err-id-clause-grows g c =
     let small = c.in_err-id.ensures in
-    record { keeps = small.keeps; refusals = rw (error_is c.from_residual.result c.from_residual.ensures.1) small.refusals; needed = λ e. small.needed; adds = small.adds }
+    record {
+      keeps = small.keeps;
+      refusals = rw (error_is c.from_residual.result c.from_residual.ensures.1) small.refusals;
+      needed = λ e. small.needed;
+      adds = small.adds;
+    }
 
 pub returns-clause-grows : goal.returns-clause-grows
 returns-clause-grows g c = let small = c.in_ok-id.ensures in grows-still _ small.keeps small.adds c.extend.ensures.refusals

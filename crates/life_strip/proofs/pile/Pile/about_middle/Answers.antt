@@ -30,7 +30,8 @@ end_row-requires-clause-space g c =
 -- ---- the rows are in one strip
 
 -- what the rows need is of the square about the middle
-ended : (g : Over) (c : After-end_row g) {A : Type 0} {r : Result A Kind} → let f = pile_state_with (g.S.Squares.content c.args.squares.now) c.args.self c.args.row in
+ended : (g : Over) (c : After-end_row g) {A : Type 0} {r : Result A Kind}
+    → let f = pile_state_with (g.S.Squares.content c.args.squares.now) c.args.self c.args.row in
     Grows g.S.Squares c.args.squares.now c.end_row.new.squares r (λ P. SomeSquare P (pile_height c.args.self + 1 + c.rows_below.result) f)
     → Grows g.S.Squares c.args.squares.now c.end_row.new.squares r (λ P. SomeOfMiddle P c.args.rows f)
 ended g c call =
