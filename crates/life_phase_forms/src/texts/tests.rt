@@ -2,6 +2,7 @@
 use super::*;
 use crate::are_phases;
 use life_base::Kind;
+use life_canon::laws::patterns_stay;
 use life_canon::read;
 use life_quad::Seed;
 
@@ -9,14 +10,20 @@ use life_quad::Seed;
 const SPACE: u64 = 100_000;
 
 // The text of a file, or its fault.
-fn text_within(alloc: Global, file: &[u8], most: u64, space: u64) -> Result<Vec<u8>, Fault> {
-    let mut store = Shared::seeded(alloc, Seed::fixed(), space);
+fn text_of(alloc: Global, file: &[u8], most: u64) -> Result<Vec<u8>, Fault> {
+    let mut store = Shared::seeded(alloc, Seed::fixed(), SPACE);
     let pattern = read(alloc, &mut store, file)?;
     phases_text(alloc, &store, &pattern, most)
 }
 
-fn text_of(alloc: Global, file: &[u8], most: u64) -> Result<Vec<u8>, Fault> {
-    text_within(alloc, file, most, SPACE)
+// Whether a file can be read into a store that may hold five squares, but has no text there, because a store is full.
+fn is_full(alloc: Global, file: &[u8], most: u64) -> Result<bool, Fault> {
+    let mut store = Shared::seeded(alloc, Seed::fixed(), 5);
+    let pattern = read(alloc, &mut store, file)?;
+    match phases_text(alloc, &store, &pattern, most) {
+        Ok(_) => Ok(false),
+        Err(fault) => Ok(fault.kind.number() == Kind::Full.number()),
+    }
 }
 
 // Whether a file has this text.
@@ -43,11 +50,34 @@ fn is_refused(alloc: Global, file: &[u8], most: u64, kind: Kind) -> bool {
     }
 }
 
-// Whether two phases have one text if this greatest period is sought, and two texts if one less is.
+// Whether two phases have one text if this greatest period is sought, and also if a greater one is, and two texts if one less is.
 fn have_period(alloc: Global, first: &[u8], second: &[u8], period: u64) -> bool {
     are_one(alloc, first, period, second, period)
-        && are_one(alloc, first, period + 1000, second, period)
-        && !are_one(alloc, first, period - 1, second, period - 1)
+        && are_one(alloc, first, 1_000_000, second, period)
+        && !are_one(
+            alloc,
+            first,
+            period.saturating_sub(1),
+            second,
+            period.saturating_sub(1),
+        )
+}
+
+// Whether two files, read into one store, are the same up to their phases.
+fn compare(alloc: Global, first: &[u8], second: &[u8], most: u64) -> Result<bool, Fault> {
+    let mut store = Shared::seeded(alloc, Seed::fixed(), SPACE);
+    patterns_stay();
+    let one = read(alloc, &mut store, first)?;
+    let other = read(alloc, &mut store, second)?;
+    are_phases(alloc, &store, &one, &other, most)
+}
+
+// Whether the answer is this one.
+fn is_answer(given: Result<bool, Fault>, wanted: bool) -> bool {
+    match given {
+        Ok(answer) => answer == wanted,
+        Err(_) => false,
+    }
 }
 
 #[test]
@@ -170,34 +200,17 @@ fn patterns_are_refused(rt: HostRuntime) {
     let narrow: &[u8] =
         b"#CXRLE Pos=-2305843009213693951,0\nx = 4611686018427387902, y = 3\no4611686018427387900bo$o4611686018427387900bo$o4611686018427387900bo!\n";
     assert!(rt; text_of(alloc, narrow, 1000).is_ok());
-    // A store that is full: the phases of a glider need more squares than the glider.
+    // A store for five squares holds the glider, but not all of its phases.
     let glider: &[u8] = b"x = 3, y = 3\nbo$2bo$3o!\n";
-    assert!(rt;
-        match text_within(alloc, glider, 4, 5) {
-            Ok(_) => false,
-            Err(fault) => fault.kind.number() == Kind::Full.number(),
-        }
-    );
+    assert!(rt; is_answer(is_full(alloc, glider, 4), true));
 }
 
 #[test]
 fn patterns_are_compared(rt: HostRuntime) {
     let alloc = rt.alloc();
-    let mut store = Shared::seeded(alloc, Seed::fixed(), SPACE);
-    let first = read(alloc, &mut store, b"x = 3, y = 3\nbo$2bo$3o!\n");
-    let second = read(
-        alloc,
-        &mut store,
-        b"#CXRLE Gen=1\nx = 3, y = 3\n2bo$2o$b2o!\n",
-    );
-    let (Ok(first), Ok(second)) = (first, second) else {
-        assert!(rt; false, "a file is refused");
-        return;
-    };
-    for (most, wanted) in [(3u64, false), (4, true), (1000, true)] {
-        match are_phases(alloc, &store, &first, &second, most) {
-            Ok(answer) => assert!(rt; answer == wanted, "{most}"),
-            Err(_) => assert!(rt; false, "{most}"),
-        }
-    }
+    let first: &[u8] = b"x = 3, y = 3\nbo$2bo$3o!\n";
+    let second: &[u8] = b"#CXRLE Gen=1\nx = 3, y = 3\n2bo$2o$b2o!\n";
+    assert!(rt; is_answer(compare(alloc, first, second, 3), false));
+    assert!(rt; is_answer(compare(alloc, first, second, 4), true));
+    assert!(rt; is_answer(compare(alloc, first, second, 1000), true));
 }
