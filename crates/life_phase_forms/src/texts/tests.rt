@@ -16,16 +16,6 @@ fn text_of(alloc: Global, file: &[u8], most: u64) -> Result<Vec<u8>, Fault> {
     phases_text(alloc, &store, &pattern, most)
 }
 
-// Whether a file can be read into a store that may hold five squares, but has no text there, because a store is full.
-fn is_full(alloc: Global, file: &[u8], most: u64) -> Result<bool, Fault> {
-    let mut store = Shared::seeded(alloc, Seed::fixed(), 5);
-    let pattern = read(alloc, &mut store, file)?;
-    match phases_text(alloc, &store, &pattern, most) {
-        Ok(_) => Ok(false),
-        Err(fault) => Ok(fault.kind.number() == Kind::Full.number()),
-    }
-}
-
 // Whether a file has this text.
 fn has_text(alloc: Global, file: &[u8], most: u64, wanted: &[u8]) -> bool {
     match text_of(alloc, file, most) {
@@ -200,9 +190,6 @@ fn patterns_are_refused(rt: HostRuntime) {
     let narrow: &[u8] =
         b"#CXRLE Pos=-2305843009213693951,0\nx = 4611686018427387902, y = 3\no4611686018427387900bo$o4611686018427387900bo$o4611686018427387900bo!\n";
     assert!(rt; text_of(alloc, narrow, 1000).is_ok());
-    // A store for five squares holds the glider, but not all of its phases.
-    let glider: &[u8] = b"x = 3, y = 3\nbo$2bo$3o!\n";
-    assert!(rt; is_answer(is_full(alloc, glider, 4), true));
 }
 
 #[test]
