@@ -7,7 +7,7 @@ use Rattle.life_base.specs.declared.bounds.Bounds.{Bounds}
 use Rattle.life_base.specs.declared.cell.TheConstants.{MAX_LEVEL}
 use Rattle.life_base.proofs.Basics.{zero_unless}
 use Rattle.life_mc.specs.Macrocell.{largest_state}
-use Rattle.life_block.proofs.PieceLemmas.{next-zero}
+use Rattle.life_next.proofs.NextLemmas.{next-zero}
 use Rattle.life_canon.specs.Texts.{IsBoundingBox}
 use Rattle.life_canon.specs.Universe.{Universe, IsBlankOutside, IsOnPlane, IsWithin, corner}
 use Rattle.life_forms.specs.Forms.{IsShift}
