@@ -17,6 +17,7 @@ import argparse
 import errno
 import functools
 import gzip
+import io
 import hashlib
 import importlib.util
 import logging
@@ -58,6 +59,8 @@ UNREAD = (OSError, EOFError, zlib.error, lzma.LZMAError, zipfile.BadZipFile, tar
 
 # How a file begins that the library says nothing of, and what it is. It is looked at no further than the library does.
 HEAD = 512
+# The most bytes that a pattern file has.
+MOST_BYTES = 2**30
 IMAGE = "This is an image, not a pattern file."
 OTHERS = (
     (b"\\(\xb5/\xfd", "This is a zstd file: unpack it first, with unzstd."),
@@ -110,6 +113,26 @@ def names_of(first: str, other: str) -> bytes:
 # ---- what a worker does: from a share to its rows, by nothing but the share and the files
 
 
+def name_in_zip(entry: zipfile.ZipInfo) -> bytes:
+    """The bytes of a name in a zip. A name that has no flag for UTF-8 text is in the bytes of the system that made the zip, which Python takes for those of
+    code page 437. That is right for DOS alone; a name of another system has its own bytes."""
+    if entry.flag_bits & 0x800:
+        return entry.filename.encode()
+    raw = entry.filename.encode("cp437")
+    return entry.filename.encode() if entry.create_system == 0 and not is_text(raw) else raw
+
+
+def not_followed(target: str) -> bytes:
+    """What reads a link of a tar."""
+    raise ValueError(f"it is a link to {target}, which isn't followed")
+
+
+def unpacked(data: bytes) -> bytes:
+    """What gzip packed, up to one byte more than a pattern file may have."""
+    with gzip.GzipFile(fileobj=io.BytesIO(data)) as it:
+        return it.read(MOST_BYTES + 1)
+
+
 def members_of(path: bytes) -> Iterator[Tuple[bytes, Callable[[], bytes]]]:
     """The files of an archive, each with a call that reads it: of a zip, or of a tar, which gzip, bzip2 or xz may have packed."""
     with open(path, "rb") as whole:
@@ -117,14 +140,17 @@ def members_of(path: bytes) -> Iterator[Tuple[bytes, Callable[[], bytes]]]:
             with zipfile.ZipFile(whole) as packed:
                 for it in packed.infolist():
                     if not it.is_dir():
-                        yield it.filename.encode(), functools.partial(packed.read, it)
+                        yield name_in_zip(it), functools.partial(packed.read, it)
             return
         whole.seek(0)
         with tarfile.open(fileobj=whole, mode="r|*", encoding="utf-8", errors="surrogateescape") as archive:
             for entry in archive:
+                name = entry.name.encode("utf-8", "surrogateescape")
                 file = archive.extractfile(entry) if entry.isfile() else None
                 if file is not None:
-                    yield entry.name.encode("utf-8", "surrogateescape"), file.read
+                    yield name, file.read
+                elif entry.issym() or entry.islnk():
+                    yield name, functools.partial(not_followed, entry.linkname)
                 archive.members = []  # type: ignore[attr-defined]  # which would hold every entry until the end
 
 
@@ -141,7 +167,7 @@ def row_of(path: str, member: Optional[str], read: Callable[[], bytes]) -> Row:
 
     try:
         data = read()
-        data = gzip.decompress(data) if data[:2] == b"\x1f\x8b" else data
+        data = unpacked(data) if data[:2] == b"\x1f\x8b" else data
         with warnings.catch_warnings():  # the row has the warning
             warnings.simplefilter("ignore", golly_canon.PatternWarning)
             keys, fault = keys_of(data)

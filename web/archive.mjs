@@ -136,7 +136,7 @@ async function listOfZip(zip) {
     }
     const [flags, method] = [8, 10].map(it => list.getUint16(at + it, true));
     const [sum, packed, size, place] = [16, 20, 24, 42].map(it => list.getUint32(at + it, true));
-    const name = new TextDecoder(flags & 0x800 ? "utf-8" : "latin1").decode(new Uint8Array(list.buffer, list.byteOffset + at + 46, lengths[0]));
+    const name = nameOfBytes(new Uint8Array(list.buffer, list.byteOffset + at + 46, lengths[0]));
     if (!name.endsWith("/")) {
       entries.push({ name, flags, method, sum, packed, size, place });
     }
@@ -169,12 +169,12 @@ function textOfField(block, from, length) {
   return nameOfBytes(end < 0 ? field : field.subarray(0, end));
 }
 
-/** A name as text: a byte that isn't of UTF-8 text is taken for a character of Latin-1. */
+/** A name as text. If it isn't UTF-8 text, each byte that isn't ASCII is written as \xHH, so that it doesn't look like a name in UTF-8. */
 function nameOfBytes(bytes) {
   try {
     return new TextDecoder("utf-8", { fatal: true, ignoreBOM: true }).decode(bytes);
   } catch {
-    return new TextDecoder("latin1").decode(bytes);
+    return Array.from(bytes, it => it < 0x80 ? String.fromCharCode(it) : `\\x${it.toString(16)}`).join("");
   }
 }
 

@@ -245,6 +245,18 @@ def of_archives(paths):
     kinds = [(it[0], it[5]) for it in rows("cut_tar.sqlite") if it[5] == "ReadFault"]
     check(status == 1 and kinds[-2:] == [("glider.rle", "ReadFault"), ("no such.zip", "ReadFault")], f"what is no archive: status {status}, {kinds}")
     check(kinds[0][0] == "cut.tar" and len(rows("cut_tar.sqlite")) > len(kinds), "an archive that is cut gives what stands before")
+    with tarfile.open("links.tar", "w") as it:
+        it.add("glider.rle")
+        for name, kind in (("hard.rle", tarfile.LNKTYPE), ("soft.rle", tarfile.SYMTYPE)):
+            link = tarfile.TarInfo(name)
+            link.type, link.linkname = kind, "glider.rle"
+            it.addfile(link)
+    status, _, _ = ran("--archive", "--table", "links.sqlite", *WITHOUT_DASK, "links.tar")
+    found, why = [(it[1], it[5], it[7]) for it in rows("links.sqlite")], "it is a link to glider.rle, which isn't followed"
+    check(status == 1 and found == [("glider.rle", None, None), ("hard.rle", "ReadFault", why), ("soft.rle", "ReadFault", why)], f"links: {status} {found}")
+    most, collection.MOST_BYTES = collection.MOST_BYTES, 10
+    check(collection.unpacked(gzip.compress(b"o" * 100)) == b"o" * 11, "no more is unpacked than tells that a file is too long")
+    collection.MOST_BYTES = most
 
 
 def of_page():
@@ -339,13 +351,26 @@ def of_names():
         data = it.read()
     with open("oem.zip", "wb") as it:  # a name of which no flag says that it is UTF-8
         it.write(data.replace(b"old.rle", b"\x82ld.rle"))
+    with zipfile.ZipFile("names_of_unix.zip", "w") as it:  # as Debian's zip writes them: names in UTF-8 and in Latin-1, without a flag
+        it.write("glider.rle", "caf__.rle")
+        it.write("glider.rle", "caf_.rle")
+    with open("names_of_unix.zip", "rb") as it:
+        unix = it.read().replace(b"caf__.rle", "caf\u00e9.rle".encode()).replace(b"caf_.rle", b"caf\xe9.rle")
+    with open("names_of_unix.zip", "wb") as it:
+        it.write(unix)
+    at = unix.index(b"PK\1\2")
+    with open("names_of_dos.zip", "wb") as it:  # the second name is in code page 437, of which no byte is UTF-8 text
+        it.write(unix.replace(b"caf\xe9.rle", b"caf\x82.rle").replace(unix[at : at + 6], unix[at : at + 5] + b"\0"))
     with open("wrong.zip", "wb") as it:  # one that says so, and isn't
         it.write(data.replace("\u00e9".encode(), b"\xff\xfe"))
-    status, _, errors = ran("--archive", "--table", "archived.sqlite", *WITHOUT_DASK, "names.tar", "oem.zip", "wrong.zip", "names.zip")
+    status, _, errors = ran("--archive", "--table", "archived.sqlite", *WITHOUT_DASK, "names.tar", "oem.zip", "wrong.zip", "names.zip",
+                            "names_of_unix.zip", "names_of_dos.zip")
     found = [it[:2] + it[5:] for it in rows("archived.sqlite")]
-    wanted = [("names.tar", it) for it in NAMES.values()] + [("oem.zip", "caf\u00e9\\x1b.rle"), ("oem.zip", "\u00e9ld.rle")]
+    wanted = [("names.tar", it) for it in NAMES.values()] + [("oem.zip", "caf\u00e9\\x1b.rle"), ("oem.zip", "\\x82ld.rle")]
     wanted = [(*it, None, None, None) for it in wanted] + [("wrong.zip", None, "ReadFault", None, "a name in the archive isn't UTF-8 text")]
     wanted += [("names.zip", it, None, None, None) for it in ("caf\u00e9\\x1b.rle", "old.rle")]
+    wanted += [("names_of_unix.zip", it, None, None, None) for it in ("caf\u00e9.rle", "caf\\xe9.rle")]
+    wanted += [("names_of_dos.zip", it, None, None, None) for it in ("caf\u00e9.rle", "caf\u00e9.rle")]
     check(status == 1 and found == wanted, f"names in archives: status {status}, {errors}, {found}")
     status, _, errors = ran("--table", "odd.sqlite", *WITHOUT_DASK, "glider.rle", "--\x1b[31mx")
     check(status == 2 and "\x1b" not in errors and "\\x1b[31mx" in errors, f"an argument that isn't understood: {errors!r}")

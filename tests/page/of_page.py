@@ -441,7 +441,7 @@ def tars(page, folder):
         read, unread = listed(page)
         counting.row(f"a tar, {mode}, format {kind}", differing(
             {"read": read, "unread": unread, "answer": page.text("answer")},
-            {"read": {f"packed.tar/{it}" for it in ("a.rle", "inner/b.mc", "inner/\u00e4.rle", "inner/c.rle.gz", deep, "latin\u00e9.rle")},
+            {"read": {f"packed.tar/{it}" for it in ("a.rle", "inner/b.mc", "inner/\u00e4.rle", "inner/c.rle.gz", deep, "latin\\xe9.rle")},
              "unread": {"packed.tar/empty.rle": "line 1: NoHeader", **links},
              "answer": "5 of 9 files are the same pattern as another file: 1 group."}))
     with open(path, "rb") as it:
