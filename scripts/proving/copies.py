@@ -4,6 +4,7 @@ So no function waits for one that an edit has changed, and one check can try any
 `Copied` makes the copies. An edit can be one if it changes the body of one function of `src/`, and nothing else. A function that calls itself, one of a cycle
 of calls, and one that a trait or the C language names has no copy."""
 
+import glob
 import os
 import re
 
@@ -69,7 +70,13 @@ class Copied:
             changed = changed.replace(old, new)
         self.text = re.sub(rf"\bfn {name}\b", f"fn {self.name}", head, count=1) + "\n" + changed
         calls_itself = re.search(rf"\b{name}\b\s*(::<|\()", body + changed)
-        return not calls_itself and not os.path.exists(f"{self.folder}/{self.proof_of(name)}.antt")
+        return not calls_itself and self.has_its_proof()
+
+    def has_its_proof(self):
+        """Whether all proof files of the function are where they are looked for: no folder of its name stands elsewhere below that of the module."""
+        place, name = f"{self.folder}/{self.proof_of(self.function)}", self.function
+        others = glob.glob(f"{self.folder}/proofs/{'/'.join(module_of(self.path))}/*/{name}") if not os.path.isdir(place) else []
+        return not others and not os.path.exists(f"{place}.antt")
 
     def proof_of(self, name):
         """The folder of the proof files of a function beside the edited one."""

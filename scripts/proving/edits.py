@@ -160,14 +160,20 @@ class Check:
         verdict = self.verdicts[function]
         return bool(FAILS.fullmatch(verdict)) or (not verdict.startswith("proved") and bool(own_errors(function, self.lines)))
 
+    def errors_of(self, failing):
+        return [error for it in failing for error in own_errors(it, self.lines)]
+
+    def only_names(self, failing):
+        """Whether these functions fail only because a proof file names what isn't there."""
+        errors = self.errors_of(failing)
+        return bool(errors) and all(map(NAMES.match, errors)) and not any("search" in self.verdicts[it] for it in failing)
+
     def refuses(self, edit, failing):
         """Decides that an edit is refused, by its functions that fail by themselves."""
-        errors = [error for it in failing for error in own_errors(it, self.lines)]
+        errors = self.errors_of(failing)
         real = [it for it in errors if not NAMES.match(it)]
-        is_open = any("search" in self.verdicts[it] for it in failing)
         why = (real or errors or [f"{failing[0]}: {self.verdicts[failing[0]]}"])[0][:160]
-        says_little = errors and not real and not is_open
-        edit.decide(True, f"refused, as it must be{f' ({ONLY_NAMES})' if says_little else ''}: {why}")
+        edit.decide(True, f"refused, as it must be{f' ({ONLY_NAMES})' if self.only_names(failing) else ''}: {why}")
 
 
 class RoundOfCopies:
@@ -181,11 +187,12 @@ class RoundOfCopies:
         self.counts = self.check.has_verdict and are_there and all(verdicts[it].startswith("proved") for it in verdicts if name_of(it) not in names)
 
     def judge(self):
-        """Decides each edit whose copy the prover refuses."""
+        """Decides each edit whose copy the prover refuses, but not if a proof file of the copy only names what isn't there: a later round tries such an edit."""
         for it in self.copied:
             failing = [name for name in self.check.verdicts if name_of(name) == it.name and self.check.fails(name)]
-            if failing:
+            if failing and not self.check.only_names(failing):
                 self.check.refuses(it.edit, failing)
+            it.edit.was_copied = it.edit.refused is not None or not failing
 
 
 class Round:
@@ -251,7 +258,6 @@ class Trial:
             made.judge()
             for it in copied:
                 it.edit.had_company = any(other.edit.refused for other in copied)
-                it.edit.was_copied = True
 
     def round(self, edits):
         """Tries edits together, and returns the lists to try after that."""
