@@ -3,13 +3,13 @@
 ghost use Rattle.std.specs.Prelude.{◌≡◌, ◌⊎◌, Ok, Err, IfOk};
 ghost use Rattle.library_theorems.specs.Words.{Fault, IsClaimedTextLater, IsNotAdvanced, IsClaimedStepBy, IsUnsteppedBy, claimed_fault_of, IsClaimedStep, IsUnstepped, Table, table_of, Returns, ReturnsText, ReturnsFault, IsClaimedUnread};
 
+use claims::laws::{tables_decide, tables_read, tables_refuse};
 use library_calls::{Options, Reported, step, step_by_table, step_generations};
 use life_base::{Fault, Kind};
 use life_canon::laws::{files_are_on_plane, files_are_unique};
 use life_quad::Shared;
 use life_table::laws::grammars_agree;
 use std::alloc::Global;
-use claims::laws::{tables_decide, tables_read, tables_refuse};
 
 /// A text of the next generation of a file under its B/S rule is at the beginning of the caller's memory, or its length is
 /// reported where it doesn't fit; or the number and the line of the file's fault are reported, or the first reason why it has none.
