@@ -242,6 +242,17 @@ def packing(page, folder):
     counting.row("a zip with duplicates", differing({"rows": sorted((it[1], it[0]) for it in page.list())}, {"rows": [
         ("packed.zip/a.rle", "1"), ("packed.zip/inner/b.mc", "1"), ("packed.zip/inner/c.rle.gz", "2"), ("packed.zip/inner/d.rle.GZ", "1"),
         ("packed.zip/inner/no.gz", ""), ("packed.zip/inner/ä.rle", "2")]}))
+    unmarked = os.path.join(folder, "unmarked.zip")  # as Debian's zip writes it: names in UTF-8 and in Latin-1, without a flag
+    with zipfile.ZipFile(unmarked, "w") as it:
+        it.writestr("caf__.rle", GLIDER)
+        it.writestr("caf_.rle", b"x=1,y=1\no!\n")
+    with open(unmarked, "rb") as it:
+        data = it.read().replace(b"caf__.rle", "caf\u00e9.rle".encode()).replace(b"caf_.rle", b"caf\xe9.rle")
+    with open(unmarked, "wb") as it:
+        it.write(data)
+    page.dropped([unmarked], "document.querySelectorAll('#list tbody tr').length === 2")
+    names = sorted(it[1] for it in page.list())
+    counting.row("names in a zip without a flag", differing({"names": names}, {"names": ["unmarked.zip/caf\\xe9.rle", "unmarked.zip/caf\u00e9.rle"]}))
     packed_alone = put(folder, glider_rle_gz=gzip.compress(GLIDER), other_mc=SPELLED)
     page.dropped(packed_alone, "document.querySelectorAll('#list tbody tr').length === 2")
     counting.row("a file that gzip packed", differing({"answer": page.text("answer")}, {"answer": "Both files are one pattern."}))
