@@ -169,12 +169,12 @@ function textOfField(block, from, length) {
   return nameOfBytes(end < 0 ? field : field.subarray(0, end));
 }
 
-/** A name as text. If it isn't UTF-8 text, each byte that isn't ASCII is written as \xHH, so that it doesn't look like a name in UTF-8. */
+/** A name as text. If it isn't UTF-8 text, each byte that isn't ASCII stands as a lone half of a pair, from U+DC80 to U+DCFF, as Python has it. */
 function nameOfBytes(bytes) {
   try {
     return new TextDecoder("utf-8", { fatal: true, ignoreBOM: true }).decode(bytes);
   } catch {
-    return Array.from(bytes, it => it < 0x80 ? String.fromCharCode(it) : `\\x${it.toString(16)}`).join("");
+    return Array.from(bytes, it => String.fromCharCode(it < 0x80 ? it : 0xdc00 + it)).join("");
   }
 }
 

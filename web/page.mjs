@@ -92,9 +92,14 @@ function say(text) {
 const ESCAPES = { "\\": "\\\\", "\n": "\\n", "\r": "\\r" };
 /** Control characters, and those that turn the direction of text. */
 const HIDDEN = /[\0-\x1f\x7f-\x9f\u061c\u200e\u200f\u2028-\u202e\u2066-\u2069]/g;
+/** The bytes of a name that isn't UTF-8 text, as archive.mjs has them. */
+const BYTES = /[\udc80-\udcff]/gu;
 
-/** A text with such characters as the bytes that they have in UTF-8, each as `\xHH`. */
-const shownText = text => text.replace(HIDDEN, it => ESCAPES[it] ?? Array.from(new TextEncoder().encode(it), hexadecimal).join(""));
+/** A text in which each such byte is written as `\xHH`. */
+const readableText = text => text.replace(BYTES, it => hexadecimal(it.charCodeAt(0) & 0xff));
+
+/** A text with hidden characters as the bytes that they have in UTF-8, each as `\xHH`. */
+const shownText = text => readableText(text).replace(HIDDEN, it => ESCAPES[it] ?? Array.from(new TextEncoder().encode(it), hexadecimal).join(""));
 
 const hexadecimal = byte => `\\x${byte.toString(16).padStart(2, "0")}`;
 
@@ -517,7 +522,7 @@ function tableOf() {
     const place = box ? [box.left, box.top, box.width, box.height] : ["", "", "", ""];
     const key = file.keys?.[form] ?? "";
     const notes = [file.warning ? `${file.warning}.` : "", file.failed === undefined && key === "" ? whyNoKey(file, form) : ""].filter(it => it !== "").join(" ");
-    return [numbers.get(file) ?? "", quoted(file.name), quoted(rule ?? ""), generation ?? "", population ?? "", ...place, form, key,
+    return [numbers.get(file) ?? "", quoted(readableText(file.name)), quoted(rule ?? ""), generation ?? "", population ?? "", ...place, form, key,
       quoted(file.failed?.message ?? ""), quoted(notes)].join(",");
   });
   return ["group,file,rule,generation,population,left,top,width,height,form,key,refused,note", ...lines].join("\r\n") + "\r\n";

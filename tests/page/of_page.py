@@ -367,7 +367,7 @@ def odd_files(browser, folder, address, where):
     browser.give("files", [packed])
     page.until("!document.getElementById('compared').hidden")
     page.rests()
-    wanted = {f"odd.tar.gz/odd/{it}" for it in [*ODD, "\u00ff4.rle", "sub\u00e9/in.rle"]}
+    wanted = {f"odd.tar.gz/odd/{it}" for it in [*ODD, "\\xff4.rle", "sub\\xe9/in.rle"]}
     counting.row(f"a tar of a folder of odd names is opened {where}", differing({"listed": listed(page)}, {"listed": (wanted, {})}))
     page.cleared()
     browser.run(DROPPING, GLIDER.decode())
