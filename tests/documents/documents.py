@@ -359,7 +359,7 @@ def of_sentences():
         for kind, said in rows:
             limits = set(LIMIT.findall(of_kinds[kind]))
             yield f"{path}: the limits of {kind}: {said}", not limits or set(LIMIT.findall(said)) <= limits
-    part = re.search(r'(?m)^    grep -rniF "([^"]+)"', text_of(ADDING))
+    part = re.search(r'(?m)^    grep -rniIF "([^"]+)"', text_of(ADDING))
     yield f"{ADDING}: a part of a sentence to look for: {part and part[1]}", bool(part) and any(part[1] in it for it in of_kinds.values())
 
 
@@ -403,7 +403,7 @@ ALTERED = [
     (of_sentences, HELP, '\\"reason\\":\\"A count is 0.\\"', '\\"reason\\":\\"A count is zero.\\"'),
     (of_sentences, HELP, "a line has more than 2^20 bytes", "a line has more than 2^21 bytes"),
     (of_sentences, KIND_SENTENCES, '"A count is 0."', '"A count may not be 0."'),
-    (of_sentences, ADDING, 'grep -rniF "refer to an earlier', 'grep -rniF "be that of an earlier'),
+    (of_sentences, ADDING, 'grep -rniIF "refer to an earlier', 'grep -rniIF "be that of an earlier'),
     (of_types, "docs/CLAIMS.md", "A `StoreOptions` has", "A `StoreChoices` has"),
     (of_types, "docs/PROOFS.md", "`SharedSquares::seed`", "`SharedStores::seed`"),
     (of_types, "docs/ARCHITECTURE.md", "A `Sixteen` is", "A `FourRows` is"),
