@@ -15,7 +15,7 @@ fn is_word_end(text: &[u8]) -> bool
     }
 }
 
-/// A number is read at once if it has no more digits than this. They are taken in parts of `PART` bytes.
+/// A number is read at once if it has fewer digits than this. They are taken in parts of `PART` bytes.
 const FEW: usize = 12;
 
 /// After one look at the length so many bytes are taken.
@@ -29,45 +29,28 @@ fn digit_of(byte: u8) -> u64
     u64::from(byte).wrapping_sub(48)
 }
 
-/// The number from a place on, and the place after its digits, where those before another place write `begun`. It is taken byte by byte.
+/// The number from a place on, and the place after the space that ends it, where its digits before another place write `begun`. It is
+/// taken byte by byte.
 #[inline(always)]
-fn digits_rest(text: &[u8], from: usize, at: usize, begun: u64) -> (u64, usize)
+fn spaced_rest(text: &[u8], from: usize, at: usize, begun: u64) -> Option<(u64, usize)>
     requires begun { WritesBetween text.now from at begun }
     requires few { length text.now - from < FEW }
-    ensures written { WritesBetween text.now from result.1 result.0 }
-    ensures few { result.1 ≤ from + FEW }
+    ensures { IfSome result (IsSpacedNumber text.now from) }
 {
     let mut number = begun;
     for i in at..text.len() {
-        let digit = digit_of(text[i]);
+        let byte = text[i];
+        let digit = digit_of(byte);
         if digit > 9 {
-            return (number, i);
+            return if i > from && byte == b' ' {
+                Some((number, i + 1))
+            } else {
+                None
+            };
         }
         number = number * 10 + digit;
     }
-    (number, text.len())
-}
-
-/// The number that the digits from a place on write, and the place after them. No more than `FEW` digits are taken.
-#[inline(always)]
-fn few_digits(text: &[u8], from: usize) -> (u64, usize)
-    requires { from ≤ length text.now }
-    ensures written { WritesBetween text.now from result.1 result.0 }
-    ensures few { result.1 ≤ from + FEW }
-{
-    let mut number = 0u64;
-    for count in 0..FEW {
-        let at = from + count;
-        if count % PART == 0 && text.len() - from < count + PART {
-            return digits_rest(text, from, at, number);
-        }
-        let digit = digit_of(text[at]);
-        if digit > 9 {
-            return (number, at);
-        }
-        number = number * 10 + digit;
-    }
-    (number, from + FEW)
+    None
 }
 
 /// The number from a place on, and the place after the space that ends it, if it has few digits.
@@ -76,11 +59,45 @@ fn spaced_number(text: &[u8], from: usize) -> Option<(u64, usize)>
     requires { from ≤ length text.now }
     ensures { IfSome result (IsSpacedNumber text.now from) }
 {
-    let (number, end) = few_digits(text, from);
-    if end > from && end < text.len() && text[end] == b' ' {
-        Some((number, end + 1))
-    } else {
+    let mut number = 0u64;
+    for count in 0..FEW {
+        let at = from + count;
+        if count % PART == 0 && text.len() - from < count + PART {
+            return spaced_rest(text, from, at, number);
+        }
+        let byte = text[at];
+        let digit = digit_of(byte);
+        if digit > 9 {
+            return if count > 0 && byte == b' ' {
+                Some((number, at + 1))
+            } else {
+                None
+            };
+        }
+        number = number * 10 + digit;
+    }
+    None
+}
+
+/// The number from a place on, if it ends the text, where its digits before another place write `begun`. It is taken byte by byte.
+#[inline(always)]
+fn last_rest(text: &[u8], from: usize, at: usize, begun: u64) -> Option<u64>
+    requires begun { WritesBetween text.now from at begun }
+    requires few { length text.now - from < FEW }
+    ensures { IfSome result (IsLastNumber text.now from) }
+{
+    let mut number = begun;
+    for i in at..text.len() {
+        let digit = digit_of(text[i]);
+        if digit > 9 {
+            return None;
+        }
+        number = number * 10 + digit;
+    }
+    if from == text.len() {
         None
+    } else {
+        Some(number)
     }
 }
 
@@ -90,12 +107,19 @@ fn last_number(text: &[u8], from: usize) -> Option<u64>
     requires { from ≤ length text.now }
     ensures { IfSome result (IsLastNumber text.now from) }
 {
-    let (number, end) = few_digits(text, from);
-    if end > from && end == text.len() {
-        Some(number)
-    } else {
-        None
+    let mut number = 0u64;
+    for count in 0..FEW {
+        let at = from + count;
+        if count % PART == 0 && text.len() - from < count + PART {
+            return last_rest(text, from, at, number);
+        }
+        let digit = digit_of(text[at]);
+        if digit > 9 {
+            return None;
+        }
+        number = number * 10 + digit;
     }
+    None
 }
 
 /// The first number of a text and what follows it, if the first word is a digit text.

@@ -1,6 +1,6 @@
 use Rattle.std.proofs.Common.{arith}
-use Rattle.life_mc.proofs.FewDigits.{digit_more, few_written}
-use Rattle.life_mc.proofs.numbers.digits_rest.Goals as goal
+use Rattle.life_mc.proofs.FewDigits.{digit_more, few_written, spaced_is}
+use Rattle.life_mc.proofs.numbers.spaced_rest.Goals as goal
 
 pub overflow_mul-number : goal.overflow_mul-number
 overflow_mul-number c = omega (
@@ -16,6 +16,10 @@ overflow_add-number c = omega (
       (omega (arith, c.requires.few, c.loop-i-test.true)),
   c.if-digit-gt9.false,
 )
+
+pub returns-then-byte-eq32 : goal.returns-then-byte-eq32
+returns-then-byte-eq32 c = spaced_is c.args.text.now c.args.from c.loop-i.i c.loop-i.number c.loop-i.invariant
+    (omega (arith, c.requires.few, c.loop-i-test.true)) c.if-i-from.true c.loop-i-test.true c.if-byte-eq32.true
 
 pub loop-i-preserved : goal.loop-i-preserved
 loop-i-preserved c =

@@ -1,6 +1,6 @@
 use Rattle.std.proofs.Common.{◌+◌, ◌<◌, ◌≤◌, ◌%◌, length}
 use Rattle.life_mc.specs.Standing.{WritesBetween}
-use Rattle.life_mc.proofs.numbers.few_digits.Given as goal
+use Rattle.life_mc.proofs.numbers.spaced_number.Given as goal
 
 abbrev pub invariant-loop-count : goal.invariant-loop-count
 invariant-loop-count l = record {

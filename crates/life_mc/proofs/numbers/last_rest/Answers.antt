@@ -1,0 +1,29 @@
+use Rattle.std.proofs.Common.{◌≡◌, length, arith}
+use Rattle.life_mc.proofs.FewDigits.{digit_more, few_written, last_is}
+use Rattle.life_mc.proofs.numbers.last_rest.Goals as goal
+
+pub overflow_mul-number : goal.overflow_mul-number
+overflow_mul-number c = omega (
+  arith,
+  few_written c.args.text.now c.args.from c.loop-i.i c.loop-i.number c.loop-i.invariant
+      (omega (arith, c.requires.few, c.loop-i-test.true)),
+)
+
+pub overflow_add-number : goal.overflow_add-number
+overflow_add-number c = omega (
+  arith,
+  few_written c.args.text.now c.args.from c.loop-i.i c.loop-i.number c.loop-i.invariant
+      (omega (arith, c.requires.few, c.loop-i-test.true)),
+  c.if-digit-gt9.false,
+)
+
+pub loop-i-preserved : goal.loop-i-preserved
+loop-i-preserved c =
+    let digit = c.digit_of-digit.ensures (omega (arith, c.if-digit-gt9.false)) in
+    digit_more c.args.text.now c.args.from c.loop-i.i c.loop-i.number c.digit_of-digit.result c.loop-i.invariant c.loop-i-test.true digit.0 digit.1
+
+pub returns-else-from-text : goal.returns-else-from-text
+returns-else-from-text c =
+    let whole : c.loop-i.i ≡ length c.args.text.now = omega (arith, c.loop-i.invariant.within, c.loop-i-test.false) in
+    last_is c.args.text.now c.args.from c.loop-i.i c.loop-i.number c.loop-i.invariant (omega (arith, whole, c.requires.few))
+    (omega (arith, whole, c.loop-i.invariant.start, c.if-from-text.false)) whole
