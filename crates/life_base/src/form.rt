@@ -9,4 +9,7 @@ pub enum Form {
     Moved,
     /// Turned or reflected, and moved, so that neither its direction nor its place counts.
     Turned,
+    /// In one of its phases, turned or reflected, and moved, so that neither its phase, its direction nor its place counts, and no generation. Its period is
+    /// sought up to so many generations.
+    Phases(u64),
 }
