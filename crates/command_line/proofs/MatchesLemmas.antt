@@ -19,7 +19,7 @@ use Rattle.command_line.specs.declared.plans.Request.TheVariants.{Work, Keys, St
 use Rattle.command_line.specs.declared.plans.Usage.{Usage}
 use Rattle.command_line.specs.declared.plans.Usage.TheVariants.{Words, TwoInputs, Memory}
 
-has_none : {X : Type 0} (o : Option X) → o ≡ None → ¬ IsSome o
+pub has_none : {X : Type 0} (o : Option X) → o ≡ None → ¬ IsSome o
 has_none None none some = absurd cc
 has_none (Some x) none some = absurd cc
 
@@ -84,8 +84,8 @@ in_matches faults found matches (Err u) none same h =
 -- another form than that of a pattern as it lies is one that was asked for
 form_found : (rows : List Row) (form : Form) → HoldsForm Placed rows form → form ≢ Placed
     → (f : Form) × (f ≢ Placed) × (first_of (codes "form") rows ≡ Some (form_word f))
-form_found rows form (inl (none, placed)) other = absurd (other placed)
-form_found rows form (inr is) other = (form, other, is)
+form_found rows form (inl (none, placed, no_within)) other = absurd (other placed)
+form_found rows form (inr (is, within)) other = (form, other, is)
 
 -- a number of generations is one that was found
 number_found : (rows : List Row) (n : ℕ) → HoldsGenerations rows (Some n) → IsFoundAmong (codes "generations") rows

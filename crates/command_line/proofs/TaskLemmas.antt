@@ -8,8 +8,10 @@ use Rattle.clap.specs.Words.{Row, Text, first_of, found_of, rows_of, subcommand_
 use Rattle.clap.specs.declared.parser.matches.ArgMatches.{ArgMatches}
 use Rattle.clap.specs.declared.parser.matches.ArgMatches.TheViews.{out-ArgMatches, out-SubCommand}
 use Rattle.std.specs.Box.{box_value}
-use Rattle.command_line.specs.Plans.{AreOfTask, AreWhole, Explains, HasNoForm, HasNoFormat, HasNoNumber, HasNoPeriod, HasOneFile, HasRequired, HoldsFiles, HoldsFlag, HoldsForm, HoldsGenerations, HoldsMatches, HoldsPeriod, IsFoundAmong, IsTaskPlanOf, LacksFiles, NamesInputTwice, NamesNoFiles, NamesNoForm, NamesNoFormat, NamesNoNumber, NamesNoPeriod, NamesNoValue, RefusesKeys, RefusesStream, RefusesWord, TakesAnyFiles, command_of, target_word}
+use Rattle.command_line.proofs.MatchesLemmas.{has_none}
+use Rattle.command_line.specs.Plans.{AreOfTask, AreWhole, Explains, HasNoForm, HasNoFormat, HasNoMost, HasNoNumber, HasNoPeriod, HasOneFile, HasRequired, HasStrayWithin, HoldsFiles, HoldsFlag, HoldsForm, HoldsGenerations, HoldsMatches, HoldsMost, HoldsPeriod, HoldsWithin, IsFoundAmong, IsTaskPlanOf, LacksFiles, NamesInputTwice, NamesNoFiles, NamesNoForm, NamesNoFormat, NamesNoNumber, NamesNoPeriod, NamesNoValue, RefusesKeys, RefusesStream, RefusesWord, TakesAnyFiles, command_of, form_word, target_word}
 use Rattle.life_base.specs.declared.form.Form.{Form}
+use Rattle.life_base.specs.declared.form.Form.TheVariants.{Placed, Moved, Turned, Phases}
 use Rattle.command_line.specs.declared.plans.Target.{Target}
 use Rattle.command_line.specs.declared.plans.Task.{Task}
 use Rattle.command_line.specs.declared.plans.Task.TheVariants.{Canon, Convert, Same, Show, ShowPeriod, Step, StepTable, Later, LaterTable}
@@ -95,10 +97,35 @@ over_two command first second rows task r is holds =
     IfOk-weaker r _ (IsTaskPlanOf (Some (command, rows)))
     (λ p h. (is ∙ ap command_of (sym h.0), subst (λ (t : Task). HoldsMatches t rows p) (sym h.0) (holds p h.1), h.2))
 
--- a form that is held is named by a word that isn't that of no form
+-- a greatest period that is held is named by a word that isn't 0, and isn't no number
+most_is_held : (id : Text) (rows : List Row) (most : Option ℕ) → HoldsMost id rows most → ¬ HasNoMost id rows
+most_is_held id rows None none (word, found, no_most) = absurd cc
+most_is_held id rows (Some n) (named, there, is, some) (word, found, no_most) =
+    let same : named ≡ word = some_of named word (sym there ∙ found) in
+    let zero : n ≡ 0 = no_most n (ap u64_of (sym same) ∙ is) in
+    omega (arith, some, zero)
+
+-- where none was asked for, --within is neither at fault nor for another form
+unasked : (rows : List Row) → first_of (codes "within") rows ≡ None → ¬ (HasNoMost (codes "within") rows ⊎ HasStrayWithin rows)
+unasked rows none (inl no_most) = most_is_held (codes "within") rows None none no_most
+unasked rows none (inr stray) = has_none (first_of (codes "within") rows) none stray.0
+
+-- and where it is for `phases`, it isn't at fault
+asked : (rows : List Row) (form : Form) → first_of (codes "form") rows ≡ Some (form_word form) → HoldsWithin rows form
+    → ¬ (HasNoMost (codes "within") rows ⊎ HasStrayWithin rows)
+asked rows Placed named none h = unasked rows none h
+asked rows Moved named none h = unasked rows none h
+asked rows Turned named none h = unasked rows none h
+asked rows (Phases most) named (inl held) (inl no_most) = most_is_held (codes "within") rows (Some most) held no_most
+asked rows (Phases most) named (inl held) (inr stray) = stray.1 named
+asked rows (Phases most) named (inr (none, is)) h = unasked rows none h
+
+-- a form that is held is named by a word that isn't that of no form, with its greatest period
 pub form_is_held : (default : Form) (rows : List Row) (form : Form) → HoldsForm default rows form → ¬ HasNoForm rows
-form_is_held default rows form (inl (none, is)) (word, found, no_form) = absurd cc
-form_is_held default rows form (inr named) (word, found, no_form) = no_form form cc
+form_is_held default rows form (inl (none, is, no_within)) (inl (word, found, no_form)) = absurd cc
+form_is_held default rows form (inl (none, is, no_within)) (inr h) = unasked rows no_within h
+form_is_held default rows form (inr (named, within)) (inl (word, found, no_form)) = no_form form cc
+form_is_held default rows form (inr (named, within)) (inr h) = asked rows form named within h
 
 -- and a format by a word that isn't that of no format
 pub format_is_held : (rows : List Row) (target : Target) → first_of (codes "to") rows ≡ Some (target_word target) → ¬ HasNoFormat rows
@@ -111,13 +138,9 @@ number_is_held rows (Some n) (named, there, is) (word, found, no_number) =
     let same : named ≡ word = some_of named word (sym there ∙ found) in
     no_number n (ap u64_of (sym same) ∙ is)
 
--- and a greatest period by a word that isn't 0, and isn't no number
+-- and so is the greatest period of `show`
 pub period_is_held : (rows : List Row) (most : Option ℕ) → HoldsPeriod rows most → ¬ HasNoPeriod rows
-period_is_held rows None none (word, found, no_period) = absurd cc
-period_is_held rows (Some n) (named, there, is, some) (word, found, no_period) =
-    let same : named ≡ word = some_of named word (sym there ∙ found) in
-    let zero : n ≡ 0 = no_period n (ap u64_of (sym same) ∙ is) in
-    omega (arith, some, zero)
+period_is_held rows most held = most_is_held (codes "period") rows most held
 
 -- no other command than `show` has a greatest period
 takes_no_period : (x command : Text) (rows : List Row) → bytes_eq x x ≡ true → bytes_eq x (codes "show") ≡ false → command ≡ x

@@ -30,13 +30,17 @@ short_flag id letter = record (flag id) { short = Some letter }
 abbrev pub with_explain : App → App
 with_explain line = with_rule line (flag (codes "explain"))
 
+-- the same command, with an optional --form FORM and --within MOST
+abbrev pub with_form : App → App
+with_form line = with_rule (with_rule line (option (codes "form"))) (option (codes "within"))
+
 -- a command over one file
 abbrev pub one_file_line : Text → App
 one_file_line name = with_rule (new_app name) (required_file (codes "FILE"))
 
--- canon FILE, with an optional --form FORM and --explain
+-- canon FILE, with an optional --form FORM, --within MOST and --explain
 abbrev pub canon_line : App
-canon_line = with_explain (with_rule (one_file_line (codes "canon")) (option (codes "form")))
+canon_line = with_explain (with_form (one_file_line (codes "canon")))
 
 -- convert FILE --to FORMAT, with an optional --explain
 abbrev pub convert_line : App
@@ -46,9 +50,9 @@ convert_line = with_explain (with_rule (one_file_line (codes "convert")) (requir
 abbrev pub two_files_line : Text → App
 two_files_line name = with_rule (with_rule (new_app name) (required_file (codes "A"))) (required_file (codes "B"))
 
--- same A B, with an optional --form FORM and --explain
+-- same A B, with an optional --form FORM, --within MOST and --explain
 abbrev pub same_line : App
-same_line = with_explain (with_rule (two_files_line (codes "same")) (option (codes "form")))
+same_line = with_explain (with_form (two_files_line (codes "same")))
 
 -- show FILE, with an optional --period MOST and --explain
 abbrev pub show_line : App
@@ -62,11 +66,11 @@ step_line = with_explain (with_rule (with_rule (one_file_line (codes "step")) (o
 abbrev pub files_rule : Rule
 files_rule = record (new_rule (codes "FILE")) { action = Some Append }
 
--- a command over any number of files, with an optional --form FORM, --ignore-generation, --zero, --from LIST and --recursive, which is -r too: `r` is
--- the character 114
+-- a command over any number of files, with an optional --form FORM, --within MOST, --ignore-generation, --zero, --from LIST and --recursive, which is -r
+-- too: `r` is the character 114
 abbrev pub files_line : Text → App
 files_line name =
-    let in_a_form = with_rule (with_rule (new_app name) files_rule) (option (codes "form")) in
+    let in_a_form = with_form (with_rule (new_app name) files_rule) in
     let hashed = with_rule in_a_form (flag (codes "ignore-generation")) in
     let with_list = with_rule (with_rule hashed (flag (codes "zero"))) (option (codes "from")) in
     with_rule with_list (short_flag (codes "recursive") 114)

@@ -6,7 +6,7 @@ use Rattle.clap.specs.Words.{Row, Text, Kinds, IsAmong, all_of, first_of, kind_o
 use Rattle.clap.specs.declared.error.kind.ErrorKind.{ErrorKind}
 use Rattle.clap.specs.declared.error.kind.ErrorKind.TheVariants.{ArgumentConflict, InvalidSubcommand, InvalidValue, MissingRequiredArgument, OutOfMemory}
 use Rattle.life_base.specs.declared.form.Form.{Form}
-use Rattle.life_base.specs.declared.form.Form.TheVariants.{Placed, Moved, Turned}
+use Rattle.life_base.specs.declared.form.Form.TheVariants.{Placed, Moved, Turned, Phases}
 use Rattle.command_line.specs.declared.plans.Job.{Job}
 use Rattle.command_line.specs.declared.plans.Job.TheVariants as jobs
 use Rattle.command_line.specs.declared.plans.Task.{Task}
@@ -33,6 +33,11 @@ abbrev pub form_word : Form → Text
 form_word Placed = codes "placed"
 form_word Moved = codes "moved"
 form_word Turned = codes "turned"
+form_word (Phases most) = codes "phases"
+
+-- the greatest period that is sought for `phases` where none was asked for
+abbrev pub default_within : ℕ
+default_within = 128
 
 -- the value whose word this is, or none where it is that of no value
 abbrev pub IsValueOf : {X : Type 0} → (X → Text) → Text → Option X → Type 0
@@ -88,20 +93,35 @@ abbrev pub HoldsFiles : Text → Text → List Row → TaskPlan → Type 0
 HoldsFiles first second rows p = (first_of first rows ≡ Some (string_bytes p.first))
     × (first_of second rows ≡ option_map string_bytes p.second) × IsSome p.second
 
--- the form is the one that was asked for, or where none was, the default one
+-- the greatest period is the number that was asked for under this name, which isn't 0, or there is none where none was
+abbrev pub HoldsMost : Text → List Row → Option ℕ → Type 0
+HoldsMost id rows most = MatchOption most (first_of id rows ≡ None)
+    (λ n. (word : Text) × (first_of id rows ≡ Some word) × (u64_of word ≡ Ok n) × (1 ≤ n))
+
+-- the greatest period of `phases` is the one that was asked for, or where none was, the default one; for every other form, none was asked for
+abbrev pub HoldsWithin : List Row → Form → Type 0
+HoldsWithin rows (Phases most) = HoldsMost (codes "within") rows (Some most) ⊎ ((first_of (codes "within") rows ≡ None) × (most ≡ default_within))
+HoldsWithin rows _ = first_of (codes "within") rows ≡ None
+
+-- the form is not `phases`, or its greatest period is the default one
+abbrev pub HasDefaultWithin : Form → Type 0
+HasDefaultWithin (Phases most) = most ≡ default_within
+HasDefaultWithin _ = Unit {0}
+
+-- the form is the one that was asked for, with its greatest period; or where none was, the default one, and no greatest period was asked for
 abbrev pub HoldsForm : Form → List Row → Form → Type 0
 HoldsForm default rows form =
-    ((first_of (codes "form") rows ≡ None) × (form ≡ default)) ⊎ (first_of (codes "form") rows ≡ Some (form_word form))
+    ((first_of (codes "form") rows ≡ None) × (form ≡ default) × (first_of (codes "within") rows ≡ None))
+    ⊎ ((first_of (codes "form") rows ≡ Some (form_word form)) × HoldsWithin rows form)
 
 -- the number of generations is the one that was asked for, or there is none where none was
 abbrev pub HoldsGenerations : List Row → Option ℕ → Type 0
 HoldsGenerations rows generations = MatchOption generations (first_of (codes "generations") rows ≡ None)
     (λ n. (word : Text) × (first_of (codes "generations") rows ≡ Some word) × (u64_of word ≡ Ok n))
 
--- the greatest period is the number that was asked for, which isn't 0, or there is none where none was
+-- the greatest period is the one that was asked for, or there is none where none was
 abbrev pub HoldsPeriod : List Row → Option ℕ → Type 0
-HoldsPeriod rows most = MatchOption most (first_of (codes "period") rows ≡ None)
-    (λ n. (word : Text) × (first_of (codes "period") rows ≡ Some word) × (u64_of word ≡ Ok n) × (1 ≤ n))
+HoldsPeriod rows most = HoldsMost (codes "period") rows most
 
 -- the plan's files and options are those that were found for the task's command
 abbrev pub HoldsMatches : Task → List Row → TaskPlan → Type 0
@@ -227,17 +247,29 @@ AreWhole matches = AreOfTask matches ⊎ AreOfAnyFiles matches
 abbrev pub HasNoFormat : List Row → Type 0
 HasNoFormat rows = (word : Text) × (first_of (codes "to") rows ≡ Some word) × ((t : Target) → word ≢ target_word t)
 
+-- the word under this name isn't a number from 1 to below 2^64: it is no number, or 0
+abbrev pub HasNoMost : Text → List Row → Type 0
+HasNoMost id rows = (word : Text) × (first_of id rows ≡ Some word) × ((n : ℕ) → u64_of word ≡ Ok n → n ≡ 0)
+
 -- the word after --form is that of no form
+abbrev pub HasUnknownForm : List Row → Type 0
+HasUnknownForm rows = (word : Text) × (first_of (codes "form") rows ≡ Some word) × ((f : Form) → word ≢ form_word f)
+
+-- --within was found, and --form wasn't, or another word than `phases` was found after it
+abbrev pub HasStrayWithin : List Row → Type 0
+HasStrayWithin rows = IsFoundAmong (codes "within") rows × (first_of (codes "form") rows ≢ Some (codes "phases"))
+
+-- there is no form: the word after --form is that of no form, the one after --within is no greatest period, or --within is for another form
 abbrev pub HasNoForm : List Row → Type 0
-HasNoForm rows = (word : Text) × (first_of (codes "form") rows ≡ Some word) × ((f : Form) → word ≢ form_word f)
+HasNoForm rows = HasUnknownForm rows ⊎ (HasNoMost (codes "within") rows ⊎ HasStrayWithin rows)
 
 -- the word after --generations isn't a number below 2^64
 abbrev pub HasNoNumber : List Row → Type 0
 HasNoNumber rows = (word : Text) × (first_of (codes "generations") rows ≡ Some word) × ((n : ℕ) → u64_of word ≢ Ok n)
 
--- the word after --period isn't a number from 1 to below 2^64: it is no number, or 0
+-- the word after --period is no greatest period
 abbrev pub HasNoPeriod : List Row → Type 0
-HasNoPeriod rows = (word : Text) × (first_of (codes "period") rows ≡ Some word) × ((n : ℕ) → u64_of word ≡ Ok n → n ≡ 0)
+HasNoPeriod rows = HasNoMost (codes "period") rows
 
 -- the refusal of words of which this holds, as this kind; or where `clap` was out of memory, as an OutOfMemory
 abbrev pub RefusesAs : ErrorKind → Type 0 → Usage → Type 0
@@ -249,11 +281,11 @@ RefusesAs kind is_such Memory = ⊥
 abbrev pub RefusesWord : Type 0 → Usage → Type 0
 RefusesWord is_such usage = RefusesAs InvalidValue is_such usage
 
--- why what was found for a command over any number of files has no plan: neither a file nor a list was found, or the word after --form is that of no form
+-- why what was found for a command over any number of files has no plan: neither a file nor a list was found, or there is no form
 abbrev pub RefusesKeys : List Row → Usage → Type 0
 RefusesKeys rows usage = RefusesAs MissingRequiredArgument (LacksFiles rows) usage ⊎ RefusesWord (HasNoForm rows) usage
 
--- why what was found for `keys` over a stream has no plan: files were found too, or the word after --form is that of no form
+-- why what was found for `keys` over a stream has no plan: files were found too, or there is no form
 abbrev pub RefusesStream : List Row → Usage → Type 0
 RefusesStream rows usage = RefusesAs ArgumentConflict (HasFiles rows) usage ⊎ RefusesWord (HasNoForm rows) usage
 
@@ -262,7 +294,7 @@ abbrev pub NamesNoFormat : Option (Text × List Row) → Type 0
 NamesNoFormat None = ⊥
 NamesNoFormat (Some matches) = (matches.0 ≡ codes "convert") × HasNoFormat matches.1
 
--- the matches are those of `canon`, `same`, `keys` or `duplicates` with a word that is that of no form
+-- the matches are those of `canon`, `same`, `keys` or `duplicates` without a form
 abbrev pub NamesNoForm : Option (Text × List Row) → Type 0
 NamesNoForm None = ⊥
 NamesNoForm (Some matches) = ((matches.0 ≡ codes "canon") ⊎ ((matches.0 ≡ codes "same") ⊎ TakesAnyFiles matches.0)) × HasNoForm matches.1
@@ -277,7 +309,7 @@ abbrev pub NamesNoPeriod : Option (Text × List Row) → Type 0
 NamesNoPeriod None = ⊥
 NamesNoPeriod (Some matches) = (matches.0 ≡ codes "show") × HasNoPeriod matches.1
 
--- the word after an option is none of its values
+-- the word after an option is none of its values, or --within is for another form than `phases`
 abbrev pub NamesNoValue : Option (Text × List Row) → Type 0
 NamesNoValue matches = NamesNoFormat matches ⊎ (NamesNoForm matches ⊎ (NamesNoNumber matches ⊎ NamesNoPeriod matches))
 
@@ -324,7 +356,7 @@ NamesInputTwice (Some matches) = 1 < input_count matches.1
 
 -- Why words are refused in which `clap` finds these faults and these matches: since `clap` is out of memory; by the kind of a fault; in words
 -- without a fault, since the word after --to is that of no format, the one after --form that of no form, the one after --generations no number or the
--- one after --period no number or 0, since `keys` or `duplicates` is given neither a file nor a list, and no stream either, since `keys` is given files
+-- one after --within or --period no number or 0, since --within is for another form than `phases`, since `keys` or `duplicates` is given neither a file nor a list, and no stream either, since `keys` is given files
 -- besides a stream, or since standard input is named twice, which is reported before these. Memory comes only where none of that is so, and the words ask for
 -- a task: all that is left to do is to copy the names of its files.
 abbrev pub Explains : Kinds → Option (Text × List Row) → Usage → Type 0

@@ -2,7 +2,7 @@
 
 ghost use Rattle.std.specs.Prelude.{IfOk, codes, map};
 ghost use Rattle.clap.specs.Words.{fault_of};
-ghost use Rattle.command_line.specs.Words.{App, Rule, HasMatchesOf, FailsBy, new_app, with_rule, with_subcommand, required_file, option, required_option, with_explain, one_file_line, two_files_line, canon_line, convert_line, same_line, show_line, step_line, files_rule, files_line, keys_line, flag, short_flag, named_program, program, HasRule, ReadsAs};
+ghost use Rattle.command_line.specs.Words.{App, Rule, HasMatchesOf, FailsBy, new_app, with_rule, with_subcommand, required_file, option, required_option, with_explain, with_form, one_file_line, two_files_line, canon_line, convert_line, same_line, show_line, step_line, files_rule, files_line, keys_line, flag, short_flag, named_program, program, HasRule, ReadsAs};
 
 use super::help::{CANON, CONVERT, DUPLICATES, Help, KEYS, PROGRAM, SAME, SHOW, STEP};
 use clap::{Arg, ArgAction, ArgMatches, Command, Error};
@@ -33,17 +33,10 @@ fn needed_option<'a>(alloc: Global, id: &'a str, value: &'a str, help: &'a str) 
 }
 
 /// The help of the option of a command that takes a pattern in a form: as it lies, where none is given.
-const PLACED_UNLESS_GIVEN: &str = "The form to take: placed (the default), moved or turned";
+const PLACED_UNLESS_GIVEN: &str = "The form to take: placed (the default), moved, turned or phases";
 
 /// The same of a command that takes the moved form, where none is given.
-const MOVED_UNLESS_GIVEN: &str = "The form to take: placed, moved (the default) or turned";
-
-/// The option of a command that takes a pattern in a form.
-fn form<'a>(alloc: Global, help: &'a str) -> Arg<'a>
-    ensures { HasRule (option (codes "form")) result }
-{
-    option(alloc, "form", "FORM", help)
-}
+const MOVED_UNLESS_GIVEN: &str = "The form to take: placed, moved (the default), turned or phases";
 
 /// Files by their places, any number of them.
 fn files<'a>(alloc: Global, help: &'a str) -> Arg<'a>
@@ -111,6 +104,20 @@ fn with_explain<'a>(
     with_argument(command, explain(alloc))
 }
 
+/// A command that takes a pattern in a form too, with the greatest period of `phases`. `help` is that of the form.
+fn with_form<'a>(
+    alloc: Global,
+    command: Result<Command<'a>, AllocError>,
+    help: &'a str,
+) -> Result<Command<'a>, AllocError>
+    ensures { (line : App) → IfOk command.entry (ReadsAs line)
+        → IfOk result (ReadsAs (with_form line)) }
+{
+    let command = with_argument(command, option(alloc, "form", "FORM", help));
+    let help = "With phases: the greatest period to seek, 128 unless given";
+    with_argument(command, option(alloc, "within", "MOST", help))
+}
+
 /// A command over one file.
 fn one_file<'a>(alloc: Global, name: &'a str, help: Help) -> Result<Command<'a>, AllocError>
     ensures { IfOk result (ReadsAs (one_file_line name.entry.now)) }
@@ -123,7 +130,7 @@ fn canon<'a>(alloc: Global) -> Result<Command<'a>, AllocError>
     ensures { IfOk result (ReadsAs canon_line) }
 {
     let command = one_file(alloc, "canon", CANON);
-    let command = with_argument(command, form(alloc, PLACED_UNLESS_GIVEN));
+    let command = with_form(alloc, command, PLACED_UNLESS_GIVEN);
     with_explain(alloc, command)
 }
 
@@ -150,7 +157,7 @@ fn same<'a>(alloc: Global) -> Result<Command<'a>, AllocError>
     ensures { IfOk result (ReadsAs same_line) }
 {
     let command = two_files(alloc, "same", SAME);
-    let command = with_argument(command, form(alloc, PLACED_UNLESS_GIVEN));
+    let command = with_form(alloc, command, PLACED_UNLESS_GIVEN);
     with_explain(alloc, command)
 }
 
@@ -174,7 +181,7 @@ fn any_files<'a>(
 {
     let files = files(alloc, "Pattern files; one of them may be -, standard input");
     let command = with_argument(Ok(new_command(alloc, name, help)), files);
-    let command = with_argument(command, form(alloc, form_help));
+    let command = with_form(alloc, command, form_help);
     let help = "Take each pattern as if its generation were 0";
     let command = with_argument(command, flag(alloc, "ignore-generation", help));
     let help = "End names in NUL, and write them as they are";

@@ -42,6 +42,7 @@ format and however they are written.",
   golly_canon step glider.rle --generations 1000000
   golly_canon keys -r patterns > keys
   golly_canon duplicates -r patterns
+  golly_canon duplicates -r patterns --form phases
   golly_canon COMMAND --help
 
 Exit status:
@@ -136,23 +137,34 @@ moved   with the north-west corner of its bounding box at (0, 0); if the box doe
         fit there, it ends at the edge of the plane instead
 turned  turned or reflected, and then moved, in the one of the eight ways whose text
         is the least, byte by byte
+phases  as the one of its phases whose turned text is the least, in generation 0
 
 Two patterns have the same moved text exactly if a shift takes one to the other. They
 have the same turned text exactly if a turn or a reflection, followed by a shift, takes
 one to the other. The rule and the generation stay as they are, even if the rule
 distinguishes directions. The form is refused (Full) if the moved pattern has more than
-2^21 different squares; for `turned`, if any of the eight moved patterns has so many.",
+2^21 different squares; for `turned`, if any of the eight moved patterns has so many.
+
+With `phases` an oscillator or a spaceship has one text, whichever phase, direction and
+place it is in. The text has no generation. The phases are the generations of one period,
+under the pattern's B/S rule. The period is sought up to MOST, the number that you give
+after --within, or 128. A pattern with no period up to MOST has the text of its turned
+form, in generation 0, and so has a pattern whose rule is a name, because no rule table
+is used here. A pattern that grows out of the plane from its middle before it is the same
+again is refused (OutOfPlane). The form is refused (Full) if the turned form of a phase
+is.",
     notes: "Examples:
   golly_canon canon glider.rle
   golly_canon canon - < glider.mc
   golly_canon canon glider.rle | sha256sum
   golly_canon canon glider.rle --form turned | sha256sum
+  golly_canon canon glider.rle --form phases --within 1000
   golly_canon canon glider.rle --explain
   golly_canon canon -- -odd-name.mc
 
 Exit status:
   0  the text was written
-  2  the file was refused
+  2  the file was refused, or its pattern leaves the plane (--form phases)
   3  the file can't be opened or read, or the output can't be written
   4  there isn't enough memory, or more than 2^31 squares are needed, or more than
      2^21 in a form
@@ -195,19 +207,27 @@ is moved or turned is another one. So is one whose rule has another name (`Life`
 of `B3/S23`), but the same digits written in two ways (`23/3` and `b3s23`) are one rule.
 
 --form says in which form the patterns are compared: `placed` (the default); `moved`,
-in which a pattern is the same as each of its shifts; or `turned`, in which it is the
-same as its turns, its reflections and their shifts too.",
+in which a pattern is the same as each of its shifts; `turned`, in which it is the same
+as its turns, its reflections and their shifts too; or `phases`, in which an oscillator
+or a spaceship is the same as its phases, their turns, their reflections and the shifts
+of all these too, and in which no generation counts.
+
+For `phases` the period of a pattern under its B/S rule is sought up to MOST, the number
+that you give after --within, or 128. A pattern with no period up to MOST, or whose rule
+is a name, is taken in its turned form. A pattern that grows out of the plane before it
+is the same again is refused (OutOfPlane).",
     notes: "Examples:
   golly_canon same glider.rle glider.mc
   golly_canon same - glider.mc < glider.rle
   golly_canon same a.rle b.rle > /dev/null && echo 'nothing has changed'
   golly_canon same a.rle b.rle --form turned
+  golly_canon same a.rle b.rle --form phases
   golly_canon same a.rle b.rle --explain
 
 Exit status:
   0  the files are the same pattern
   1  they are different patterns
-  2  a file was refused
+  2  a file was refused, or its pattern leaves the plane (--form phases)
   3  a file can't be opened or read, or the output can't be written
   4  there isn't enough memory, or more than 2^31 squares are needed, or more than
      2^21 in a form
@@ -217,8 +237,9 @@ The line on standard error doesn't say which file it is about. With --explain th
 sentence after it names the file, if that is known. If several things are wrong, the first
 of this list is reported: A can't be read or is too long; B can't be read or is too
 long; A's first fault; B's first fault; a form with more than 2^21 squares (Full). The
-last of these is found only if --form is `moved`, or if it is `turned` and both files
-have the same generation.
+last of these is found only if --form is `moved` or `phases`, or if it is `turned` and
+both files have the same generation. For `phases` a pattern that leaves the plane
+(OutOfPlane) is found with these forms, in A before B.
 See `golly_canon --help` for the lines on standard error.",
 };
 
@@ -317,10 +338,17 @@ and however they are written. --form says which patterns get the same key:
 placed  a pattern as it lies (the default)
 moved   a pattern and its shifts
 turned  a pattern, its turns and its reflections, and the shifts of all these
+phases  an oscillator or a spaceship in all its phases, the turns and the reflections
+        of these, and the shifts of all these, in whatever generation
 
-The generation that a file gives counts too: the text has it in its line #G. With
---ignore-generation the key is that of the text without this line, as if the generation
-were 0.
+For `phases` the period of a pattern under its B/S rule is sought up to MOST, the number
+that you give after --within, or 128. A pattern with no period up to MOST, or whose rule
+is a name, has the key of its turned form in generation 0. A pattern that grows out of
+the plane before it is the same again is refused (OutOfPlane).
+
+In the other forms the generation that a file gives counts too: the text has it in its
+line #G. With --ignore-generation the key is that of the text without this line, as if
+the generation were 0.
 
 A file that is refused or can't be opened is reported on standard error, by its name, and
 passed over. In a name, a backslash, a line feed and a carriage return are written as
@@ -358,6 +386,7 @@ replaces the bytes that aren't UTF-8 text. Each object ends in a line feed, even
   golly_canon keys -r patterns > keys
   golly_canon keys --form turned *.rle
   golly_canon keys --form turned --ignore-generation *.rle
+  golly_canon keys --form phases --within 1000 *.rle
   golly_canon keys --json -r patterns > keys.jsonl
   find . -name '*.rle' -print0 | golly_canon keys --zero --from - > keys
   printf 'x = 1, y = 1\\no!\\0x = 2, y = 1\\n2o!\\0' | golly_canon keys --stream -
@@ -402,10 +431,17 @@ first files. A file isn't written if no other file has its key.
 placed  a pattern as it lies
 moved   a pattern and its shifts (the default)
 turned  a pattern, its turns and its reflections, and the shifts of all these
+phases  an oscillator or a spaceship in all its phases, the turns and the reflections
+        of these, and the shifts of all these, in whatever generation
 
 The default is `moved`, because Golly writes the .rle file and the .mc file of one pattern
 at different places. With --ignore-generation, files that differ only in the generation
-are in one group too.
+are in one group too, as they are with `phases`.
+
+For `phases` the period of a pattern under its B/S rule is sought up to MOST, the number
+that you give after --within, or 128. A pattern with no period up to MOST, or whose rule
+is a name, is taken in its turned form. A pattern that grows out of the plane before it
+is the same again is refused (OutOfPlane).
 
 A file that is refused or can't be opened is in no group. It is reported on standard error
 as by `golly_canon keys`, and passed over. Nothing is written to standard output before
@@ -426,6 +462,7 @@ the name of a file, and not standard input.",
   golly_canon duplicates *.rle *.mc
   golly_canon duplicates -r patterns
   golly_canon duplicates -r patterns --form turned
+  golly_canon duplicates -r patterns --form phases
   golly_canon duplicates -r patterns --ignore-generation
   golly_canon duplicates -r mine theirs > /dev/null || echo 'no two are the same, or an error'
   find . -name '*.rle' -print0 | golly_canon duplicates --zero --from - > groups

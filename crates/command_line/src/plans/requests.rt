@@ -1,7 +1,7 @@
 //! The plan that the words ask for.
 
-ghost use Rattle.std.specs.Prelude.{◌≡◌, ◌≢◌, ◌⊎◌, ◌↔◌, ◌<◌, ◌≤◌, [], ℕ, Ok, IfOk, IfErr, OnOk, MatchOption, Some, IsSome, IsTrue, map, option_map, string_bytes, codes, count_by};
-ghost use Rattle.command_line.specs.Words.{bytes_eq, found_of, first_of, rows_of, subcommand_of, subcommand_rows_of, program, AreOfTask, AreWhole, IfWork, IsFoundAmong, IsPlanOf, IsRequestOf, IsTaskPlanOf, HasNoJob, task_of, task_plan_of, IsValueOf, HasNoForm, HasNoFormat, HasNoNumber, HasNoPeriod, HasSecond, HasOneFile, HoldsFiles, HoldsFlag, HoldsForm, HoldsGenerations, HoldsKeyForm, HoldsKeys, HoldsPeriod, HoldsStream, NamesInputTwice, Explains, ExplainsPlan, RefusesAs, RefusesKeys, RefusesStream, RefusesWord, form_word, input_count, input_count_under, target_word, u64_of, values_of};
+ghost use Rattle.std.specs.Prelude.{◌≡◌, ◌≢◌, ◌⊎◌, ◌↔◌, ◌<◌, ◌≤◌, [], ℕ, Ok, IfOk, IfErr, OnOk, MatchOption, Some, IfSome, IsSome, IsTrue, map, option_map, string_bytes, codes, count_by};
+ghost use Rattle.command_line.specs.Words.{bytes_eq, found_of, first_of, rows_of, subcommand_of, subcommand_rows_of, program, AreOfTask, AreWhole, IfWork, IsFoundAmong, IsPlanOf, IsRequestOf, IsTaskPlanOf, HasNoJob, task_of, task_plan_of, IsValueOf, HasDefaultWithin, HasNoForm, HasNoFormat, HasNoMost, HasNoNumber, HasNoPeriod, HasSecond, HasOneFile, HoldsFiles, HoldsFlag, HoldsForm, HoldsGenerations, HoldsKeyForm, HoldsKeys, HoldsMost, HoldsPeriod, HoldsStream, NamesInputTwice, Explains, ExplainsPlan, RefusesAs, RefusesKeys, RefusesStream, RefusesWord, form_word, input_count, input_count_under, target_word, u64_of, values_of};
 ghost use Rattle.clap.specs.Words.{fault_of, kind_of};
 
 use super::commands::parse;
@@ -30,6 +30,9 @@ const STEP: &str = "golly_canon step [OPTIONS] <FILE>";
 const KEYS: &str = "golly_canon keys [OPTIONS] [FILE]...";
 
 const DUPLICATES: &str = "golly_canon duplicates [OPTIONS] [FILE]...";
+
+/// The greatest period that `phases` seeks where `--within` isn't given.
+const DEFAULT_WITHIN: u64 = 128;
 
 /// The refusal of the arguments as this kind, with how the command is called and a message.
 fn refusal_as(alloc: Global, kind: ErrorKind, call: &str, message: &str) -> Usage
@@ -96,19 +99,74 @@ fn target(alloc: Global, found: &ArgMatches<'_>) -> Result<Target, Usage>
     }
 }
 
-/// The form of a word.
+/// The number that a word writes in digits, below 2^64.
+fn number_of(word: &str) -> Option<u64>
+    ensures { MatchOption result ((n : ℕ) → u64_of word.now ≢ Ok n) (λ n. u64_of word.now ≡ Ok n) }
+{
+    match read_u64(word.as_bytes()) {
+        Ok(number) => Some(number),
+        Err(_) => None,
+    }
+}
+
+/// The number that a word writes in digits, from 1 to below 2^64.
+fn most_of(word: &str) -> Option<u64>
+    ensures { MatchOption result ((n : ℕ) → u64_of word.now ≡ Ok n → n ≡ 0)
+        (λ n. (u64_of word.now ≡ Ok n) × (1 ≤ n)) }
+{
+    let number = number_of(word)?;
+    if number == 0 {
+        return None;
+    }
+    Some(number)
+}
+
+/// The greatest period that an option names, where it is given. A refusal says how the command is called, and which values there are.
+fn greatest_period(
+    alloc: Global,
+    found: &ArgMatches<'_>,
+    id: &str,
+    call: &str,
+    message: &str,
+) -> Result<Option<u64>, Usage>
+    ensures ok { IfOk result (HoldsMost id.now (rows_of (found_of found.now))) }
+    ensures err { IfErr result (RefusesWord (HasNoMost id.now (rows_of (found_of found.now)))) }
+{
+    match value(found, id) {
+        Some(word) => match most_of(word) {
+            Some(most) => Ok(Some(most)),
+            None => Err(refusal(alloc, call, message)),
+        },
+        None => Ok(None),
+    }
+}
+
+/// The form of a word. `phases` has the default greatest period.
 fn form_named(word: &str) -> Option<Form>
-    ensures { IsValueOf form_word word.now result }
+    ensures word { IsValueOf form_word word.now result }
+    ensures within { IfSome result HasDefaultWithin }
 {
     match word {
         "placed" => Some(Form::Placed),
         "moved" => Some(Form::Moved),
         "turned" => Some(Form::Turned),
+        "phases" => Some(Form::Phases(DEFAULT_WITHIN)),
         _ => None,
     }
 }
 
-/// The form that `--form` names, or where it isn't given, the default one. A refusal says how the command is called.
+/// The greatest period that `--within` names, where it is given. A refusal says how the command is called.
+fn within(alloc: Global, found: &ArgMatches<'_>, call: &str) -> Result<Option<u64>, Usage>
+    ensures ok { IfOk result (HoldsMost (codes "within") (rows_of (found_of found.now))) }
+    ensures err { IfErr result
+        (RefusesWord (HasNoMost (codes "within") (rows_of (found_of found.now)))) }
+{
+    let message = "the value of --within is a number from 1 to 2^64 - 1";
+    greatest_period(alloc, found, "within", call, message)
+}
+
+/// The form that `--form` names, with the greatest period that `--within` names for `phases`, or where it isn't given, the default one. A refusal says how the
+/// command is called.
 fn form(
     alloc: Global,
     found: &ArgMatches<'_>,
@@ -118,16 +176,22 @@ fn form(
     ensures ok { IfOk result (HoldsForm default_form (rows_of (found_of found.now))) }
     ensures err { IfErr result (RefusesWord (HasNoForm (rows_of (found_of found.now)))) }
 {
-    match value(found, "form") {
-        Some(word) => match form_named(word) {
+    let most = match within(alloc, found, call) {
+        Ok(most) => most,
+        Err(usage) => return Err(usage),
+    };
+    match (value(found, "form"), most) {
+        (None, None) => Ok(default_form),
+        (Some(word), None) => match form_named(word) {
             Some(form) => Ok(form),
             None => Err(refusal(
                 alloc,
                 call,
-                "the value of --form is placed, moved or turned",
+                "the value of --form is placed, moved, turned or phases",
             )),
         },
-        None => Ok(default_form),
+        (Some("phases"), Some(most)) => Ok(Form::Phases(most)),
+        (_, Some(_)) => Err(refusal(alloc, call, "--within is for --form phases alone")),
     }
 }
 
@@ -177,16 +241,6 @@ fn over_files(
         second: Some(second),
         explain: is_set(found, "explain"),
     })
-}
-
-/// The number that a word writes in digits, below 2^64.
-fn number_of(word: &str) -> Option<u64>
-    ensures { MatchOption result ((n : ℕ) → u64_of word.now ≢ Ok n) (λ n. u64_of word.now ≡ Ok n) }
-{
-    match read_u64(word.as_bytes()) {
-        Ok(number) => Some(number),
-        Err(_) => None,
-    }
 }
 
 /// How many generations `--generations` names, where it is given.
@@ -242,36 +296,6 @@ fn step(alloc: Global, found: &ArgMatches<'_>) -> Result<TaskPlan, Usage>
     }
 }
 
-/// The number that a word writes in digits, from 1 to below 2^64.
-fn most_of(word: &str) -> Option<u64>
-    ensures { MatchOption result ((n : ℕ) → u64_of word.now ≡ Ok n → n ≡ 0)
-        (λ n. (u64_of word.now ≡ Ok n) × (1 ≤ n)) }
-{
-    let number = number_of(word)?;
-    if number == 0 {
-        return None;
-    }
-    Some(number)
-}
-
-/// The greatest period that `--period` names, where it is given.
-fn period(alloc: Global, found: &ArgMatches<'_>) -> Result<Option<u64>, Usage>
-    ensures ok { IfOk result (HoldsPeriod (rows_of (found_of found.now))) }
-    ensures err { IfErr result (RefusesWord (HasNoPeriod (rows_of (found_of found.now)))) }
-{
-    match value(found, "period") {
-        Some(word) => match most_of(word) {
-            Some(most) => Ok(Some(most)),
-            None => Err(refusal(
-                alloc,
-                SHOW,
-                "the value of --period is a number from 1 to 2^64 - 1",
-            )),
-        },
-        None => Ok(None),
-    }
-}
-
 /// The plan of what `show` writes, with the period up to so many generations, or without it where none are named.
 fn show_of(alloc: Global, found: &ArgMatches<'_>, most: Option<u64>) -> Result<TaskPlan, Usage>
     requires file { IsFoundAmong (codes "FILE") (rows_of (found_of found.now)) }
@@ -293,7 +317,8 @@ fn show(alloc: Global, found: &ArgMatches<'_>) -> Result<TaskPlan, Usage>
         (λ usage. RefusesWord (HasNoPeriod (rows_of (found_of found.now))) usage
         ⊎ ((usage ≡ Usage.Memory) × ¬ HasNoPeriod (rows_of (found_of found.now)))) }
 {
-    match period(alloc, found) {
+    let message = "the value of --period is a number from 1 to 2^64 - 1";
+    match greatest_period(alloc, found, "period", SHOW, message) {
         Ok(most) => show_of(alloc, found, most),
         Err(usage) => Err(usage),
     }
@@ -557,11 +582,11 @@ fn from_matches<'a>(alloc: Global, matches: &ArgMatches<'a>) -> Result<Request<'
 ///
 /// # Errors
 ///
-/// `Words` with the text to show, where `clap` finds a fault in the words, as which `--help` and `--version` count too, by its kind; where the
-/// word after `--to` is that of no format, the one after `--form` that of no form, the one after `--generations` no number below 2^64, or the one after
-/// `--period` no such number or 0, as `InvalidValue`; where `keys` or `duplicates` is given neither a file nor a list, and `keys` no stream either, as
-/// `MissingRequiredArgument`; where `keys` is given a stream and also a file, a list or `-r`, as `ArgumentConflict`; and where `clap`, or the list of their files, gets no memory, as
-/// `OutOfMemory`.
+/// `Words` with the text to show, where `clap` finds a fault in the words, as which `--help` and `--version` count too, by its kind; where the word after
+/// `--to` is that of no format, the one after `--form` that of no form, the one after `--generations` no number below 2^64, or the one after `--within` or
+/// `--period` no such number or 0, or where `--within` is given without `--form phases`, as `InvalidValue`; where `keys` or `duplicates` is given neither a
+/// file nor a list, and `keys` no stream either, as `MissingRequiredArgument`; where `keys` is given a stream and also a file, a list or `-r`, as
+/// `ArgumentConflict`; and where `clap`, or the list of their files, gets no memory, as `OutOfMemory`.
 /// `TwoInputs` where words without a fault name `-` for two files, whatever follows these options. `Memory` where all is right but there is
 /// no memory for the copy of a file's name.
 pub fn request<'a, S: AsStr>(alloc: Global, words: &'a [S]) -> Result<Request<'a>, Usage>
