@@ -83,7 +83,7 @@ fn plans(rt: HostRuntime) {
 }
 
 /// Arguments with the task that they ask for and its files, and whether they ask for a sentence about an error. The words after `--` are names.
-const REQUESTS: [(&str, Task, &str, Option<&str>, bool); 28] = [
+const REQUESTS: [(&str, Task, &str, Option<&str>, bool); 32] = [
     ("canon -", Task::Canon(Form::Placed), "-", None, false),
     (
         "canon - --form placed",
@@ -232,6 +232,34 @@ const REQUESTS: [(&str, Task, &str, Option<&str>, bool); 28] = [
         Some("b"),
         false,
     ),
+    (
+        "canon --form phases -",
+        Task::Canon(Form::Phases(128)),
+        "-",
+        None,
+        false,
+    ),
+    (
+        "canon - --form=phases --within 1 --explain",
+        Task::Canon(Form::Phases(1)),
+        "-",
+        None,
+        true,
+    ),
+    (
+        "same --within=18446744073709551615 --form phases a b",
+        Task::Same(Form::Phases(u64::MAX)),
+        "a",
+        Some("b"),
+        false,
+    ),
+    (
+        "same - b --form phases --within 007",
+        Task::Same(Form::Phases(7)),
+        "-",
+        Some("b"),
+        false,
+    ),
 ];
 
 /// The arguments of a text ask for this task of these files, and for a sentence about an error or not.
@@ -264,7 +292,7 @@ fn requests(rt: HostRuntime) {
 
 /// Arguments of `keys` and `duplicates` with their form, their files, which of --zero, --recursive, --json (of `keys` alone) and --ignore-generation they have, and
 /// the list of further files. `keys` takes patterns as they lie, and `duplicates` in the moved form, where none is given.
-const FILES: [(&str, Form, &[&str], [bool; 4], Option<&str>); 19] = [
+const FILES: [(&str, Form, &[&str], [bool; 4], Option<&str>); 23] = [
     (
         "keys a",
         Form::Placed,
@@ -398,6 +426,34 @@ const FILES: [(&str, Form, &[&str], [bool; 4], Option<&str>); 19] = [
         [false, false, false, true],
         Some("l"),
     ),
+    (
+        "keys a --form phases",
+        Form::Phases(128),
+        &["a"],
+        [false, false, false, false],
+        None,
+    ),
+    (
+        "keys --within 30 --form phases --json --ignore-generation -r a",
+        Form::Phases(30),
+        &["a"],
+        [false, true, true, true],
+        None,
+    ),
+    (
+        "duplicates --form=phases a b",
+        Form::Phases(128),
+        &["a", "b"],
+        [false, false, false, false],
+        None,
+    ),
+    (
+        "duplicates a --form phases --within=2 --from l",
+        Form::Phases(2),
+        &["a"],
+        [false, false, false, false],
+        Some("l"),
+    ),
 ];
 
 /// The plan of `keys` or of `duplicates`, and whether it is that of `duplicates`.
@@ -442,7 +498,7 @@ fn requests_over_any_files(rt: HostRuntime) {
 }
 
 /// Arguments of `keys` over a stream with their form, which of --zero, --json and --ignore-generation they have, and the stream.
-const STREAMS: [(&str, Form, [bool; 3], &str); 4] = [
+const STREAMS: [(&str, Form, [bool; 3], &str); 6] = [
     ("keys --stream s", Form::Placed, [false, false, false], "s"),
     (
         "keys --stream=- --zero",
@@ -461,6 +517,18 @@ const STREAMS: [(&str, Form, [bool; 3], &str); 4] = [
         Form::Turned,
         [false, false, true],
         "s",
+    ),
+    (
+        "keys --stream s --form phases",
+        Form::Phases(128),
+        [false, false, false],
+        "s",
+    ),
+    (
+        "keys --form=phases --zero --within 5 --stream -",
+        Form::Phases(5),
+        [true, false, false],
+        "-",
     ),
 ];
 
@@ -507,7 +575,7 @@ fn assert_usage(rt: &impl Abort, alloc: Global, text: &str, kind: ErrorKind) {
 }
 
 /// Arguments with the kind with which they are refused. Those that ask for another form than that of a pattern as it lies have a request and no plan.
-const USAGES: [(&str, ErrorKind); 72] = [
+const USAGES: [(&str, ErrorKind); 103] = [
     ("", ErrorKind::MissingSubcommand),
     ("canon", ErrorKind::MissingRequiredArgument),
     ("canon a b", ErrorKind::UnknownArgument),
@@ -589,6 +657,61 @@ const USAGES: [(&str, ErrorKind); 72] = [
     ("show - --period 3", ErrorKind::InvalidValue),
     ("step - --generations 3", ErrorKind::InvalidValue),
     ("step - --table=a --generations 3", ErrorKind::InvalidValue),
+    ("canon a --within 5", ErrorKind::InvalidValue),
+    ("canon a --within 0", ErrorKind::InvalidValue),
+    (
+        "canon a --form placed --within 128",
+        ErrorKind::InvalidValue,
+    ),
+    ("canon a --form turned --within 5", ErrorKind::InvalidValue),
+    ("canon a --form cycle --within 5", ErrorKind::InvalidValue),
+    ("canon a --form Phases", ErrorKind::InvalidValue),
+    ("canon a --form phases --within", ErrorKind::InvalidValue),
+    ("canon a --form phases --within=", ErrorKind::InvalidValue),
+    ("canon a --form phases --within 0", ErrorKind::InvalidValue),
+    ("canon a --form phases --within x", ErrorKind::InvalidValue),
+    ("canon a --form phases --within=-1", ErrorKind::InvalidValue),
+    (
+        "canon a --form phases --within 18446744073709551616",
+        ErrorKind::InvalidValue,
+    ),
+    (
+        "canon a --form phases --within 1 --within 1",
+        ErrorKind::ArgumentConflict,
+    ),
+    (
+        "canon --form phases --within 1",
+        ErrorKind::MissingRequiredArgument,
+    ),
+    ("same a b --within 5", ErrorKind::InvalidValue),
+    ("same a b --form moved --within x", ErrorKind::InvalidValue),
+    (
+        "same a b --form phases --within 00",
+        ErrorKind::InvalidValue,
+    ),
+    ("keys a --within 5", ErrorKind::InvalidValue),
+    ("keys a --form turned --within 5", ErrorKind::InvalidValue),
+    ("keys a --form phases --within 0", ErrorKind::InvalidValue),
+    ("keys --within 5", ErrorKind::MissingRequiredArgument),
+    ("keys --stream s --within 5", ErrorKind::InvalidValue),
+    (
+        "keys --stream s --form phases --within x",
+        ErrorKind::InvalidValue,
+    ),
+    ("duplicates a --within 5", ErrorKind::InvalidValue),
+    (
+        "duplicates a --form moved --within 5",
+        ErrorKind::InvalidValue,
+    ),
+    (
+        "duplicates a --form phases --within ten",
+        ErrorKind::InvalidValue,
+    ),
+    ("convert a --to mc --within 5", ErrorKind::UnknownArgument),
+    ("show a --within 5", ErrorKind::UnknownArgument),
+    ("step a --within 5", ErrorKind::UnknownArgument),
+    ("canon --form phases -", ErrorKind::InvalidValue),
+    ("same - b --form phases --within 3", ErrorKind::InvalidValue),
 ];
 
 #[test]
@@ -599,11 +722,12 @@ fn usages(rt: HostRuntime) {
 }
 
 /// Arguments that name standard input twice.
-const TWICE: [&str; 7] = [
+const TWICE: [&str; 8] = [
     "duplicates - a -",
     "duplicates --from - -r -",
     "same - -",
     "same - - --form none",
+    "same - - --form phases --within 0",
     "same -- - -",
     "step - --table -",
     "step - --table - --generations x",
