@@ -16,6 +16,8 @@
 //! ```text
 //! golly_canon canon -             Task::Canon(Form::Placed), with the file -
 //! golly_canon same - b.rle        Task::Same(Form::Placed), with the files - and b.rle
+//! golly_canon canon a.rle --form phases --within 30
+//!                                 Task::Canon(Form::Phases(30)), with the file a.rle
 //! golly_canon same - -            Usage::TwoInputs, because only one file can be standard input
 //! golly_canon --version           Usage::Words, with the text to print
 //! ```

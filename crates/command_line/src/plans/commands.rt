@@ -114,7 +114,7 @@ fn with_form<'a>(
         → IfOk result (ReadsAs (with_form line)) }
 {
     let command = with_argument(command, option(alloc, "form", "FORM", help));
-    let help = "With phases: the greatest period to seek, 128 unless given";
+    let help = "With --form phases: the greatest period that is sought, 128 unless given";
     with_argument(command, option(alloc, "within", "MOST", help))
 }
 

@@ -145,14 +145,13 @@ one to the other. The rule and the generation stay as they are, even if the rule
 distinguishes directions. The form is refused (Full) if the moved pattern has more than
 2^21 different squares; for `turned`, if any of the eight moved patterns has so many.
 
-With `phases` an oscillator or a spaceship has one text, whichever phase, direction and
+With `phases` an oscillator or a spaceship has one text, whichever phase, orientation and
 place it is in. The text has no generation. The phases are the generations of one period,
 under the pattern's B/S rule. The period is sought up to MOST, the number that you give
 after --within, or 128. A pattern with no period up to MOST has the text of its turned
 form, in generation 0, and so has a pattern whose rule is a name, because no rule table
 is used here. A pattern that grows out of the plane from its middle before it is the same
-again is refused (OutOfPlane). The form is refused (Full) if the turned form of a phase
-is.",
+again is refused (OutOfPlane). So is one of which a phase has no turned form (Full).",
     notes: "Examples:
   golly_canon canon glider.rle
   golly_canon canon - < glider.mc
