@@ -17,9 +17,9 @@ use Rattle.life_canon.specs.Store.{IsRead, IsShortageOf, RefusesIn}
 use Rattle.life_canon.specs.Texts.{IsCanonical}
 use Rattle.life_canon.specs.declared.pattern.Pattern.{Pattern}
 use Rattle.life_canon.proofs.SpaceCount.{found-as, find-file}
-use Rattle.pattern_forms.specs.InForm.{FileHasLargerForm, IsTextWithin, OneFileHasLargerForm, most_of_form}
+use Rattle.pattern_forms.specs.InForm.{FileLacksForm, IsTextWithin, OneFileLacksForm, RefusesFormFor, most_of_form}
 use Rattle.life_base.specs.declared.form.Form.{Form}
-use Rattle.life_base.specs.declared.form.Form.TheVariants.{Placed, Moved, Turned}
+use Rattle.life_base.specs.declared.form.Form.TheVariants.{Placed, Moved, Turned, Phases}
 use Rattle.life_mc.specs.Reading.{IsMacrocell}
 use Rattle.library_calls.specs.Texts.{IsLeastCanonicalText, NeedsMore, RefusesWithin, SomeToRead, squares_of_limit}
 use Rattle.library_calls.specs.ComparingInForm.{RefusesEitherInForm}
@@ -59,24 +59,28 @@ form-text plane files least Moved limit store bytes text space is =
     subst (λ (n : ℕ). IsTextWithin Moved MAX_LEVEL (min (2 ^ 21) n) bytes text) space is
 form-text plane files least Turned limit store bytes text space is =
     subst (λ (n : ℕ). IsTextWithin Turned MAX_LEVEL (min (2 ^ 21) n) bytes text) space is
+form-text plane files least (Phases generations) limit store bytes text space is =
+    subst (λ (n : ℕ). IsTextWithin (Phases generations) MAX_LEVEL (min (2 ^ 21) n) bytes text) space is
 
 -- why there is none
 pub within-form : (form : Form) (limit : ℕ) (bytes : List ℕ) (fault : Fault) → RefusesWithin limit bytes fault → RefusesFormWithin form limit bytes fault
 within-form Placed limit bytes fault why = why
 within-form Moved limit bytes fault why = inl why
 within-form Turned limit bytes fault why = inl why
+within-form (Phases generations) limit bytes fault why = inl why
 
-larger-form : (form : Form) (limit : ℕ) (bytes : List ℕ) (fault : Fault) → fault ≡ fault_of Full
-    → FileHasLargerForm form MAX_LEVEL (squares_of_form limit) bytes → RefusesFormWithin form limit bytes fault
-larger-form Placed limit bytes fault full large = absurd large.2
-larger-form Moved limit bytes fault full large = inr (full, large)
-larger-form Turned limit bytes fault full large = inr (full, large)
+lacks-form : (form : Form) (limit : ℕ) (bytes : List ℕ) (fault : Fault)
+    → RefusesFormFor form (FileLacksForm form MAX_LEVEL (squares_of_form limit) bytes) fault → RefusesFormWithin form limit bytes fault
+lacks-form Placed limit bytes fault why = absurd why.1.2
+lacks-form Moved limit bytes fault why = inr why
+lacks-form Turned limit bytes fault why = inr why
+lacks-form (Phases generations) limit bytes fault why = inr why
 
 pub form-fault : (form : Form) (limit : ℕ) (store : Nodes) (bytes : List ℕ) (fault : Fault) → store.limit ≡ squares_of_limit limit
-    → OrMemory fault ((fault ≡ fault_of Full) × FileHasLargerForm form MAX_LEVEL (most_of_form store) bytes) → RefusesFormWithin form limit bytes fault
+    → OrMemory fault (RefusesFormFor form (FileLacksForm form MAX_LEVEL (most_of_form store) bytes) fault) → RefusesFormWithin form limit bytes fault
 form-fault form limit store bytes fault space (inl memory) = within-form form limit bytes fault (inr (inl memory))
-form-fault form limit store bytes fault space (inr large) =
-    larger-form form limit bytes fault large.0 (subst (λ (n : ℕ). FileHasLargerForm form MAX_LEVEL (min (2 ^ 21) n) bytes) space large.1)
+form-fault form limit store bytes fault space (inr why) =
+    lacks-form form limit bytes fault (subst (λ (n : ℕ). RefusesFormFor form (FileLacksForm form MAX_LEVEL (min (2 ^ 21) n) bytes) fault) space why)
 
 -- ---- two files
 
@@ -153,17 +157,17 @@ either-unread form limit first second store fault space (inr (inl refuses)) low 
 either-unread form limit first second store fault space (inr (inr want)) low =
     inl (inr (inr (wanted (IsTooLowForBoth first second) limit store fault space want (λ full at. low full))))
 
--- two files that aren't compared, of which one may have too large a form
+-- two files that aren't compared, of which one may have no text in the form
 pub either-unformed : (form : Form) (limit : ℕ) (first second : List ℕ) (store : Nodes) (fault : Fault) → store.limit ≡ squares_of_limit limit
-    → OrMemory fault ((fault ≡ fault_of Full) × OneFileHasLargerForm form MAX_LEVEL (most_of_form store) first second)
+    → OrMemory fault (RefusesFormFor form (OneFileLacksForm form MAX_LEVEL (most_of_form store) first second) fault)
     → RefusesEitherInForm form limit first second fault
 either-unformed form limit first second store fault space (inl memory) = inl (inr (inr (inl memory)))
-either-unformed form limit first second store fault space (inr large) =
-    inr (large.0, subst (λ (n : ℕ). OneFileHasLargerForm form MAX_LEVEL (min (2 ^ 21) n) first second) space large.1)
+either-unformed form limit first second store fault space (inr why) =
+    inr (subst (λ (n : ℕ). RefusesFormFor form (OneFileLacksForm form MAX_LEVEL (min (2 ^ 21) n) first second) fault) space why)
 
--- two that were compared have forms that aren't too large
+-- two that were compared have texts in the form
 pub both-small : (form : Form) (limit : ℕ) (first second : List ℕ) (store : Nodes) → store.limit ≡ squares_of_limit limit
-    → ¬ OneFileHasLargerForm form MAX_LEVEL (most_of_form store) first second
-    → ¬ OneFileHasLargerForm form MAX_LEVEL (squares_of_form limit) first second
+    → ¬ OneFileLacksForm form MAX_LEVEL (most_of_form store) first second
+    → ¬ OneFileLacksForm form MAX_LEVEL (squares_of_form limit) first second
 both-small form limit first second store space small =
-    subst (λ (n : ℕ). ¬ OneFileHasLargerForm form MAX_LEVEL (min (2 ^ 21) n) first second) space small
+    subst (λ (n : ℕ). ¬ OneFileLacksForm form MAX_LEVEL (min (2 ^ 21) n) first second) space small

@@ -17,7 +17,7 @@ pub use Rattle.life_canon.specs.Feeding.{RefusesPrefix}
 pub use Rattle.life_canon.specs.Files.{Accepted, Refuses}
 pub use Rattle.life_canon.specs.Store.{IsOfFile, IsRead, IsShortageOf}
 pub use Rattle.life_canon.specs.Texts.{IsShownText}
-pub use Rattle.pattern_forms.specs.InForm.{AreSameIn, OneFileHasLargerForm}
+pub use Rattle.pattern_forms.specs.InForm.{AreSameIn, OneFileLacksForm}
 pub use Rattle.life_quad.specs.Keeping.{AddsOnly}
 pub use Rattle.life_quad.specs.Store.{stored_squares}
 pub use Rattle.life_generations.specs.Later.{IsTextLater}

@@ -1,7 +1,7 @@
 //! The call that compares two files in a form.
 
 ghost use Rattle.std.specs.Prelude.{◌≡◌, ◌↔◌, ◌⊎◌, ℕ, [], Err, IfOk, IfErr, OnOk, IsTrue, MatchOption};
-ghost use Rattle.library_calls.specs.Words.{fault_of, MAX_LEVEL, Full, stored_squares, Accepted, Refuses, IsRead, IsShortageOf, IsFreshStore, AddsOnly, Fits, IsTooLowForBoth, NeedsMore, SomeToReadBoth, form_numbered, squares_of_form, AreSameIn, OneFileHasLargerForm, RefusesEitherInForm, ComparesInForm, ComparesInNone};
+ghost use Rattle.library_calls.specs.Words.{fault_of, MAX_LEVEL, Full, stored_squares, Accepted, Refuses, IsRead, IsShortageOf, IsFreshStore, AddsOnly, Fits, IsTooLowForBoth, NeedsMore, SomeToReadBoth, form_numbered, squares_of_form, AreSameIn, OneFileLacksForm, RefusesEitherInForm, ComparesInForm, ComparesInNone};
 
 use crate::compared::Compared;
 use crate::in_form::{NO_FORM, form_of};
@@ -60,7 +60,7 @@ fn are_one(
     ensures answer { IfOk result
         (λ answer. IsTrue answer ↔ AreSameIn form MAX_LEVEL first.now second.now) }
     ensures small { OnOk result ((limit : ℕ) → IsFreshStore limit store.old
-        → ¬ OneFileHasLargerForm form MAX_LEVEL (squares_of_form limit) first.now second.now) }
+        → ¬ OneFileLacksForm form MAX_LEVEL (squares_of_form limit) first.now second.now) }
     ensures fits { OnOk result ((limit : ℕ) → IsFreshStore limit store.old
         → Fits (SomeToReadBoth first.now second.now) limit) }
     ensures fault { IfErr result (λ fault. (limit : ℕ) → IsFreshStore limit store.old

@@ -13,6 +13,9 @@ use std::alloc::Global;
 /// The status of a call with a number that is that of no form.
 pub const NO_FORM: u32 = 65;
 
+/// The least number of a form for all phases. Each form of so many generations has the number that is so much greater.
+pub const PHASES: u32 = 1 << 31;
+
 /// The form with this number, if one has it.
 pub(crate) fn form_of(number: u32) -> Option<Form>
     ensures { result ≡ form_numbered number }
@@ -21,6 +24,7 @@ pub(crate) fn form_of(number: u32) -> Option<Form>
         0 => Some(Form::Placed),
         1 => Some(Form::Moved),
         2 => Some(Form::Turned),
+        _ if number >= PHASES => Some(Form::Phases(u64::from(number - PHASES))),
         _ => None,
     }
 }

@@ -29,7 +29,7 @@ use Rattle.life_table.specs.Grammar.{IsPlainTable}
 use Rattle.life_table.specs.Reading.{RefusesTable}
 use Rattle.life_table.specs.declared.table.Table.{Table}
 use Rattle.life_base.specs.declared.form.Form.{Form}
-use Rattle.life_base.specs.declared.form.Form.TheVariants.{Placed, Moved, Turned}
+use Rattle.life_base.specs.declared.form.Form.TheVariants.{Placed, Moved, Turned, Phases}
 use Rattle.command_line.specs.declared.plans.Task.{Task}
 use Rattle.command_line.specs.declared.plans.Task.TheVariants.{Canon, Convert, Same, Show, ShowPeriod, Step, StepTable, Later, LaterTable}
 use Rattle.command_line.specs.declared.plans.Target.TheVariants.{Rle, Mc}
@@ -37,7 +37,7 @@ use Rattle.pattern_sources.specs.declared.refusals.Refusal.{Refusal}
 use Rattle.life_cli.specs.declared.jobs.Made.{Made}
 use Rattle.life_cli.specs.declared.jobs.Made.TheVariants.{Comparison, Text}
 use Rattle.pattern_sources.specs.Faults.{refusal_of}
-use Rattle.pattern_forms.specs.InForm.{AreSameIn, ForEachTwoFiles, OneFileHasLargerForm, most_of_form}
+use Rattle.pattern_forms.specs.InForm.{AreSameIn, ForEachTwoFiles, OneFileLacksForm, RefusesFormFor, most_of_form}
 use Rattle.pattern_sources.specs.Forms.{IsTextIn}
 use Rattle.command_line.specs.Plans.{HasSecond}
 use Rattle.life_cli.specs.Jobs.{WritesPlacedText, AreUncompared, by_first, by_second, by_form, by_first_shortage, by_second_shortage, Compares, made_text, made_status, HasAnswer, TaskMakes, TaskWrites, Worked, IsWrittenInPart, FileRefuses, by_comparing, by_reading, by_writing, by_telling, HasTextLaterByTable, IsSteppedTimes, MadeOf, RefusesFor, RefusesLifeStep, RefusesGenerations, HasTable, HasNoTable, table_by_input, table_by_lines, table_by_memory, CanonRefuses, OfFile, TaskRan, TaskRefuses}
@@ -114,14 +114,14 @@ answers form a b true is = inl (refl, is.0 refl, refl)
 answers form a b false is = inr (refl, (λ same. let bad : false ≡ true = is.1 same in absurd cc), refl)
 
 compared_files : (form : Form) (first second : SourceRun) (a b : List ℕ) (answer : Bool) → ReadAll (2 ^ 30) first.before first.after a
-    → ReadAll (2 ^ 30) second.before second.after b → Accepted MAX_LEVEL a → Accepted MAX_LEVEL b → ¬ OneFileHasLargerForm form MAX_LEVEL (2 ^ 21) a b
+    → ReadAll (2 ^ 30) second.before second.after b → Accepted MAX_LEVEL a → Accepted MAX_LEVEL b → ¬ OneFileLacksForm form MAX_LEVEL (2 ^ 21) a b
     → IsTrue answer ↔ AreSameIn form MAX_LEVEL a b → TaskMakes (Same form) first second (Comparison answer)
-compared_files form first second a b answer one two first_is second_is small is = record {
+compared_files form first second a b answer one two first_is second_is have is = record {
   first_bytes = a;
   second_bytes = b;
   first_read = one;
   second_read = λ _. two;
-  writes = (first_is, second_is, small, answers form a b answer is);
+  writes = (first_is, second_is, have, answers form a b answer is);
 }
 
 -- two files were read into one store of 2^31 squares, and their patterns compared in a form, or not
@@ -129,22 +129,21 @@ module _ (form : Form) (first second : SourceRun) (store : Nodes) (a b : List �
     (one : ReadAll (2 ^ 30) first.before first.after a) (two : ReadAll (2 ^ 30) second.before second.after b) (reads : IsRead MAX_LEVEL a store p)
     (others : IsRead MAX_LEVEL b store q) where
   pub compared_in : (r : Result Bool Fault) → IfOk r (λ answer. ForEachTwoFiles store p q (λ f s. IsTrue answer ↔ AreSameIn form MAX_LEVEL f s))
-      → OnOk r (ForEachTwoFiles store p q (λ f s. ¬ OneFileHasLargerForm form MAX_LEVEL (most_of_form store) f s))
+      → OnOk r (ForEachTwoFiles store p q (λ f s. ¬ OneFileLacksForm form MAX_LEVEL (most_of_form store) f s))
       → IfOk r (λ answer. TaskMakes (Same form) first second (Comparison answer))
-  compared_in (Ok answer) h small =
+  compared_in (Ok answer) h have =
       compared_files form first second a b answer one two (reads.universe, reads.reads) (others.universe, others.reads)
-      (subst (λ (n : ℕ). ¬ OneFileHasLargerForm form MAX_LEVEL (min (2 ^ 21) n) a b) limit (small a b reads others)) (h a b reads others)
-  compared_in (Err fault) h small = tt
+      (subst (λ (n : ℕ). ¬ OneFileLacksForm form MAX_LEVEL (min (2 ^ 21) n) a b) limit (have a b reads others)) (h a b reads others)
+  compared_in (Err fault) h have = tt
 
   pub uncompared_in : (r : Result Bool Fault) → IfErr r (λ fault. OrMemory fault
-      (ForEachTwoFiles store p q (λ f s. (fault ≡ fault_of Full) × OneFileHasLargerForm form MAX_LEVEL (most_of_form store) f s)))
+      (ForEachTwoFiles store p q (λ f s. RefusesFormFor form (OneFileLacksForm form MAX_LEVEL (most_of_form store) f s) fault)))
       → IfErr r (AreUncompared form first second)
   uncompared_in (Ok answer) h = tt
   uncompared_in (Err fault) (inl memory) = by_second_shortage a [] one (no_squares first a one) (inl memory)
   uncompared_in (Err fault) (inr refuses) =
-      let why = refuses a b reads others in
       by_form a b one two (reads.universe, reads.reads) (others.universe, others.reads)
-      (why.0, subst (λ (n : ℕ). OneFileHasLargerForm form MAX_LEVEL (min (2 ^ 21) n) a b) limit why.1)
+      (subst (λ (n : ℕ). RefusesFormFor form (OneFileLacksForm form MAX_LEVEL (min (2 ^ 21) n) a b) fault) limit (refuses a b reads others))
 
 -- Nothing comes of a pattern that isn't stepped. `Of` says of a property that a square has it which the step needs of a root under a rule.
 module _ {X : Type 0} (Of : (Tree → Type 0) → Rule → Tree → Type 0) (refuses : List ℕ → Fault → Type 0) (source : SourceRun) (empty old new : Nodes)
@@ -195,7 +194,7 @@ refused_for Reason text store fault limit (inl refuses) = inl refuses
 refused_for Reason text store fault limit (inr (inl want)) = inr (inl (store, limit, want))
 refused_for Reason text store fault limit (inr (inr why)) = inr (inr why)
 
--- a pattern as it lies has no form that is too large
+-- a pattern as it lies has a text
 pub placed_refused : (source : SourceRun) (fault : Fault) → HasNoText (RefusesInForm Placed) source fault → HasNoText (Refuses MAX_LEVEL) source fault
 placed_refused source fault (by_input h) = by_input h
 placed_refused source fault (by_file bytes read (inl refuses)) = by_file bytes read refuses
@@ -328,6 +327,9 @@ unwritten (Canon Moved) first second output made refusal other makes broken =
     (broken.0, broken_text (IsTextIn Moved MAX_LEVEL) (RefusesInForm Moved) first output _ _ refusal.fault makes.first_read makes.writes.1 broken.1)
 unwritten (Canon Turned) first second output made refusal other makes broken =
     (broken.0, broken_text (IsTextIn Turned MAX_LEVEL) (RefusesInForm Turned) first output _ _ refusal.fault makes.first_read makes.writes.1 broken.1)
+unwritten (Canon (Phases most)) first second output made refusal other makes broken =
+    (broken.0, broken_text (IsTextIn (Phases most) MAX_LEVEL) (RefusesInForm (Phases most)) first output _ _ refusal.fault makes.first_read makes.writes.1
+    broken.1)
 unwritten (Convert Rle) first second output made refusal other makes broken =
     (broken.0, broken_text (IsRleOf MAX_LEVEL (2 ^ 20)) RefusesMany first output _ _ refusal.fault makes.first_read makes.writes.1 broken.1)
 unwritten (Convert Mc) first second output made refusal other makes broken = absurd (other tt)
@@ -359,6 +361,7 @@ pub refused_form : (form : Form) (first second : SourceRun) (output : SinkRun) (
 refused_form Placed first second output refusal other h = absurd (other tt)
 refused_form Moved first second output refusal other h = (h.0, by_reading h.1)
 refused_form Turned first second output refusal other h = (h.0, by_reading h.1)
+refused_form (Phases most) first second output refusal other h = (h.0, by_reading h.1)
 
 -- a task that writes the canonical text of its file's pattern as that lies
 canonical_as : (task : Task) (first second : SourceRun) (output : SinkRun) → WritesPlacedText task → Worked (Canon Placed) 0 first second output
@@ -366,6 +369,7 @@ canonical_as : (task : Task) (first second : SourceRun) (output : SinkRun) → W
 canonical_as (Canon Placed) first second output is done = done
 canonical_as (Canon Moved) first second output is done = absurd is
 canonical_as (Canon Turned) first second output is done = absurd is
+canonical_as (Canon (Phases most)) first second output is done = absurd is
 canonical_as (Convert Rle) first second output is done = absurd is
 canonical_as (Convert Mc) first second output is done = record {
   text = done.text;
@@ -399,6 +403,7 @@ canonical_refused : (task : Task) (first second : SourceRun) (output : SinkRun) 
 canonical_refused (Canon Placed) first second output refusal is refused = refused
 canonical_refused (Canon Moved) first second output refusal is refused = absurd is
 canonical_refused (Canon Turned) first second output refusal is refused = absurd is
+canonical_refused (Canon (Phases most)) first second output refusal is refused = absurd is
 canonical_refused (Convert Rle) first second output refusal is refused = absurd is
 canonical_refused (Convert Mc) first second output refusal is refused = refused
 canonical_refused (Same form) first second output refusal is refused = absurd is

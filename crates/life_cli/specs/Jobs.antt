@@ -25,7 +25,7 @@ use Rattle.life_generations.specs.Later.{IsTextLater, LaterRefusal}
 use Rattle.life_periods.specs.OfFile.{IsShownWithPeriod, RefusesPeriodOfFile}
 use Rattle.life_step.specs.Refusals.{LifeRefusal, SomeOfNextFile, SomeOfNextFileBy, TableRefusal}
 use Rattle.life_step.specs.Stepped.{IsStepped, IsSteppedBy}
-use Rattle.pattern_forms.specs.InForm.{AreSameIn, OneFileHasLargerForm}
+use Rattle.pattern_forms.specs.InForm.{AreSameIn, OneFileLacksForm, RefusesFormFor}
 use Rattle.pattern_sources.specs.Sources.{AreOfInput, HasNoText, HasText, InputRefuses, IsTooSmallFor, RefusesInForm, RefusesMany, IsSourceShortage, IsCallShortage}
 use Rattle.pattern_sources.specs.Forms.{IsTextIn}
 use Rattle.command_line.specs.Plans.{HasSecond}
@@ -62,7 +62,7 @@ TaskWrites (Canon form) first second status text = (status ≡ 0) × IsTextIn fo
 TaskWrites (Convert Rle) first second status text = (status ≡ 0) × IsRleOf MAX_LEVEL (2 ^ 20) first text
 TaskWrites (Convert Mc) first second status text = (status ≡ 0) × IsCanonical MAX_LEVEL first text
 TaskWrites (Same form) first second status text =
-    Accepted MAX_LEVEL first × Accepted MAX_LEVEL second × (¬ OneFileHasLargerForm form MAX_LEVEL (2 ^ 21) first second)
+    Accepted MAX_LEVEL first × Accepted MAX_LEVEL second × (¬ OneFileLacksForm form MAX_LEVEL (2 ^ 21) first second)
     × Compares form first second status text
 TaskWrites Show first second status text = (status ≡ 0) × IsShownText MAX_LEVEL first text
 TaskWrites (ShowPeriod most) first second status text = (status ≡ 0) × IsShownWithPeriod most first text
@@ -120,9 +120,9 @@ pub record IsPatternIn (old store : Nodes) (source : SourceRun) (found : Result 
   pub adds : OnOk found (AddsFile bytes old store)
   pub fault : IfErr found (Refuses MAX_LEVEL bytes)
 
--- why two files aren't compared in a form: one of them has too large a form
+-- why two files aren't compared in a form: one of their patterns has none
 abbrev pub RefusesSame : Form → List ℕ → List ℕ → Fault → Type 0
-RefusesSame form a b fault = (fault ≡ fault_of Full) × OneFileHasLargerForm form MAX_LEVEL (2 ^ 21) a b
+RefusesSame form a b fault = RefusesFormFor form (OneFileLacksForm form MAX_LEVEL (2 ^ 21) a b) fault
 
 -- Why two files aren't compared: the first isn't read; all of it was read, and the second isn't; all of both was read, and the first is no
 -- file, or it is one and the second isn't, or both are, and aren't compared in the form; or the store is full or memory is refused for the first, or, once all

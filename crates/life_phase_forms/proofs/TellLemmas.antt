@@ -13,7 +13,7 @@ use Rattle.life_forms.proofs.LeastFacts.{turned-on-plane, turned-shift-sym, turn
 use Rattle.life_forms.proofs.ShiftFacts.{same-refl, shift-trans, still}
 use Rattle.life_phases.specs.declared.period.Period.{Period}
 use Rattle.life_phase_forms.specs.Laws.{IsFileOfCourse, PhasesTextsAreFiles, PhasesTextsTellFiles}
-use Rattle.life_phase_forms.specs.OfFile.{SayOneCourse}
+use Rattle.life_phase_forms.specs.OfFile.{FileLeavesUnderway, IsPhasesTextOf, SayOneCourse}
 use Rattle.life_phase_forms.specs.Phases.{AreOfOneCourse, HasPhases, IsPhasesText, LeavesUnderway, begun, in_one_phase, in_two_phases, of_pattern, of_phases, phase}
 use Rattle.life_phase_forms.proofs.CourseLemmas.{comes-again, phase-adds, phase-turned, turned-of-shift, turned-trans}
 use Rattle.life_phase_forms.proofs.PlaneLemmas.{IsMovedToPlane, begun-on-plane, phase-on-plane}
@@ -149,3 +149,8 @@ module _ (tells : TextsTellUniverses MAX_LEVEL) where
 
     pub texts-are-files : PhasesTextsAreFiles
     texts-are-files most bytes text h = course-of most h.universe (on-plane bytes h.universe h.reads) h.stays text h.is
+
+-- the pattern of a file that has a text doesn't leave the plane before its period is found
+pub stays-of : FilesAreUnique MAX_LEVEL → (most : ℕ) (bytes text : List ℕ) → IsPhasesTextOf most bytes text → ¬ FileLeavesUnderway most bytes
+stays-of unique most bytes text is leave =
+    is.stays (subst (λ (u : Universe). LeavesUnderway most u) (unique (lines_of bytes) leave.0 is.universe leave.1 is.reads) leave.2)

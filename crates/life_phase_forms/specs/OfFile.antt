@@ -25,6 +25,10 @@ pub record RefusesPhasesOf (most : ℕ) (bytes : List ℕ) (fault : Fault) : Typ
   pub kind : fault ≡ fault_of OutOfPlane
   pub leaves : LeavesUnderway most universe
 
+-- the bytes are a file whose pattern leaves the plane before its period is found
+abbrev pub FileLeavesUnderway : (most : ℕ) → List ℕ → Type 0
+FileLeavesUnderway most bytes = (u : Universe) × Reads MAX_LEVEL bytes u × LeavesUnderway most u
+
 -- memory ran out; or a store is full, or the form of a phase has too many squares
 abbrev pub IsMemoryOrFull : Fault → Type 0
 IsMemoryOrFull fault = (fault ≡ fault_of Memory) ⊎ (fault ≡ fault_of Full)

@@ -9,5 +9,5 @@ pub use Rattle.life_later.specs.Stores.{IsKnownInShared, KeepsShared}
 pub use Rattle.life_leap.specs.After.{after}
 pub use Rattle.life_phases.specs.Periods.{IsLeastPeriod, LeavesFromMiddle}
 pub use Rattle.life_phase_forms.specs.Laws.{CoursesKeepPeriods, GenerationsKeepTurns, PhasesTextsAreFiles, PhasesTextsTellFiles}
-pub use Rattle.life_phase_forms.specs.OfFile.{IsPhasesTextOf, IsMemoryOrFull, RefusesPhases, SayOneCourse}
+pub use Rattle.life_phase_forms.specs.OfFile.{FileLeavesUnderway, IsPhasesTextOf, IsMemoryOrFull, RefusesPhases, SayOneCourse}
 pub use Rattle.life_phase_forms.specs.Phases.{begun, IsLeastOfPhases}

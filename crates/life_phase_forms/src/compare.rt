@@ -1,12 +1,13 @@
 //! Two patterns, compared up to their phases.
 
-ghost use Rattle.std.specs.Prelude.{◌≡◌, ◌↔◌, ◌⊎◌, IfOk, IfErr, IsTrue};
-ghost use Rattle.life_phase_forms.specs.Words.{ForEachFile, IsOfFile, RefusesPhases, SayOneCourse};
+ghost use Rattle.std.specs.Prelude.{◌≡◌, ◌↔◌, ◌⊎◌, IfOk, IfErr, OnOk, IsTrue};
+ghost use Rattle.life_phase_forms.specs.Words.{FileLeavesUnderway, ForEachFile, IsOfFile, RefusesPhases, SayOneCourse};
 
 use crate::laws::phases_texts_tell_files;
 use crate::texts::phases_text;
 use life_base::{Fault, MAX_LEVEL};
 use life_canon::Pattern;
+use life_canon::laws::files_are_unique;
 use life_quad::Shared;
 use std::alloc::Global;
 
@@ -35,9 +36,13 @@ pub fn are_phases(
     ensures answer { IfOk result (λ answer. ForEachFile store.now a.now
         (λ first. ForEachFile store.now b.now
         (λ second. IsTrue answer ↔ SayOneCourse most first second))) }
+    ensures stay { OnOk result (ForEachFile store.now a.now
+        (λ first. ForEachFile store.now b.now
+        (λ second. ¬ (FileLeavesUnderway most first ⊎ FileLeavesUnderway most second)))) }
     ensures refused { IfErr result (λ fault. RefusesPhases most store.now a.now fault
         ⊎ RefusesPhases most store.now b.now fault) }
 {
+    files_are_unique();
     phases_texts_tell_files();
     let first = phases_text(alloc, store, a, most)?;
     let second = phases_text(alloc, store, b, most)?;

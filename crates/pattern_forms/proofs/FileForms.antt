@@ -1,11 +1,10 @@
 -- From patterns in a store that are taken in a form to their files.
 use Rattle.std.proofs.Common.{◌≡◌, ◌↔◌, ◌∙◌, ℕ, ◌⊎◌, inl, inr, ap, sym, subst, Bool, List, Result, Ok, Err, IfOk, IfErr, OnOk, IsTrue}
-use Rattle.life_base.specs.Refusal.{OrMemory, fault_of}
+use Rattle.life_base.specs.Refusal.{OrMemory}
 use Rattle.life_base.specs.Rules.{IsRule}
 use Rattle.life_base.specs.Text.{lines_of}
 use Rattle.life_base.specs.declared.cell.TheConstants.{MAX_LEVEL}
 use Rattle.life_base.specs.declared.fault.Fault.{Fault}
-use Rattle.life_base.specs.declared.kind.Kind.TheVariants.{Full}
 use Rattle.life_quad.specs.Store.{Nodes}
 use Rattle.life_canon.specs.Files.{Reads}
 use Rattle.life_canon.specs.Laws.{FilesAreUnique, FilesAreOnPlane, PatternsFit}
@@ -13,9 +12,11 @@ use Rattle.life_canon.specs.Store.{ForEachFile, IsOfFile, IsRead, IsTrimmed, uni
 use Rattle.life_canon.specs.Universe.{Universe}
 use Rattle.life_canon.specs.declared.pattern.Pattern.{Pattern}
 use Rattle.life_canon.proofs.Sameness.{same-is_one}
-use Rattle.pattern_forms.specs.InForm.{FileHasLargerForm, ForEachTwoFiles, HasLargerFormIn, IsFormText, IsTextWithin, SayRelated}
+use Rattle.life_phase_forms.specs.OfFile.{FileLeavesUnderway, IsPhasesTextOf, RefusesPhases, SayOneCourse}
+use Rattle.life_phase_forms.specs.Phases.{AreOfOneCourse}
+use Rattle.pattern_forms.specs.InForm.{FileLacksForm, ForEachTwoFiles, IsFormText, IsTextWithin, LacksFormIn, OneFileLacksForm, OneLacksFormIn, RefusesFormFor, SayRelated}
 use Rattle.life_base.specs.declared.form.Form.{Form}
-use Rattle.life_base.specs.declared.form.Form.TheVariants.{Placed, Moved, Turned}
+use Rattle.life_base.specs.declared.form.Form.TheVariants.{Placed, Moved, Turned, Phases}
 
 -- neither of two, from what is known of each
 pub neither : {P Q : Type 0} → ¬ P × ¬ Q → P ⊎ Q → ⊥
@@ -26,6 +27,14 @@ neither none (inr q) = none.1 q
 pub in-any-case : {X P : Type 0} (r : Result X Fault) → P → OnOk r P
 in-any-case (Ok x) p = p
 in-any-case (Err fault) p = tt
+
+-- a refusal for one reason is one for another that follows from it
+pub for-reason : {P Q : Type 0} (form : Form) (fault : Fault) → (P → Q) → RefusesFormFor form P fault → RefusesFormFor form Q fault
+for-reason Placed fault to h = (h.0, to h.1)
+for-reason Moved fault to h = (h.0, to h.1)
+for-reason Turned fault to h = (h.0, to h.1)
+for-reason (Phases generations) fault to (inl h) = inl (h.0, to h.1)
+for-reason (Phases generations) fault to (inr full) = inr full
 
 module _ (fit : PatternsFit MAX_LEVEL) (store : Nodes) where
   pub is-trimmed : (p : Pattern) → IsOfFile MAX_LEVEL store p → IsTrimmed store p
@@ -42,31 +51,33 @@ module _ (fit : PatternsFit MAX_LEVEL) (store : Nodes) where
 
   module _ (form : Form) (most : ℕ) (p : Pattern) where
     -- a text of the pattern is that of its file
-    text-in : (text : List ℕ) → IsFormText form MAX_LEVEL (universe_in store p) text → ¬ HasLargerFormIn form most (universe_in store p)
+    text-in : (text : List ℕ) → IsFormText form MAX_LEVEL (universe_in store p) text → ¬ LacksFormIn form most (universe_in store p)
         → ForEachFile store p (λ bytes. IsTextWithin form MAX_LEVEL most bytes text)
-    text-in text is small bytes read = go form is small
+    text-in text is has bytes read = go form is has
       where
         u : Universe
         u = universe_in store p
 
-        go : (f : Form) → IsFormText f MAX_LEVEL u text → ¬ HasLargerFormIn f most u → IsTextWithin f MAX_LEVEL most bytes text
-        go Placed is small = record { universe = u; reads = says p bytes read; is = is }
-        go Moved is small = record { universe = u; reads = says p bytes read; small = small; is = is }
-        go Turned is small = record { universe = u; reads = says p bytes read; small = small; is = is }
+        go : (f : Form) → IsFormText f MAX_LEVEL u text → ¬ LacksFormIn f most u → IsTextWithin f MAX_LEVEL most bytes text
+        go Placed is has = record { universe = u; reads = says p bytes read; is = is }
+        go Moved is has = record { universe = u; reads = says p bytes read; has = has; is = is }
+        go Turned is has = record { universe = u; reads = says p bytes read; has = has; is = is }
+        go (Phases generations) is has = record { universe = u; reads = says p bytes read; has = has; is = is }
 
     pub form-text : {X : Type 0} (items : X → List ℕ) (r : Result X Fault) → IfOk r (λ x. IsFormText form MAX_LEVEL (universe_in store p) (items x))
-        → OnOk r (¬ HasLargerFormIn form most (universe_in store p))
+        → OnOk r (¬ LacksFormIn form most (universe_in store p))
         → IfOk r (λ x. ForEachFile store p (λ bytes. IsTextWithin form MAX_LEVEL most bytes (items x)))
     form-text items (Ok x) is small = text-in (items x) is small
     form-text items (Err fault) is small = tt
 
     -- why there is none
     pub form-fault : {X : Type 0} (r : Result X Fault)
-        → IfErr r (λ fault. OrMemory fault ((fault ≡ fault_of Full) × HasLargerFormIn form most (universe_in store p)))
-        → IfErr r (λ fault. OrMemory fault (ForEachFile store p (λ bytes. (fault ≡ fault_of Full) × FileHasLargerForm form MAX_LEVEL most bytes)))
+        → IfErr r (λ fault. OrMemory fault (RefusesFormFor form (LacksFormIn form most (universe_in store p)) fault))
+        → IfErr r (λ fault. OrMemory fault (ForEachFile store p (λ bytes. RefusesFormFor form (FileLacksForm form MAX_LEVEL most bytes) fault)))
     form-fault (Ok x) why = tt
     form-fault (Err fault) (inl memory) = inl memory
-    form-fault (Err fault) (inr large) = inr (λ bytes read. (large.0, (universe_in store p, says p bytes read, large.1)))
+    form-fault (Err fault) (inr why) =
+        inr (λ bytes read. for-reason form fault (λ lacks. (universe_in store p, says p bytes read, lacks)) why)
 
   -- what two patterns are to each other, their files are
   module _ (relates : Universe → Universe → Type 0) (p q : Pattern) where
@@ -98,9 +109,59 @@ module _ (fit : PatternsFit MAX_LEVEL) (store : Nodes) where
     two-small unique (Ok answer) none = λ a b one other are. none (are-related unique a b one other are)
     two-small unique (Err fault) none = tt
 
-    pub two-fault : (r : Result Bool Fault)
-        → IfErr r (λ fault. OrMemory fault ((fault ≡ fault_of Full) × relates (universe_in store p) (universe_in store q)))
-        → IfErr r (λ fault. OrMemory fault (ForEachTwoFiles store p q (λ a b. (fault ≡ fault_of Full) × SayRelated relates MAX_LEVEL a b)))
-    two-fault (Ok answer) why = tt
-    two-fault (Err fault) (inl memory) = inl memory
-    two-fault (Err fault) (inr large) = inr (λ a b one other. (large.0, related large.1 a b one other))
+    pub two-fault : (form : Form) (r : Result Bool Fault)
+        → IfErr r (λ fault. OrMemory fault (RefusesFormFor form (relates (universe_in store p) (universe_in store q)) fault))
+        → IfErr r (λ fault. OrMemory fault (ForEachTwoFiles store p q (λ a b. RefusesFormFor form (SayRelated relates MAX_LEVEL a b) fault)))
+    two-fault form (Ok answer) why = tt
+    two-fault form (Err fault) (inl memory) = inl memory
+    two-fault form (Err fault) (inr why) = inr (λ a b one other. for-reason form fault (λ holds. related holds a b one other) why)
+
+-- ---- for all phases
+
+module _ (generations most : ℕ) where
+  pub phases-text : (bytes text : List ℕ) → IsPhasesTextOf generations bytes text → IsTextWithin (Phases generations) MAX_LEVEL most bytes text
+  phases-text bytes text is = record { universe = is.universe; reads = is.reads; has = is.stays; is = is.is }
+
+  pub phases-fault : (store : Nodes) (p : Pattern) (fault : Fault) → RefusesPhases generations store p fault
+      → OrMemory fault (ForEachFile store p (λ bytes. RefusesFormFor (Phases generations) (FileLacksForm (Phases generations) MAX_LEVEL most bytes) fault))
+  phases-fault store p fault (inl (inl memory)) = inl memory
+  phases-fault store p fault (inl (inr full)) = inr (λ bytes read. inr full)
+  phases-fault store p fault (inr leaves) = inr (λ bytes read. let why = leaves bytes read in inl (why.kind, (why.universe, why.reads, why.leaves)))
+
+  pub one-course : (a b : List ℕ) → SayOneCourse generations a b ↔ SayRelated (AreOfOneCourse generations) MAX_LEVEL a b
+  one-course a b = (
+    λ s. record { first = s.first; second = s.second; reads_first = s.reads_first; reads_second = s.reads_second; related = s.course },
+    λ s. record { first = s.first; second = s.second; reads_first = s.reads_first; reads_second = s.reads_second; course = s.related },
+  )
+
+  pub both-stay : (a b : List ℕ) → ¬ (FileLeavesUnderway generations a ⊎ FileLeavesUnderway generations b)
+      → ¬ OneFileLacksForm (Phases generations) MAX_LEVEL most a b
+  both-stay a b stay lacks = elim lacks.related [
+    | inl leaves ↦ stay (inl (lacks.first, lacks.reads_first, leaves))
+    | inr leaves ↦ stay (inr (lacks.second, lacks.reads_second, leaves))
+  ]
+
+  module _ (fit : PatternsFit MAX_LEVEL) (store : Nodes) (p q : Pattern) where
+    pub two-phases-fault : (fault : Fault) → RefusesPhases generations store p fault ⊎ RefusesPhases generations store q fault
+        → OrMemory fault (ForEachTwoFiles store p q (λ a b. RefusesFormFor (Phases generations)
+        (OneFileLacksForm (Phases generations) MAX_LEVEL most a b) fault))
+    two-phases-fault fault (inl (inl (inl memory))) = inl memory
+    two-phases-fault fault (inl (inl (inr full))) = inr (λ a b one other. inr full)
+    two-phases-fault fault (inl (inr leaves)) = inr (λ a b one other.
+        let why = leaves a one in inl (why.kind, record {
+          first = why.universe;
+          second = universe_in store q;
+          reads_first = why.reads;
+          reads_second = says fit store q b other;
+          related = inl why.leaves;
+        }))
+    two-phases-fault fault (inr (inl (inl memory))) = inl memory
+    two-phases-fault fault (inr (inl (inr full))) = inr (λ a b one other. inr full)
+    two-phases-fault fault (inr (inr leaves)) = inr (λ a b one other.
+        let why = leaves b other in inl (why.kind, record {
+          first = universe_in store p;
+          second = why.universe;
+          reads_first = says fit store p a one;
+          reads_second = why.reads;
+          related = inr why.leaves;
+        }))

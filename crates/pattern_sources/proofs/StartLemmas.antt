@@ -13,14 +13,15 @@ use Rattle.life_canon.specs.Store.{IsRead}
 use Rattle.life_canon.specs.Universe.{IsOnPlane, Universe, macrocell_universe, whole}
 use Rattle.life_canon.specs.declared.pattern.Pattern.{Pattern}
 use Rattle.life_forms.specs.Needed.{HasLargerForm, SomeOfMovedForm}
-use Rattle.pattern_forms.specs.InForm.{HasLargerFormIn}
+use Rattle.pattern_forms.specs.InForm.{LacksFormIn}
 use Rattle.life_forms.specs.Turns.{image}
-use Rattle.pattern_sources.specs.Forms.{at_start, FileHasLargeForm, IsTextAtStart, IsTextIn}
+use Rattle.pattern_sources.specs.Forms.{at_start, LacksForm, IsTextAtStart, IsTextIn}
 use Rattle.pattern_sources.specs.Sources.{RefusesInForm}
 use Rattle.life_base.specs.declared.form.Form.{Form}
-use Rattle.life_base.specs.declared.form.Form.TheVariants.{Placed, Moved, Turned}
+use Rattle.life_base.specs.declared.form.Form.TheVariants.{Placed, Moved, Turned, Phases}
 use Rattle.life_canon.proofs.Sameness.{same-is_one}
 use Rattle.life_forms.proofs.SizeFacts.{needs-more}
+use Rattle.pattern_forms.proofs.FileForms.{for-reason}
 
 -- the pattern in the store, with generation 0
 abbrev pub with_start : Pattern → Pattern
@@ -53,10 +54,11 @@ larger_moved most u =
       subst (SomePart P) (whole_in u.generation some.0) some.2,
     ))
 
-larger_at : (form : Form) (most : ℕ) (u : Universe) → HasLargerFormIn form most (at_start u) → HasLargerFormIn form most u
-larger_at Placed most u large = large
-larger_at Moved most u large = larger_moved most u large
-larger_at Turned most u large = (large.0, larger_moved most (image large.0 u) large.1)
+lacks_at : (form : Form) (most : ℕ) (u : Universe) → LacksFormIn form most (at_start u) → LacksFormIn form most u
+lacks_at Placed most u large = large
+lacks_at Moved most u large = larger_moved most u large
+lacks_at Turned most u large = (large.0, larger_moved most (image large.0 u) large.1)
+lacks_at (Phases generations) most u leaves = record { rule = leaves.rule; under = leaves.under; leaves = leaves.leaves }
 
 start_on_plane : (u : Universe) → IsOnPlane MAX_LEVEL u → IsOnPlane MAX_LEVEL (at_start u)
 start_on_plane u h = record { rule = h.rule; generation = lit< tt; states = h.states; outside = h.outside }
@@ -108,17 +110,17 @@ module _ (texts : TextsAreFiles MAX_LEVEL) (plane : FilesAreOnPlane MAX_LEVEL) w
       says_start u reads =
           unique (lines_of (start_text read.universe)) u (at_start read.universe) reads (start_says bytes read.universe read.reads)
 
-      -- its form is no larger than that of the pattern
-      large_start : (form : Form) → FileHasLargeForm form MAX_LEVEL (start_text read.universe) → FileHasLargeForm form MAX_LEVEL bytes
-      large_start form large = (
+      -- if it has no text in a form, the pattern has none
+      lacks_start : (form : Form) → LacksForm form MAX_LEVEL (start_text read.universe) → LacksForm form MAX_LEVEL bytes
+      lacks_start form large = (
         read.universe,
         read.reads,
-        larger_at form (2 ^ 21) read.universe (subst (λ (u : Universe). HasLargerFormIn form (2 ^ 21) u) (says_start large.0 large.1) large.2),
+        lacks_at form (2 ^ 21) read.universe (subst (λ (u : Universe). LacksFormIn form (2 ^ 21) u) (says_start large.0 large.1) large.2),
       )
 
       refuses_start : (form : Form) (fault : Fault) → RefusesInForm form (start_text read.universe) fault → RefusesInForm form bytes fault
       refuses_start form fault (inl refuses) = absurd (refuses.refused (at_start read.universe, start_says bytes read.universe read.reads))
-      refuses_start form fault (inr large) = inr (large.0, large_start form large.1)
+      refuses_start form fault (inr why) = inr (for-reason form fault (lacks_start form) why)
 
     -- and it is refused only as the pattern's file
     pub refused_at_start : {X : Type 0} (form : Form) (r : Result X Fault) → FilesAreUnique MAX_LEVEL

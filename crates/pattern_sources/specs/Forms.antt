@@ -2,16 +2,16 @@
 use Rattle.std.specs.Prelude.{ℕ, ◌^◌, List}
 use Rattle.life_canon.specs.Files.{Reads}
 use Rattle.life_canon.specs.Universe.{Universe}
-use Rattle.pattern_forms.specs.InForm.{FileHasLargerForm, IsTextWithin}
+use Rattle.pattern_forms.specs.InForm.{FileLacksForm, IsTextWithin}
 use Rattle.life_base.specs.declared.form.Form.{Form}
 
--- the bytes are a file whose form has no more than 2^21 different squares, and this is the text of its pattern in the form
+-- the bytes are a file whose pattern has a text in the form, of no more than 2^21 different squares, and this is the text
 abbrev pub IsTextIn : Form → ℕ → List ℕ → List ℕ → Type 0
 IsTextIn form top = IsTextWithin form top (2 ^ 21)
 
--- the bytes are a file whose form has more
-abbrev pub FileHasLargeForm : Form → ℕ → List ℕ → Type 0
-FileHasLargeForm form top = FileHasLargerForm form top (2 ^ 21)
+-- the bytes are a file whose pattern has no text in the form
+abbrev pub LacksForm : Form → ℕ → List ℕ → Type 0
+LacksForm form top = FileLacksForm form top (2 ^ 21)
 
 -- the same rule and cells, in generation 0
 abbrev pub at_start : Universe → Universe

@@ -16,7 +16,8 @@ use Rattle.life_canon.specs.Running.{LacksForRead}
 use Rattle.life_canon.specs.Store.{IsShortageOf}
 use Rattle.life_canon.specs.Texts.{FileHasMoreCells}
 use Rattle.life_base.specs.declared.form.Form.{Form}
-use Rattle.pattern_sources.specs.Forms.{FileHasLargeForm}
+use Rattle.pattern_forms.specs.InForm.{RefusesFormFor}
+use Rattle.pattern_sources.specs.Forms.{LacksForm}
 
 -- why an input isn't read to its end: too much came, or the source failed
 pub data InputRefuses (source : SourceRun) (fault : Fault) : Type 0 where
@@ -94,6 +95,6 @@ HoldsOneFile bytes = HoldsNoneBut (IsSquareOfFile bytes)
 abbrev pub RefusesMany : List ℕ → Fault → Type 0
 RefusesMany bytes fault = Refuses MAX_LEVEL bytes fault ⊎ ((fault ≡ fault_of TooManyCells) × FileHasMoreCells MAX_LEVEL bytes (2 ^ 20))
 
--- why bytes have no text in a form: they are no file, or one whose form is too large
+-- why bytes have no text in a form: they are no file, or one whose pattern has none in the form
 abbrev pub RefusesInForm : Form → List ℕ → Fault → Type 0
-RefusesInForm form bytes fault = Refuses MAX_LEVEL bytes fault ⊎ ((fault ≡ fault_of Full) × FileHasLargeForm form MAX_LEVEL bytes)
+RefusesInForm form bytes fault = Refuses MAX_LEVEL bytes fault ⊎ RefusesFormFor form (LacksForm form MAX_LEVEL bytes) fault

@@ -32,7 +32,7 @@ pub returns-clause-small : goal.returns-clause-small
 returns-clause-small c =
     IfOk-weaker c.same_in.result _ _ (λ answer small limit fresh. both-small c.args.form limit c.args.first.now c.args.second.now c.read_both.new.store
     (c.read_both.ensures.limit ∙ fresh.most) (small c.args.first.now c.args.second.now c.in_ok-a.ensures.one c.in_ok-a.ensures.other))
-    c.same_in.ensures.small
+    c.same_in.ensures.have
 
 pub returns-clause-fits : goal.returns-clause-fits
 returns-clause-fits c =

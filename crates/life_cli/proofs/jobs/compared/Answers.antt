@@ -51,7 +51,7 @@ returns-clause-ok g c =
     (c.pattern_in-2.ensures.keeps.limit ∙ c.pattern_in.ensures.keeps.limit ∙ c.seeded-store.ensures.most) c.in_ok-a.ensures.pattern.read
     c.in_ok-b.ensures.pattern.read
     (c.patterns_stay.ensures _ _ _ _ c.pattern_in-2.ensures.keeps (rw c.in_ok-a-2.was at c.in_ok-a.ensures.pattern.pattern))
-    (rw c.in_ok-b-2.was at c.in_ok-b.ensures.pattern.pattern) c.same_in.result c.same_in.ensures.answer c.same_in.ensures.small
+    (rw c.in_ok-b-2.was at c.in_ok-b.ensures.pattern.pattern) c.same_in.result c.same_in.ensures.answer c.same_in.ensures.have
 
 pub returns-clause-err : goal.returns-clause-err
 returns-clause-err g c =

@@ -1,5 +1,6 @@
-use Rattle.std.proofs.Common.{inr, sym, ◌∙◌}
+use Rattle.std.proofs.Common.{inl, inr, sym, ◌∙◌}
 use Rattle.std.proofs.lemmas.Result.{err_from_is_err_and}
+use Rattle.life_phase_forms.proofs.TellLemmas.{stays-of}
 use Rattle.life_phase_forms.proofs.compare.are_phases.Goals as goal
 
 pub returns-clause-answer : goal.returns-clause-answer
@@ -10,6 +11,13 @@ returns-clause-answer c = λ first r second s.
     let one = c.deref.ensures.value in
     let two = c.deref-2.ensures.value in
     (λ t. tell.0 (sym one ∙ test.0 t ∙ two), λ h. test.1 (one ∙ tell.1 h ∙ sym two))
+
+pub returns-clause-stay : goal.returns-clause-stay
+returns-clause-stay c = λ first r second s leave.
+    elim leave [
+      | inl one ↦ stays-of c.files_are_unique.ensures c.args.most first c.in_ok-first.first.items (c.in_ok-first.ensures.text first r) one
+      | inr two ↦ stays-of c.files_are_unique.ensures c.args.most second c.in_ok-second.second.items (c.in_ok-second.ensures.text second s) two
+    ]
 
 pub returns-in_err-second-clause-refused : goal.returns-in_err-second-clause-refused
 returns-in_err-second-clause-refused c =

@@ -1,9 +1,9 @@
 use Rattle.std.proofs.Common.{inl, inr}
 use Rattle.std.proofs.lemmas.Result.{IfErr-weaker, IfOk-weaker}
 use Rattle.life_forms.specs.Forms.{IsShift, IsTurnedShift}
-use Rattle.pattern_forms.specs.InForm.{most_of_form, OneHasLargerFormIn}
+use Rattle.pattern_forms.specs.InForm.{OneLacksFormIn, most_of_form}
 use Rattle.life_base.specs.declared.form.Form.TheVariants.{Moved, Turned}
-use Rattle.pattern_forms.proofs.FileForms.{is-rule, is-trimmed, neither, two-answers, two-fault, two-small}
+use Rattle.pattern_forms.proofs.FileForms.{both-stay, is-rule, is-trimmed, neither, one-course, two-answers, two-fault, two-phases-fault, two-small}
 use Rattle.pattern_forms.proofs.forms.same_in.Goals as goal
 
 pub are_shifts-requires-clause-a : goal.are_shifts-requires-clause-a
@@ -30,40 +30,57 @@ returns-in-Placed-clause-answer c =
     let reported = c.patterns_tell_files.ensures first second c.args.store.now c.args.a.now c.args.b.now p q in
     (λ h. reported.0 (c.are_same.ensures.0 h), λ s. c.are_same.ensures.1 (reported.1 s)))
 
-pub returns-in-Placed-clause-small : goal.returns-in-Placed-clause-small
-returns-in-Placed-clause-small c = rw c.in-Placed.is (λ first second p q large. large.related)
+pub returns-in-Placed-clause-have : goal.returns-in-Placed-clause-have
+returns-in-Placed-clause-have c = rw c.in-Placed.is (λ first second p q large. large.related)
 
 pub returns-in-Moved-clause-answer : goal.returns-in-Moved-clause-answer
 returns-in-Moved-clause-answer c =
     rw c.in-Moved.is (two-answers c.patterns_fit.ensures c.args.store.now IsShift c.args.a.now c.args.b.now c.files_are_unique.ensures c.are_shifts.result
     c.are_shifts.ensures.answer)
 
-pub returns-in-Moved-clause-small : goal.returns-in-Moved-clause-small
-returns-in-Moved-clause-small c =
-    rw c.in-Moved.is (two-small c.patterns_fit.ensures c.args.store.now (OneHasLargerFormIn Moved (most_of_form c.args.store.now)) c.args.a.now c.args.b.now
+pub returns-in-Moved-clause-have : goal.returns-in-Moved-clause-have
+returns-in-Moved-clause-have c =
+    rw c.in-Moved.is (two-small c.patterns_fit.ensures c.args.store.now (OneLacksFormIn Moved (most_of_form c.args.store.now)) c.args.a.now c.args.b.now
     c.files_are_unique.ensures c.are_shifts.result
     (IfOk-weaker c.are_shifts.result _ _ (λ answer small. neither small) c.are_shifts.ensures.small))
 
 pub returns-in-Moved-clause-fault : goal.returns-in-Moved-clause-fault
 returns-in-Moved-clause-fault c =
-    rw c.in-Moved.is (two-fault c.patterns_fit.ensures c.args.store.now (OneHasLargerFormIn Moved (most_of_form c.args.store.now)) c.args.a.now c.args.b.now
-    c.are_shifts.result c.are_shifts.ensures.fault)
+    rw c.in-Moved.is (two-fault c.patterns_fit.ensures c.args.store.now (OneLacksFormIn Moved (most_of_form c.args.store.now)) c.args.a.now c.args.b.now
+    Moved c.are_shifts.result c.are_shifts.ensures.fault)
 
 pub returns-in-Turned-clause-answer : goal.returns-in-Turned-clause-answer
 returns-in-Turned-clause-answer c =
     rw c.in-Turned.is (two-answers c.patterns_fit.ensures c.args.store.now IsTurnedShift c.args.a.now c.args.b.now c.files_are_unique.ensures
     c.are_turns.result c.are_turns.ensures.answer)
 
-pub returns-in-Turned-clause-small : goal.returns-in-Turned-clause-small
-returns-in-Turned-clause-small c =
-    rw c.in-Turned.is (two-small c.patterns_fit.ensures c.args.store.now (OneHasLargerFormIn Turned (most_of_form c.args.store.now)) c.args.a.now c.args.b.now
+pub returns-in-Turned-clause-have : goal.returns-in-Turned-clause-have
+returns-in-Turned-clause-have c =
+    rw c.in-Turned.is (two-small c.patterns_fit.ensures c.args.store.now (OneLacksFormIn Turned (most_of_form c.args.store.now)) c.args.a.now c.args.b.now
     c.files_are_unique.ensures c.are_turns.result
     (IfOk-weaker c.are_turns.result _ _ (λ answer small large. neither (small large.0) large.1) c.are_turns.ensures.small))
 
 pub returns-in-Turned-clause-fault : goal.returns-in-Turned-clause-fault
 returns-in-Turned-clause-fault c =
-    rw c.in-Turned.is (two-fault c.patterns_fit.ensures c.args.store.now (OneHasLargerFormIn Turned (most_of_form c.args.store.now)) c.args.a.now c.args.b.now
-    c.are_turns.result (IfErr-weaker c.are_turns.result _ _ (λ fault why. elim why [
+    rw c.in-Turned.is (two-fault c.patterns_fit.ensures c.args.store.now (OneLacksFormIn Turned (most_of_form c.args.store.now)) c.args.a.now c.args.b.now
+    Turned c.are_turns.result (IfErr-weaker c.are_turns.result _ _ (λ fault why. elim why [
       | inl memory ↦ inl memory
       | inr large ↦ inr (large.0, (large.1, large.2))
     ]) c.are_turns.ensures.fault))
+
+pub returns-in-Phases-clause-answer : goal.returns-in-Phases-clause-answer
+returns-in-Phases-clause-answer c =
+    rw c.in-Phases.is (IfOk-weaker c.are_phases.result _ _ (λ answer is a b one other.
+    let same = one-course c.in-Phases.most (most_of_form c.args.store.now) a b in
+    (λ yes. same.0 ((is a one b other).0 yes), λ are. (is a one b other).1 (same.1 are))) c.are_phases.ensures.answer)
+
+pub returns-in-Phases-clause-have : goal.returns-in-Phases-clause-have
+returns-in-Phases-clause-have c =
+    rw c.in-Phases.is (IfOk-weaker c.are_phases.result _ _ (λ answer stay a b one other.
+    both-stay c.in-Phases.most (most_of_form c.args.store.now) a b (stay a one b other)) c.are_phases.ensures.stay)
+
+pub returns-in-Phases-clause-fault : goal.returns-in-Phases-clause-fault
+returns-in-Phases-clause-fault c =
+    rw c.in-Phases.is (IfErr-weaker c.are_phases.result _ _
+    (two-phases-fault c.in-Phases.most (most_of_form c.args.store.now) c.patterns_fit.ensures c.args.store.now c.args.a.now c.args.b.now)
+    c.are_phases.ensures.refused)

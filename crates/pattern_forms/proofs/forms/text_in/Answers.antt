@@ -1,6 +1,7 @@
+use Rattle.std.proofs.lemmas.Result.{IfErr-weaker, IfOk-weaker}
 use Rattle.pattern_forms.specs.InForm.{most_of_form}
 use Rattle.life_base.specs.declared.form.Form.TheVariants.{Placed, Moved, Turned}
-use Rattle.pattern_forms.proofs.FileForms.{form-fault, form-text, in-any-case, is-trimmed}
+use Rattle.pattern_forms.proofs.FileForms.{form-fault, form-text, in-any-case, is-trimmed, phases-fault, phases-text}
 use Rattle.pattern_forms.proofs.forms.text_in.Goals as goal
 
 pub text_of-requires : goal.text_of-requires
@@ -34,3 +35,13 @@ returns-in-Moved-clause-fault c =
 pub returns-in-Turned-clause-fault : goal.returns-in-Turned-clause-fault
 returns-in-Turned-clause-fault c =
     rw c.in-Turned.is (form-fault c.patterns_fit.ensures _ Turned (most_of_form c.args.store.now) _ c.turned_text.result c.turned_text.ensures.fault)
+
+pub returns-in-Phases-clause-text : goal.returns-in-Phases-clause-text
+returns-in-Phases-clause-text c =
+    rw c.in-Phases.is (IfOk-weaker c.phases_text.result _ _ (λ text is bytes read.
+    phases-text c.in-Phases.most (most_of_form c.args.store.now) bytes text.items (is bytes read)) c.phases_text.ensures.text)
+
+pub returns-in-Phases-clause-fault : goal.returns-in-Phases-clause-fault
+returns-in-Phases-clause-fault c =
+    rw c.in-Phases.is (IfErr-weaker c.phases_text.result _ _
+    (phases-fault c.in-Phases.most (most_of_form c.args.store.now) c.args.store.now c.args.pattern.now) c.phases_text.ensures.refused)
