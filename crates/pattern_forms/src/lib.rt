@@ -1,4 +1,4 @@
-//! Patterns in the form that a caller chooses: in their place, moved, or turned.
+//! Patterns in the form that a caller chooses: in their place, moved, turned, or for all their phases.
 //!
 //! This crate answers what the text of a pattern is in a [`Form`], and whether two patterns are the same in it. Whoever has a form as a value comes here, so
 //! that the cases of the form are in one place.
@@ -14,9 +14,10 @@
 //! Placed        different
 //! Moved         different
 //! Turned        same
+//! Phases(4)     same
 //! ```
 //!
-//! It doesn't know how a form is made, which is the work of `life_forms`. Above it, `pattern_sources` and `life_cli` do what the program is asked for, and
+//! It doesn't know how a form is made, which is the work of `life_forms` and `life_phase_forms`. Above it, `pattern_sources` and `life_cli` do what the program is asked for, and
 //! `library_calls` what C asks for.
 //!
 //! Read first: `specs/InForm.antt`, and `src/forms.rt`.

@@ -14,8 +14,7 @@ use std::alloc::Global;
 ///
 /// # Errors
 ///
-/// Those of `pattern_of`, and `Full` where the form isn't `Placed` and has more than 2^21 different squares; if it is `Turned`, where the moved form of one
-/// of the eight images has more.
+/// Those of `pattern_of`, and those of `text_in` of `pattern_forms`, where a form has at most 2^21 different squares.
 pub fn text_of_source<A: Source>(
     alloc: Global,
     seeds: &Seeds,
