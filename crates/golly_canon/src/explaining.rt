@@ -160,8 +160,8 @@ fn advice(kind: Kind) -> &'static str {
     }
 }
 
-/// What is said of a fault, and what helps against it: in `show --period` of a rule that is a name, and of a pattern that leaves the plane, other than in a
-/// step.
+/// What is said of a fault, and what helps against it: where a period is sought, of a rule that is a name, and of a pattern that leaves the plane, other than in
+/// a step.
 fn sentences_of(task: Task, fault: &Fault) -> (&'static str, &'static str) {
     match (task, fault.kind) {
         (Task::ShowPeriod(_), Kind::NeedsTable) => (
@@ -171,6 +171,11 @@ fn sentences_of(task: Task, fault: &Fault) -> (&'static str, &'static str) {
         (Task::ShowPeriod(_), Kind::OutOfPlane) if fault.place.line == 0 => (
             "Before it is the same again, the pattern grows out of the plane, which goes from -2^61 to 2^61 - 1.",
             "",
+        ),
+        (Task::Canon(Form::Phases(_)) | Task::Same(Form::Phases(_)), Kind::OutOfPlane)
+            if fault.place.line == 0 => (
+            "Before it is the same again, the pattern grows out of the plane, which goes from -2^61 to 2^61 - 1.",
+            "Take --form turned, or a smaller number after --within.",
         ),
         (_, kind) => (sentence(kind), advice(kind)),
     }

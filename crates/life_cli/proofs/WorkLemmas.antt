@@ -327,9 +327,11 @@ unwritten (Canon Moved) first second output made refusal other makes broken =
     (broken.0, broken_text (IsTextIn Moved MAX_LEVEL) (RefusesInForm Moved) first output _ _ refusal.fault makes.first_read makes.writes.1 broken.1)
 unwritten (Canon Turned) first second output made refusal other makes broken =
     (broken.0, broken_text (IsTextIn Turned MAX_LEVEL) (RefusesInForm Turned) first output _ _ refusal.fault makes.first_read makes.writes.1 broken.1)
-unwritten (Canon (Phases most)) first second output made refusal other makes broken =
-    (broken.0, broken_text (IsTextIn (Phases most) MAX_LEVEL) (RefusesInForm (Phases most)) first output _ _ refusal.fault makes.first_read makes.writes.1
-    broken.1)
+unwritten (Canon (Phases most)) first second output made refusal other makes broken = (
+  broken.0,
+  broken_text (IsTextIn (Phases most) MAX_LEVEL) (RefusesInForm (Phases most)) first output _ _ refusal.fault makes.first_read makes.writes.1
+      broken.1,
+)
 unwritten (Convert Rle) first second output made refusal other makes broken =
     (broken.0, broken_text (IsRleOf MAX_LEVEL (2 ^ 20)) RefusesMany first output _ _ refusal.fault makes.first_read makes.writes.1 broken.1)
 unwritten (Convert Mc) first second output made refusal other makes broken = absurd (other tt)

@@ -148,20 +148,26 @@ module _ (generations most : ℕ) where
     two-phases-fault fault (inl (inl (inl memory))) = inl memory
     two-phases-fault fault (inl (inl (inr full))) = inr (λ a b one other. inr full)
     two-phases-fault fault (inl (inr leaves)) = inr (λ a b one other.
-        let why = leaves a one in inl (why.kind, record {
-          first = why.universe;
-          second = universe_in store q;
-          reads_first = why.reads;
-          reads_second = says fit store q b other;
-          related = inl why.leaves;
-        }))
+        let why = leaves a one in inl (
+          why.kind,
+          record {
+            first = why.universe;
+            second = universe_in store q;
+            reads_first = why.reads;
+            reads_second = says fit store q b other;
+            related = inl why.leaves;
+          },
+        ))
     two-phases-fault fault (inr (inl (inl memory))) = inl memory
     two-phases-fault fault (inr (inl (inr full))) = inr (λ a b one other. inr full)
     two-phases-fault fault (inr (inr leaves)) = inr (λ a b one other.
-        let why = leaves b other in inl (why.kind, record {
-          first = universe_in store p;
-          second = why.universe;
-          reads_first = says fit store p a one;
-          reads_second = why.reads;
-          related = inr why.leaves;
-        }))
+        let why = leaves b other in inl (
+          why.kind,
+          record {
+            first = universe_in store p;
+            second = why.universe;
+            reads_first = says fit store p a one;
+            reads_second = why.reads;
+            related = inr why.leaves;
+          },
+        ))
