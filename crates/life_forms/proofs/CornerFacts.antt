@@ -7,15 +7,11 @@ use Rattle.life_base.specs.declared.bounds.Bounds.{Bounds}
 use Rattle.life_base.specs.declared.cell.TheConstants.{MAX_LEVEL}
 use Rattle.life_base.specs.declared.rule.Rule.{Rule}
 use Rattle.life_base.specs.declared.rule.Rule.TheVariants.{Life, Named}
-use Rattle.life_mc.specs.Macrocell.{largest_state}
 use Rattle.life_mc.specs.Squares.{HasStatesUpTo}
 use Rattle.life_quad.specs.Cells.{IsBoundingBoxOfTree}
-use Rattle.life_quad.specs.Store.{Nodes, eight}
-use Rattle.life_quad.specs.declared.id.Id.{Id}
-use Rattle.life_quad.proofs.LawLemmas.{cells_lie_inside, known_squares_are_full, trimming_stops}
-use Rattle.life_canon.specs.Store.{IsKnown, IsTrimmed, content}
+use Rattle.life_quad.specs.Store.{eight}
+use Rattle.life_quad.proofs.LawLemmas.{cells_lie_inside}
 use Rattle.life_slide.specs.Pieces.{IsNearMiddle}
-use Rattle.life_forms.proofs.PatternFacts.{square-up-to}
 use Rattle.life_quad.specs.Moves.{trimmed_square}
 use Rattle.life_quad.specs.Turning.{turned_tree}
 use Rattle.life_quad.proofs.TurningLemmas.{blank-image}
@@ -418,18 +414,3 @@ module _ (t : Tree) (box : Bounds) (least : IsBoundingBoxOfTree t box) (deep : 3
         | inl a ↦ omega (arith, ints, n, s, a, from, to)
         | inr a ↦ omega (arith, ints, n, s, a, from, to)
       ]))
-
--- it is in its least square
-pub leaf-trimmed : (store : Nodes) (rule other : Rule) (generation : ℕ) (root : Id) → IsKnown store root → depth (content store root) ≡ 3
-    → is_life other ≡ true → rule ≡ other → (cell : ℤ → ℤ → ℕ) (x y : ℤ) → content store root ≡ square cell 3 x y
-    → ((u v : ℤ) → cell u v ≤ largest_state other) → IsTrimmed store (record { rule = rule; generation = generation; root = root })
-leaf-trimmed store rule other generation root known level life same cell x y is states =
-    let low : least_level rule ≡ 3 = ap least_level same ∙ life-low other life in
-    let full = (known_squares_are_full store root known.0).0 in
-    record {
-      known = known;
-      level = omega (arith, low, level);
-      trimmed = (trimming_stops (content store root) (least_level rule) full (omega (arith, low))).1 (omega (arith, low, level));
-      states = subst (λ (r : Rule). HasStatesUpTo (largest_state r) (content store root)) (sym same)
-          (subst (HasStatesUpTo (largest_state other)) (sym is) (square-up-to (largest_state other) cell states 3 x y));
-    }

@@ -1,5 +1,5 @@
 -- The cells of a square of the plane, and their way into their place.
-use Rattle.std.proofs.Common.{◌≡◌, ◌≢◌, ℕ, ◌-◌, ◌≤◌, ◌^◌, Bool, true, false, refl, ap, ℤ, pos, neg_ℤ, ◌+ℤ◌, ◌≤ℤ◌, arith, pow_mono, List, if◌then◌else◌, to_z, of_z, w64, SFits}
+use Rattle.std.proofs.Common.{◌≡◌, ◌≢◌, ℕ, ◌-◌, ◌≤◌, ◌^◌, Bool, true, false, refl, ap, ℤ, pos, neg_ℤ, ◌+ℤ◌, ◌≤ℤ◌, arith, pow_mono, List, if◌then◌else◌, to_z, of_z, w64}
 use Rattle.std.proofs.lemmas.Int.{ints}
 use Rattle.life_base.specs.Tree.{Tree, depth, tree_cell, half_side, is_blank_tree, state_at, point, quad}
 use Rattle.life_base.specs.declared.bounds.Bounds.{Bounds}
@@ -134,15 +134,6 @@ form-outside t rule generation v low moved x y out =
     let u = square_universe rule generation t in
     let before = outside-blank t low in
     zero_unless _ (λ some. out (moved-seen MAX_LEVEL u v moved before (has-box MAX_LEVEL u before) x y some))
-
--- what the code computes with is the number
-pub place-read : (low high r : ℤ) → IsOrdered low high → SFits w64 r → IsInPlace MAX_LEVEL (to_z w64 (of_z w64 low) +ℤ r) (to_z w64 (of_z w64 high) +ℤ r)
-    → IsInPlace MAX_LEVEL (low +ℤ to_z w64 (of_z w64 r)) (high +ℤ to_z w64 (of_z w64 r))
-place-read low high r order fits place =
-    let a = order.least in
-    let b = order.order in
-    let c = order.most in
-    in-place-at MAX_LEVEL _ _ _ _ (omega (arith, ints)) (omega (arith, ints)) place
 
 pub are-cells : (t : Tree) (cells : List Cell) → quad.IsCellList t cells → AreCellsOf (tree_cell t) cells
 are-cells t cells list = record { in_order = list.in_order; true_cells = list.true_cells; all_cells = list.all_cells }

@@ -1,5 +1,5 @@
 -- Refusals that are handed on.
-use Rattle.std.proofs.Common.{◌≡◌, Result, Ok, Err, OnErr, IfErr, IsErrAnd, ap, inl, inr, sym, subst}
+use Rattle.std.proofs.Common.{◌≡◌, Result, Ok, Err, IfErr, IsErrAnd, ap, inl, inr, sym, subst}
 use Rattle.std.specs.Prelude.{◌^◌, min}
 use Rattle.life_base.specs.Refusal.{OrMemory, fault_of}
 use Rattle.life_base.specs.declared.fault.Fault.{Fault}
@@ -14,11 +14,6 @@ use Rattle.life_forms.specs.Turns.{Turn, image}
 pub handed-on : {T U E P : Type 0} {x y : E} (r : Result U E) → IsErrAnd r (λ z. z ≡ x) → (◌≡◌ {A = Result T E} (Err x) (Err y) → P) → r ≡ Err y → P
 handed-on (Ok a) bad needed e = absurd bad
 handed-on {x = x} {y = y} (Err z) is needed e = let same : x ≡ y = cc in needed (ap Err same)
-
--- what holds after each error holds after this one
-pub of-err : {T E P : Type 0} {e : E} (r : Result T E) → r ≡ Err e → OnErr r P → P
-of-err (Ok x) is h = absurd (cc)
-of-err (Err x) is h = h
 
 -- a form that is refused refuses the turned one
 pub refused-form : {T : Type 0} {x : Fault} (store : Nodes) (pattern : Pattern) (turn : Turn) (r : Result T Fault) → IsErrAnd r (λ z. z ≡ x)

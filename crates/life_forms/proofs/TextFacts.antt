@@ -55,20 +55,6 @@ module _ (top : ℕ) (u : Universe) (some : 1 ≤ top) (outside : IsBlankOutside
     no-greater text first second false = up-to-image (turn_of false columns rows) text a of_image first
     no-greater text first second true = up-to-image (turn_of true columns rows) text b exchanged second
 
-    pub least-of-two : (text : List ℕ) → IsLesserText a b text → IsLeastOfTwo top u columns rows text
-    least-of-two text is = elim is.one [
-      | inl e ↦ record {
-        exchange = false;
-        of_image = subst (IsImageText top u (turn_of false columns rows)) (sym e) of_image;
-        least = no-greater text is.first is.second;
-      }
-      | inr e ↦ record {
-        exchange = true;
-        of_image = subst (IsImageText top u (turn_of true columns rows)) (sym e) exchanged;
-        least = no-greater text is.first is.second;
-      }
-    ]
-
     pub lesser-of-two : (best mid text : List ℕ) → IsLesserText best a mid → IsLesserText mid b text → IsLesserOfTwo top u columns rows best text
     lesser-of-two best mid text before is = record {
       one = elim is.one [

@@ -110,9 +110,6 @@ exchange-turned n m ln lm bits =
 
 -- ---- one after the other
 
-pub as-it-is : (n : ℕ) → eight n ≡ turned_tree (turn_of false false false) (eight n)
-as-it-is n = refl
-
 pub all-turned : (exchange columns rows : Bool) (n : ℕ)
     → turned_tree (turn_of exchange false false) (turned_tree (turn_of false false rows) (turned_tree (turn_of false columns false) (eight n)))
     ≡ turned_tree (turn_of exchange columns rows) (eight n)

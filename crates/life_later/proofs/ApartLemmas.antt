@@ -1,14 +1,14 @@
 -- The generations that are left after the first stage of a course.
-use Rattle.std.proofs.Common.{◌≡◌, ◌≢◌, ◌⊎◌, inl, inr, ℕ, ◌+◌, ◌-◌, ◌<◌, ◌≤◌, ℤ, List, sym, ◌∙◌, ap, subst}
+use Rattle.std.proofs.Common.{◌≡◌, inl, inr, ℕ, ◌+◌, ℤ, sym, ◌∙◌, ap, subst}
 use Rattle.life_base.specs.Sets.{OuterTotalistic}
 use Rattle.life_base.specs.Tree.{Tree, tree_cell}
 use Rattle.life_base.specs.declared.fault.Fault.{Fault}
 use Rattle.life_base.specs.declared.kind.Kind.TheVariants as kinds
 use Rattle.life_leap.specs.After.{after}
 use Rattle.life_later.proofs.CourseLemmas.{then-later}
-use Rattle.life_later.proofs.StageLemmas.{leaves-later, not-full}
+use Rattle.life_later.proofs.StageLemmas.{leaves-later}
 use Rattle.life_later.proofs.StayLemmas.{stays-then}
-use Rattle.life_later.specs.Course.{IsCourse, IsCourseFault, IsFaultApart, LeavesWithin}
+use Rattle.life_later.specs.Course.{IsCourse, IsFaultApart, LeavesWithin}
 
 module _ (rule : OuterTotalistic) (m n k : ℕ) (t u : Tree) (sum : n + m ≡ k) (first : IsCourse rule m t u) where
   pub rest-later : (v : Tree) → ((x y : ℤ) → tree_cell v x y ≡ after rule n (tree_cell u) x y) → (x y : ℤ)
@@ -24,8 +24,3 @@ module _ (rule : OuterTotalistic) (m n k : ℕ) (t u : Tree) (sum : n + m ≡ k)
   apart-later fault (inl memory) = inl memory
   apart-later fault (inr (inl full)) = inr (inl full)
   apart-later fault (inr (inr leaves)) = inr (inr (leaves.0, leaves-later rule m n k t u sum first leaves.1))
-
-  -- what another store refuses, unless it is full
-  pub rest-refused : (stored : List Tree) (most : ℕ) (fault : Fault) → IsFaultApart rule n (tree_cell u) fault → fault.kind ≢ kinds.Full
-      → IsCourseFault rule k (tree_cell t) stored most fault
-  rest-refused stored most fault h not = not-full rule k (tree_cell t) stored most fault (apart-later fault h) not

@@ -6,7 +6,6 @@ use Rattle.life_base.specs.Tree.{Tree, point, quad, depth, tree_cell}
 use Rattle.life_base.specs.declared.fault.Fault.{Fault}
 use Rattle.life_base.specs.declared.kind.Kind.{Kind}
 use Rattle.life_base.specs.declared.kind.Kind.TheVariants as kinds
-use Rattle.life_quad.specs.Keeping.{IsShortageFault, IsShortageKind}
 use Rattle.life_quad.specs.Turning.{turned_tree}
 use Rattle.life_quad.specs.declared.turning.Turn.{Turn}
 use Rattle.life_leap.specs.After.{after}
@@ -93,10 +92,6 @@ pub copy-refused : (rule : OuterTotalistic) (n : ℕ) (cells : ℤ → ℤ → �
     → fault ≡ fault_of kind → IsFaultApart rule n cells fault
 copy-refused rule n cells kind fault (inl memory) is = inl (is ∙ ap fault_of memory)
 copy-refused rule n cells kind fault (inr full) is = inr (inl (is ∙ ap fault_of full))
-
-pub either-shortage : (stored : List Tree) (most : ℕ) (kind : Kind) → IsShortageKind stored most kind → (kind ≡ kinds.Memory) ⊎ (kind ≡ kinds.Full)
-either-shortage stored most kind (inl memory) = inl memory
-either-shortage stored most kind (inr full) = inr full.0
 
 -- what another store refuses, unless it is full
 pub not-full : (rule : OuterTotalistic) (n : ℕ) (cells : ℤ → ℤ → ℕ) (stored : List Tree) (most : ℕ) (fault : Fault) → IsFaultApart rule n cells fault

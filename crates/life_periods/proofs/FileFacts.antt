@@ -12,7 +12,7 @@ use Rattle.life_base.specs.declared.rule.Rule.{Rule}
 use Rattle.life_base.specs.declared.rule.Rule.TheVariants.{Life, Named}
 use Rattle.life_quad.specs.Store.{Nodes}
 use Rattle.life_canon.specs.Laws.{FilesAreOnPlane, FilesAreUnique, PatternsFit}
-use Rattle.life_canon.specs.Store.{IsRead, RefusesIn, content}
+use Rattle.life_canon.specs.Store.{IsRead, content}
 use Rattle.life_canon.specs.Universe.{Universe, IsBlankOutside, IsSame, IsWithin, corner, square_universe}
 use Rattle.life_canon.specs.declared.pattern.Pattern.{Pattern}
 use Rattle.life_leap.specs.Edge.{IsPlaneCoordinate}
@@ -70,11 +70,6 @@ pub file-refused : (most : ℕ) (bytes : List ℕ) (store : Nodes) (pattern : Pa
     → RefusesPeriod most store pattern fault → RefusesPeriodOfFile most bytes fault
 file-refused most bytes store pattern read fault (inl want) = inr (inl want)
 file-refused most bytes store pattern read fault (inr each) = inr (inr (each bytes read))
-
-pub reading-refused : (most : ℕ) (bytes : List ℕ) (store : Nodes) (fault : Fault) → RefusesIn MAX_LEVEL bytes store fault → RefusesPeriodOfFile most bytes fault
-reading-refused most bytes store fault (inl refused) = inl refused
-reading-refused most bytes store fault (inr (inl memory)) = inr (inl (inl memory))
-reading-refused most bytes store fault (inr (inr full)) = inr (inl (inr full.0))
 
 -- ---- one answer
 

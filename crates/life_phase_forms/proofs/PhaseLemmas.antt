@@ -1,6 +1,6 @@
 -- The squares of the phases, and why a phase is refused.
 use Rattle.std.proofs.Common.{◌≡◌, inl, inr, ℕ, ◌+◌, ◌<◌, ◌≤◌, false, refl, sym, ◌∙◌, ap, subst, ℤ, neg_ℤ, List, arith, lit≤}
-use Rattle.life_base.specs.Refusal.{OrMemory, fault_of}
+use Rattle.life_base.specs.Refusal.{fault_of}
 use Rattle.life_base.specs.Rules.{has_digit}
 use Rattle.life_base.specs.Sets.{OuterTotalistic}
 use Rattle.life_base.specs.Tree.{Tree, depth, tree_cell, IsFull}
@@ -162,30 +162,12 @@ module _ (rule : OuterTotalistic) where
         });
       })
 
-  pub fewer-stay : (p most : ℕ) (f : ℤ → ℤ → ℕ) → p ≤ most → ¬ (LeavesFromMiddle rule most f) → ¬ (LeavesFromMiddle rule p f)
-  fewer-stay p most f le stays h =
-      let l = h.leaves in
-      let w = l.within in
-      stays (record {
-        columns = h.columns;
-        rows = h.rows;
-        middle = h.middle;
-        leaves = record { generation = l.generation; within = omega (arith, le, w); leaves = l.leaves; none = l.none };
-      })
-
 -- ---- refusals
-
-pub memory-want : (kind : Kind) (fault : Fault) → fault ≡ fault_of kind → kind ≡ kinds.Memory → IsMemoryOrFull fault
-memory-want kind fault is e = inl (is ∙ ap fault_of e)
 
 pub shortage-want : (stored : List Tree) (limit : ℕ) (kind : Kind) (fault : Fault) → fault ≡ fault_of kind → IsShortageKind stored limit kind
     → IsMemoryOrFull fault
 shortage-want stored limit kind fault is (inl memory) = inl (is ∙ ap fault_of memory)
 shortage-want stored limit kind fault is (inr full) = inr (is ∙ ap fault_of full.0)
-
-pub turning-want : (fault : Fault) (P : Type 0) → OrMemory fault ((fault ≡ fault_of kinds.Full) × P) → IsMemoryOrFull fault
-turning-want fault P (inl memory) = inl memory
-turning-want fault P (inr full) = inr full.0
 
 pub course-want : (rule : OuterTotalistic) (n : ℕ) (cells : ℤ → ℤ → ℕ) (stored : List Tree) (limit : ℕ) (fault : Fault)
     → IsCourseFault rule n cells stored limit fault → ¬ (LeavesWithin rule n cells) → IsMemoryOrFull fault

@@ -156,11 +156,6 @@ one-stays rule n s t later first second h =
 
 -- ---- refusals
 
-pub first-shortage : (rule : OuterTotalistic) (most : ℕ) (cells : ℤ → ℤ → ℕ) (stored : List Tree) (limit : ℕ) (kind : Kind) (fault : Fault)
-    → IsShortageKind stored limit kind → fault ≡ fault_of kind → IsFirstFault rule most cells fault
-first-shortage rule most cells stored limit kind fault (inl memory) is = inl (is ∙ ap fault_of memory)
-first-shortage rule most cells stored limit kind fault (inr full) is = inr (inl (is ∙ ap fault_of full.0))
-
 pub first-refused : (rule : OuterTotalistic) (most n : ℕ) (s t : Tree) (stored : List Tree) (limit : ℕ) (fault : Fault) → n < most
     → HasNoPeriodUpTo rule (tree_cell s) n → ((x y : ℤ) → tree_cell t x y ≡ after rule n (tree_cell s) x y)
     → IsCourseFault rule 1 (tree_cell t) stored limit fault → IsFirstFault rule most (tree_cell s) fault

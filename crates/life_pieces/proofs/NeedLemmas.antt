@@ -78,14 +78,6 @@ module _ (P : Tree → Type 0) (f : ℤ → ℤ → ℕ) (k : ℕ) (x y : ℤ) w
   unfolding square_from
   quarter-part s = inr s
 
-  -- a part of one of four squares that are its quarters
-  pub part-of_parts : {a b c d : Tree} → AreParts f k x y a b c d → SomePart P a ⊎ SomePart P b ⊎ SomePart P c ⊎ SomePart P d
-      → SomePart P (square_from f (suc k) x y)
-  part-of_parts p (inl s) = quarter-part (inl (subst (SomePart P) p.nw s))
-  part-of_parts p (inr (inl s)) = quarter-part (inr (inl (subst (SomePart P) p.ne s)))
-  part-of_parts p (inr (inr (inl s))) = quarter-part (inr (inr (inl (subst (SomePart P) p.sw s))))
-  part-of_parts p (inr (inr (inr s))) = quarter-part (inr (inr (inr (subst (SomePart P) p.se s))))
-
 -- ---- answers of calls on a store
 
 module _ {S : Type 0} {knows : S → Id → Type 0} {content : S → Id → Tree} {stored : S → List Tree} {most : S → ℕ} {n : ℕ} (f : ℤ → ℤ → ℕ) (k : ℕ)

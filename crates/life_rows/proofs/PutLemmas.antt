@@ -8,7 +8,7 @@ use Rattle.std.proofs.lemmas.Nat.{mod-pow-add}
 use Rattle.std.proofs.lemmas.Nat.Bits.{bit_at-lt, bit_at-zero, bit_at_mask_above, bit_at_mask_below, bit_at_mask_inside, same_from_bits_below}
 use Rattle.life_base.specs.declared.cell.TheConstants.{MAX_LEVEL}
 use Rattle.life_lanes.proofs.WordLemmas.{bit-mod}
-use Rattle.life_rows.specs.RowCells.{AreWestOf, AreFrom, AreInner, AreWordsBefore, IsWordBefore, PutsCells}
+use Rattle.life_rows.specs.RowCells.{AreWestOf, AreFrom, AreWordsBefore, IsWordBefore, PutsCells}
 use Rattle.life_rows.proofs.RowWordLemmas.{place-none, more-elsewhere, more-there, more-words}
 use Rattle.life_strip.specs.Blocks.{cell_in_word}
 use Rattle.life_strip.specs.RowWords.{AreRowWords, cells_at_place}
@@ -43,18 +43,6 @@ word-before_later w column later order (inr there) = elim (cases_lt w.place (lat
 
 pub words-before_later : (words : List RowWord) (column later : ℕ) → column ≤ later → AreWordsBefore column words → AreWordsBefore later words
 words-before_later words column later order before k d lt = word-before_later (get_or words k d) column later order (before k d lt)
-
--- a row with no word in the first place, and no cell beside the eastern edge of the plane, is an inner one
-pub inner-of : (words : List RowWord) (column : ℕ) → AreRowWords words → AreFrom 1 words → AreWordsBefore column words
-    → suc (column / 64) < 2 ^ (MAX_LEVEL - 6) → AreInner words
-inner-of words column are from before inside = record {
-  are = are;
-  inner = λ k d lt. (from k d lt, (let least = at_most (get_or words k d) (before k d lt) in omega (arith, least, inside)));
-}
-  where
-    at_most : (w : RowWord) → IsWordBefore column w → w.place ≤ column / 64
-    at_most w (inl west) = omega (arith, west)
-    at_most w (inr there) = let same = there.0 in omega (arith, same)
 
 -- one piece, and then the next
 pub puts-both : (old between new : List RowWord) (start middle end : ℕ) → start ≤ middle → middle ≤ end → PutsCells old between start middle

@@ -76,29 +76,6 @@ alike-then columns rows east south t u v a b =
           a.level (b.same i j) li lj si sj;
     }
 
--- nothing is seen
-pub alike-nothing : (columns rows : ℕ) (east south : Side) (t u : Tree) → (east ≡ Nothing) ⊎ (south ≡ Nothing) → depth u ≡ depth t
-    → AreAlike columns rows east south t u
-alike-nothing columns rows east south t u which level = record { level = level; same = λ i j li lj si sj. by which i j si sj }
-  where
-    by : (east ≡ Nothing) ⊎ (south ≡ Nothing) → (i j : ℕ) → IsSeenOn east (columns % 2 ^ depth t) i → IsSeenOn south (rows % 2 ^ depth t) j
-        → state_at t i j ≡ state_at u i j
-    by (inl e) i j si sj = let s = subst (λ side. IsSeenOn side (columns % 2 ^ depth t) i) e si in absurd (omega (arith, s))
-    by (inr e) i j si sj = let s = subst (λ side. IsSeenOn side (rows % 2 ^ depth t) j) e sj in absurd (omega (arith, s))
-
--- before the place where a square of one cell begins there is none
-pub alike-before : (columns rows : ℕ) (east south : Side) (t u : Tree) → (east ≡ Until) ⊎ (south ≡ Until) → depth t ≡ 0 → depth u ≡ 0
-    → AreAlike columns rows east south t u
-alike-before columns rows east south t u which low level = record { level = level ∙ sym low; same = λ i j li lj si sj. by which i j si sj }
-  where
-    none : (n i : ℕ) → i < n % 2 ^ depth t → ⊥
-    none n i s = let l = subst (λ d. i < n % 2 ^ d) low s in omega (arith, l)
-
-    by : (east ≡ Until) ⊎ (south ≡ Until) → (i j : ℕ) → IsSeenOn east (columns % 2 ^ depth t) i → IsSeenOn south (rows % 2 ^ depth t) j
-        → state_at t i j ≡ state_at u i j
-    by (inl e) i j si sj = absurd (none columns i (subst (λ side. IsSeenOn side (columns % 2 ^ depth t) i) e si))
-    by (inr e) i j si sj = absurd (none rows j (subst (λ side. IsSeenOn side (rows % 2 ^ depth t) j) e sj))
-
 -- ---- by quarters
 
 module _ (columns rows : ℕ) (east south : Side) (h v : Bool) (a b c d p q r s : Tree) (full : IsFull (quad a b c d)) (whole : IsFull (quad p q r s))

@@ -22,30 +22,6 @@ get-end xs x y i e h =
     ∙ ap Some (get_or-append_seam xs x [] x)) ∙ ap (slice_get (xs ++ x ∷ [])) (sym e) ∙ h)
 
 module _ (content : Id → Tree) (old new : MarginTable) (h : AreMargins content old) where
-  pub same-table : new.numbers.ids ≡ old.numbers.ids → new.margins.items ≡ old.margins.items → AreMargins content new
-  same-table e f =
-      record {
-        few = let a = ap length e in let b = ap length f in let c = h.few in omega (arith, a, b, c);
-        right = λ i q m a b. h.right i q m (sym (ap (λ ids. slice_get ids i) e) ∙ a) (sym (ap (λ ms. slice_get ms i) f) ∙ b);
-      }
-
-  -- an Id without margins
-  pub id-more : (id : Id) → new.numbers.ids ≡ old.numbers.ids ++ id ∷ [] → new.margins.items ≡ old.margins.items → AreMargins content new
-  id-more id e f =
-      record {
-        few =
-            let a = ap length e in
-            let b = ap length f in
-            let c = h.few in
-            let l = length-append old.numbers.ids (id ∷ []) in
-            omega (arith, a, b, c, l);
-        right = λ i q m a b.
-            let m-old : slice_get old.margins.items i ≡ Some m = sym (ap (λ ms. slice_get ms i) f) ∙ b in
-            let within : i < length old.margins.items = slice_get_within _ i m m-old in
-            let few = h.few in
-            h.right i q m (sym (get-prefix old.numbers.ids id i (omega (arith, within, few))) ∙ sym (ap (λ ids. slice_get ids i) e) ∙ a) m-old;
-      }
-
   -- an Id and its margins
   pub both-more : (id : Id) (m : Margins) → new.numbers.ids ≡ old.numbers.ids ++ id ∷ [] → new.margins.items ≡ old.margins.items ++ m ∷ []
       → length old.margins.items + 1 ≡ length new.numbers.ids → AreMarginsOf (content id) m → AreMargins content new
