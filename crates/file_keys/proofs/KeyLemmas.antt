@@ -21,7 +21,7 @@ use Rattle.pattern_sources.specs.Sources.{by_file, by_input, by_length, by_sourc
 use Rattle.file_keys.specs.Keys.{IsHashedText, IsKeyIn, IsKeyOf, IsStatus}
 use Rattle.life_base.specs.declared.form.Form.{Form}
 use Rattle.command_line.specs.declared.plans.KeyForm.{KeyForm}
-use Rattle.life_base.specs.declared.form.Form.TheVariants.{Placed}
+use Rattle.life_base.specs.declared.form.Form.TheVariants.{Placed, Moved, Turned, Phases}
 use Rattle.pattern_sources.proofs.SourceLemmas.{fault_status, no_pattern}
 
 -- the text that is hashed, by whether the generation is ignored
@@ -110,7 +110,11 @@ module _ (law : RefusalsHaveKinds MAX_LEVEL) where
 
   form_kind : (form : Form) (bytes : List ℕ) (fault : Fault) → RefusesInForm form bytes fault → fault.kind ≡ kinds.ReadFault → ⊥
   form_kind form bytes fault (inl refuses) = file_kind bytes fault refuses
-  form_kind form bytes fault (inr large) = other_kind fault kinds.Full large.0 (λ same. cc)
+  form_kind Placed bytes fault (inr why) = other_kind fault kinds.Full why.0 (λ same. cc)
+  form_kind Moved bytes fault (inr why) = other_kind fault kinds.Full why.0 (λ same. cc)
+  form_kind Turned bytes fault (inr why) = other_kind fault kinds.Full why.0 (λ same. cc)
+  form_kind (Phases most) bytes fault (inr (inl leaves)) = other_kind fault kinds.OutOfPlane leaves.0 (λ same. cc)
+  form_kind (Phases most) bytes fault (inr (inr full)) = other_kind fault kinds.Full full (λ same. cc)
 
   input_failed : (source : SourceRun) (fault : Fault) → InputRefuses source fault → fault.kind ≡ kinds.ReadFault → source.failures ≡ 1
   input_failed source fault (by_length is came) read = absurd (other_kind fault kinds.InputTooLong is (λ same. cc) read)
