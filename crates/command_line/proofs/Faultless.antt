@@ -446,7 +446,8 @@ IsWholeAt words s = level_fault s [] nothing_held words false [] ≡ [] → AreW
 
 canon_whole : (words : List Text) → IsWholeAt words (leaf canon_line)
 canon_whole words none =
-    let all : ArePlain (leaf canon_line).rules = (inl (refl, omega arith), (inl (refl, omega arith), (inl (refl, omega arith), (inr (inl (refl, omega arith)), (inr (inr refl), tt))))) in
+    let all : ArePlain (leaf canon_line).rules =
+    (inl (refl, omega arith), (inl (refl, omega arith), (inl (refl, omega arith), (inr (inl (refl, omega arith)), (inr (inr refl), tt))))) in
     inl (Canon Placed, refl, one_there words (leaf canon_line) all none _ (codes "FILE") refl)
 
 show_whole : (words : List Text) → IsWholeAt words (leaf show_line)
@@ -468,8 +469,19 @@ convert_whole words none =
 
 same_whole : (words : List Text) → IsWholeAt words (leaf same_line)
 same_whole words none =
-    let all : ArePlain (leaf same_line).rules =
-    (inl (refl, omega arith), (inl (refl, omega arith), (inl (refl, omega arith), (inl (refl, omega arith), (inr (inl (refl, omega arith)), (inr (inr refl), tt)))))) in
+    let all : ArePlain (leaf same_line).rules = (
+      inl (refl, omega arith),
+      (
+        inl (refl, omega arith),
+        (
+          inl (refl, omega arith),
+          (
+            inl (refl, omega arith),
+            (inr (inl (refl, omega arith)), (inr (inr refl), tt)),
+          ),
+        ),
+      ),
+    ) in
     inl (Same Placed, refl, two_there words (leaf same_line) all none _ (codes "A") (codes "B") refl)
 
 keys_whole : (words : List Text) → IsWholeAt words (leaf keys_line)

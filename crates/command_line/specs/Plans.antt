@@ -259,7 +259,7 @@ HasUnknownForm rows = (word : Text) × (first_of (codes "form") rows ≡ Some wo
 abbrev pub HasStrayWithin : List Row → Type 0
 HasStrayWithin rows = IsFoundAmong (codes "within") rows × (first_of (codes "form") rows ≢ Some (codes "phases"))
 
--- there is no form: the word after --form is that of no form, the one after --within is no greatest period, or --within is for another form
+-- there is no form: the word after --form is that of no form, the one after --within is no greatest period, or --within was found without `phases`
 abbrev pub HasNoForm : List Row → Type 0
 HasNoForm rows = HasUnknownForm rows ⊎ (HasNoMost (codes "within") rows ⊎ HasStrayWithin rows)
 
@@ -354,11 +354,11 @@ abbrev pub NamesInputTwice : Option (Text × List Row) → Type 0
 NamesInputTwice None = ⊥
 NamesInputTwice (Some matches) = 1 < input_count matches.1
 
--- Why words are refused in which `clap` finds these faults and these matches: since `clap` is out of memory; by the kind of a fault; in words
--- without a fault, since the word after --to is that of no format, the one after --form that of no form, the one after --generations no number or the
--- one after --within or --period no number or 0, since --within is for another form than `phases`, since `keys` or `duplicates` is given neither a file nor a list, and no stream either, since `keys` is given files
--- besides a stream, or since standard input is named twice, which is reported before these. Memory comes only where none of that is so, and the words ask for
--- a task: all that is left to do is to copy the names of its files.
+-- Why words are refused in which `clap` finds these faults and these matches: since `clap` is out of memory; by the kind of a fault; in words without a
+-- fault, since the word after --to is that of no format, the one after --form that of no form, the one after --generations no number or the one after
+-- --within or --period no number or 0, since --within is for another form than `phases`, since `keys` or `duplicates` is given neither a file nor a list, and
+-- no stream either, since `keys` is given files besides a stream, or since standard input is named twice, which is reported before these. Memory comes only
+-- where none of that is so, and the words ask for a task: all that is left to do is to copy the names of its files.
 abbrev pub Explains : Kinds → Option (Text × List Row) → Usage → Type 0
 Explains faults matches (Words error) = (kind_of error ≡ OutOfMemory)
     ⊎ (IsAmong (kind_of error) faults
