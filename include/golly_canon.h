@@ -111,28 +111,39 @@ enum {
     GOLLY_CANON_NO_FORM = 65
 };
 
-/* The forms of a pattern, for the calls with a `form`. Each form has the pattern's rule and generation, even if the rule distinguishes directions. For any
- * other number a call returns GOLLY_CANON_NO_FORM. */
+/* The forms of a pattern, for the calls with a `form`. Each of these three has the pattern's rule and generation, even if the rule distinguishes directions.
+ * For any number that is neither here nor below, a call returns GOLLY_CANON_NO_FORM. */
 enum {
     GOLLY_CANON_PLACED = 0, /* the pattern as it lies */
     GOLLY_CANON_MOVED = 1,  /* with its bounding box at (0, 0); if its columns would then leave the plane, they end at its edge, and the same for rows */
     GOLLY_CANON_TURNED = 2  /* the one whose canonical text is least, byte by byte, of the eight turned and reflected patterns, each moved */
 };
 
+/* The form GOLLY_CANON_PHASES(most), for a number `most` from 0 to 2^31 - 1: all phases of an oscillator or a spaceship, in all orientations and places, have
+ * one text in it. If the pattern has a period of up to `most` generations under its B/S rule, the text is the least, byte by byte, of the texts of its phases
+ * in the form turned. (A still life has period 1, and so one phase.) Otherwise the text is that of the pattern itself in the form turned: if it has no such
+ * period, if its rule is a name, and always if `most` is 0. In both cases the generation is left out: it is 0 in the text. For example, with
+ * GOLLY_CANON_PHASES(4) all gliders have one text.
+ *
+ * To find the period, the call makes one generation after another, up to `most`, beginning with the pattern in the middle of the plane. If a cell outside the
+ * plane isn't 0 in one of them, before the period is found, the call returns OutOfPlane, with 0 in `*line`. Take a `most` that is no greater than you need: for
+ * a pattern without a period the call makes that many generations, and each of them may take long. */
+#define GOLLY_CANON_PHASES(most) (((uint32_t)1 << 31) | (uint32_t)(most))
+
 /* `limit`, of each call: how many different squares the store of the call may hold, including those that it makes on the way to the answer. Squares in which
- * each cell is 0 don't count. The forms moved and turned are made in further stores, and many generations use up to three stores at a time. Each of these has
+ * each cell is 0 don't count. The forms other than placed are made in further stores, and many generations use up to three stores at a time. Each of these has
  * this limit too. Two things are proved of the limit:
  *
  *  - A call returns Full only if it needs more different squares than the limit. In the forms moved and turned the limit is 2^21, if yours is more. (This isn't
- *    proved of golly_canon_step_generations, because HashLife also stores squares that the answer doesn't need.)
+ *    proved of golly_canon_step_generations, because HashLife also stores squares that the answer doesn't need, and of GOLLY_CANON_PHASES.)
  *  - A call gives a text, a key or a comparison only if the squares that are needed to read the files aren't more than the limit.
  *
  * So a call on files in which each cell is 0 never returns Full.
  *
  * A limit of `14 * length + 264` suffices to read a file. For two files take the sum of both; for a stream `length` is the number of all bytes that are fed.
  * That is proved too: with this limit, canon, to_rle, show, same, and the calls with the form placed, never return Full. No such number is known for the next
- * generation, which needs further squares, and for the forms moved and turned. A limit above 2^62 counts as 2^62; but beyond some 2^32 squares the answer is
- * Memory, whatever the limit. As measured, a square takes 32 to 39 bytes of the store, or less if it has at most 4 x 4 cells of the states 0 and 1.
+ * generation, which needs further squares, and for the other forms. A limit above 2^62 counts as 2^62; but beyond some 2^32 squares the answer is Memory,
+ * whatever the limit. As measured, a square takes 32 to 39 bytes of the store, or less if it has at most 4 x 4 cells of the states 0 and 1.
  *
  * `seed`, of each call: a number from which the call chooses the hash functions of its tables of squares and of names in a rule table. What a call returns
  * never depends on it. If the files are untrusted input, give a random number (from getentropy, arc4random_buf or Python's secrets.randbits(64)) that their
@@ -191,10 +202,13 @@ uint32_t golly_canon_same(const unsigned char *first, size_t first_length,
                           uint32_t *is_same, uint64_t *line);
 
 /* The canonical text of the pattern of a file in a form. Two files have the same text exactly if they have the same rule and generation, and the cells of one
- * are those of the other: as they lie (placed: the text of golly_canon_canon), shifted (moved), or turned or reflected and then shifted (turned). The moved
- * pattern is made in a second store of squares. For the form turned there are up to four such stores, one after the other. Each of them may hold as many
- * squares as the limit says, and at most 2^21. If one of them is too small, the call returns Full. For a number of no form the call returns NoForm, with 0 in
- * `*needed` and `*line`.
+ * are those of the other: as they lie (placed: the text of golly_canon_canon), shifted (moved), or turned or reflected and then shifted (turned). In the form
+ * GOLLY_CANON_PHASES(most) they have the same text exactly if they have the same rule, and the cells of one, turned or reflected and then shifted, are those of
+ * the other, or of a phase of the other if that has a period of up to `most` generations. The moved pattern is made in a second store of squares. For the form
+ * turned there are up to four such stores, one after the other, and for GOLLY_CANON_PHASES as many for each phase. Each of them may hold as many squares as the
+ * limit says, and at most 2^21. If one of them is too small, the call returns Full; so it does if one of the stores in which GOLLY_CANON_PHASES makes
+ * generations reaches the limit. If the text doesn't fit, the next call works it out again; a stream (golly_canon_open_canon_form) works it out once. For a
+ * number of no form the call returns NoForm, with 0 in `*needed` and `*line`.
  * The caller guarantees what golly_canon_canon names: `out` was written before, and neither `needed` nor `line` is NULL. */
 uint32_t golly_canon_canon_form(const unsigned char *bytes, size_t length, uint32_t form, uint64_t limit, uint64_t seed,
                                 unsigned char *out, size_t room, size_t *needed, uint64_t *line);
@@ -206,8 +220,9 @@ uint32_t golly_canon_key(const unsigned char *bytes, size_t length, uint32_t for
                          unsigned char *out, size_t room, size_t *needed, uint64_t *line);
 
 /* Whether two files have the same text in a form: `*is_same` is 1 or 0, and 0 if the status isn't GOLLY_CANON_OK. The fault is that of the first file if that
- * is refused, and otherwise that of the second one. If both are accepted, and the form of one of them has too many squares, the call returns Full. There is one
- * exception: in the form turned, files of different generations are always different. For a number of no form the call returns NoForm, with 0 in `*line`.
+ * is refused, and otherwise that of the second one. If both are accepted, but one of them has no text in the form, the call returns the fault that
+ * golly_canon_canon_form returns for it (Full, or in the form GOLLY_CANON_PHASES also OutOfPlane). There is one exception: in the form turned, files of
+ * different generations are always different. For a number of no form the call returns NoForm, with 0 in `*line`.
  * The caller guarantees what golly_canon_same names: NULL is allowed for neither `is_same` nor `line`. */
 uint32_t golly_canon_same_form(const unsigned char *first, size_t first_length,
                                const unsigned char *second, size_t second_length, uint32_t form, uint64_t limit, uint64_t seed,

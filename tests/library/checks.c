@@ -154,6 +154,9 @@ static void comparisons(void)
 
 /* Files, and the pattern that each is in a form, as a file of RLE: worked out by hand. The plane goes from -2^61 to 2^61 - 1. */
 #define FIRST "-2305843009213693952"
+/* The glider a generation later, without its number, and two blinkers whose next generation is wider than the plane. */
+#define LATER_GLIDER "x = 3, y = 3\nobo$b2o$bo!\n"
+#define EDGES "#CXRLE Pos=" FIRST ",0\nx = 1, y = 3\no4611686018427387902bo$o4611686018427387902bo$o4611686018427387902bo!\n"
 static const struct {
     const char *what;
     uint32_t form;
@@ -178,6 +181,27 @@ static const struct {
      "#CXRLE Pos=0," FIRST "\nx = 1, y = 1\no4611686018427387903$o!\n"},
     {"cells at the corners of the plane", GOLLY_CANON_MOVED, "#CXRLE Pos=" FIRST "," FIRST "\nx = 2, y = 2\no4611686018427387902bo4611686018427387903$o!\n",
      "#CXRLE Pos=" FIRST "," FIRST "\nx = 2, y = 2\no4611686018427387902bo4611686018427387903$o!\n"},
+
+    /* All phases: the least of the texts of the phases, each turned, which a glider, a blinker and a beacon have two of. */
+    {"a glider, in all phases", GOLLY_CANON_PHASES(4), GLIDER, "x = 3, y = 3\no$obo$2o!\n"},
+    {"a glider a generation later", GOLLY_CANON_PHASES(4), "#CXRLE Pos=1,0 Gen=1\n" LATER_GLIDER, "x = 3, y = 3\no$obo$2o!\n"},
+    {"a glider a generation later, reflected, far away", GOLLY_CANON_PHASES(4), "#CXRLE Pos=-12345,777 Gen=1\nx = 3, y = 3\nobo$2o$bo!\n",
+     "x = 3, y = 3\no$obo$2o!\n"},
+    {"a glider at the last corner, in all phases", GOLLY_CANON_PHASES(4),
+     "#CXRLE Pos=2305843009213693949,2305843009213693949\nx = 3, y = 3\nbo$2bo$3o!\n", "x = 3, y = 3\no$obo$2o!\n"},
+    {"the period is sought no further than it is", GOLLY_CANON_PHASES(2147483647), LATER_GLIDER, "x = 3, y = 3\no$obo$2o!\n"},
+    {"a period that isn't sought", GOLLY_CANON_PHASES(3), "#CXRLE Pos=5,-7 Gen=1\n" LATER_GLIDER, "x = 3, y = 3\no$b2o$2o!\n"},
+    {"no period is sought", GOLLY_CANON_PHASES(0), "#CXRLE Pos=5,-7 Gen=18446744073709551615\n" LATER_GLIDER, "x = 3, y = 3\no$b2o$2o!\n"},
+    {"a blinker", GOLLY_CANON_PHASES(2), "x = 3, y = 1\n3o!\n", "x = 1, y = 3\no$o$o!\n"},
+    {"a blinker a generation later", GOLLY_CANON_PHASES(2), "#CXRLE Pos=1,-1 Gen=1\nx = 1, y = 3\no$o$o!\n", "x = 1, y = 3\no$o$o!\n"},
+    {"a beacon", GOLLY_CANON_PHASES(2), "x = 4, y = 4\n2o$2o$2b2o$2b2o!\n", "x = 4, y = 4\n2o$o$3bo$2b2o!\n"},
+    {"a beacon a generation later", GOLLY_CANON_PHASES(2), "#CXRLE Gen=1\nx = 4, y = 4\n2o$o$3bo$2b2o!\n", "x = 4, y = 4\n2o$o$3bo$2b2o!\n"},
+    {"a beacon whose period isn't sought", GOLLY_CANON_PHASES(1), "x = 4, y = 4\n2o$2o$2b2o$2b2o!\n", "x = 4, y = 4\n2o$2o$2b2o$2b2o!\n"},
+    {"a still life", GOLLY_CANON_PHASES(1), "#CXRLE Pos=5,-7 Gen=9\nx = 2, y = 2\n2o$2o!\n", "x = 2, y = 2\n2o$2o!\n"},
+    {"a cell that dies", GOLLY_CANON_PHASES(9), "#CXRLE Pos=5,-7 Gen=9\nx = 1, y = 1\no!\n", "x = 1, y = 1\no!\n"},
+    {"a blank pattern, in all phases", GOLLY_CANON_PHASES(4), "#CXRLE Gen=9\nx = 0, y = 0\n!\n", "x = 0, y = 0\n!\n"},
+    {"256 states, in all phases", GOLLY_CANON_PHASES(4), "#CXRLE Pos=" FIRST "," FIRST " Gen=9\nx = 2, y = 1, rule = Spread\nyOpA!\n",
+     "x = 1, y = 2, rule = Spread\npA$yO!\n"},
 };
 
 /* The eight images of a glider. The last one has the least text: its first row ends behind one cell. */
@@ -199,6 +223,10 @@ static int is_formed(const char *file, uint32_t form, const char *as)
         && line == 0 && golly_canon_canon((const unsigned char *)as, strlen(as), LIMIT, SEED, wanted, sizeof wanted, &wanted_length, &line) == GOLLY_CANON_OK
         && length == wanted_length && memcmp(text, wanted, length) == 0;
 }
+
+/* A form of each kind. */
+static const uint32_t each_form[] = {GOLLY_CANON_PLACED, GOLLY_CANON_MOVED, GOLLY_CANON_TURNED, GOLLY_CANON_PHASES(4)};
+#define FORMS (sizeof each_form / sizeof *each_form)
 
 static int is_key(uint32_t status, const char *key)
 {
@@ -233,8 +261,8 @@ static void texts_in_forms(void)
           "canon_form fills the memory to its end");
     check(golly_canon_canon_form(BYTES(GLIDER), GOLLY_CANON_MOVED, LIMIT, SEED, fresh(), length - 1, &needed, &line) == GOLLY_CANON_NO_ROOM
               && needed == length && line == 0 && untouched_from(0), "canon_form writes nothing where the text doesn't fit");
-    for (i = 0; i < 3; i++) {
-        uint32_t form = (uint32_t)i;
+    for (i = 0; i < FORMS; i++) {
+        uint32_t form = each_form[i];
         check(is_fault(golly_canon_canon_form(BYTES("[M2]\n#R B3/S23\n....*$$$$$$$$\n4 0 0 0 9\n"), form, LIMIT, SEED, fresh(), WIDE, &needed, &line),
                        GOLLY_CANON_BAD_CHILD, 4), "canon_form names the line and the kind");
         check(is_fault(golly_canon_canon_form(BYTES(GLIDER), form, 0, SEED, fresh(), WIDE, &needed, &line), GOLLY_CANON_FULL, 0),
@@ -247,24 +275,38 @@ static void texts_in_forms(void)
           "so may a moved one");
     check(golly_canon_canon_form(BYTES(MANY), GOLLY_CANON_TURNED, LIMIT, SEED, fresh(), 0, &needed, &line) == GOLLY_CANON_NO_ROOM && needed > 0,
           "and a turned one");
+    check(golly_canon_canon_form(BYTES(EDGES), GOLLY_CANON_PHASES(0), LIMIT, SEED, fresh(), 0, &needed, &line) == GOLLY_CANON_NO_ROOM && needed > 0,
+          "a pattern as wide as the plane has a text where no generation is made");
+    check(is_fault(golly_canon_canon_form(BYTES(EDGES), GOLLY_CANON_PHASES(1), LIMIT, SEED, fresh(), WIDE, &needed, &line), GOLLY_CANON_OUT_OF_PLANE, 0),
+          "and leaves the plane where one is");
     check(is_fault(golly_canon_canon_form(BYTES(GLIDER), 3, LIMIT, SEED, fresh(), WIDE, &needed, &line), GOLLY_CANON_NO_FORM, 0), "3 is no form");
-    check(is_fault(golly_canon_canon_form(BYTES("x\n"), UINT32_MAX, LIMIT, SEED, fresh(), WIDE, &needed, &line), GOLLY_CANON_NO_FORM, 0),
+    check(is_fault(golly_canon_canon_form(BYTES("x\n"), 0x7fffffff, LIMIT, SEED, fresh(), WIDE, &needed, &line), GOLLY_CANON_NO_FORM, 0),
           "no form is told before the file is read");
+    check(GOLLY_CANON_PHASES(0) == 0x80000000 && GOLLY_CANON_PHASES(2147483647) == UINT32_MAX, "the numbers of all phases");
 }
 
 static void keys(void)
 {
+    size_t i;
     check(is_key(golly_canon_key(BYTES(GLIDER), GOLLY_CANON_PLACED, LIMIT, SEED, fresh(), WIDE, &needed, &line), GLIDER_KEY), "the key of a placed glider");
     check(is_key(golly_canon_key(BYTES("#CXRLE Pos=5,5\n" GLIDER), GOLLY_CANON_MOVED, LIMIT, SEED, fresh(), WIDE, &needed, &line), GLIDER_KEY),
           "the key of a moved glider");
     check(is_key(golly_canon_key(BYTES(GLIDER), GOLLY_CANON_TURNED, LIMIT, SEED, fresh(), 32, &needed, &line), TURNED_KEY), "the key of a turned glider");
     check(golly_canon_key(BYTES(GLIDER), GOLLY_CANON_MOVED, LIMIT, SEED, fresh(), 31, &needed, &line) == GOLLY_CANON_NO_ROOM && needed == 32 && line == 0
               && untouched_from(0), "a key may lack room");
+    for (i = 0; i < sizeof formed / sizeof *formed; i++)
+        if (formed[i].form == GOLLY_CANON_PHASES(4) && !strcmp(formed[i].as, "x = 3, y = 3\no$obo$2o!\n"))
+            check(is_key(golly_canon_key((const unsigned char *)formed[i].file, strlen(formed[i].file), GOLLY_CANON_PHASES(4), LIMIT, SEED, fresh(), WIDE,
+                                         &needed, &line), TURNED_KEY), "one key of a glider in each phase");
+    check(is_fault(golly_canon_key(BYTES(EDGES), GOLLY_CANON_PHASES(1), LIMIT, SEED, fresh(), WIDE, &needed, &line), GOLLY_CANON_OUT_OF_PLANE, 0),
+          "a pattern that leaves the plane has no key");
     check(is_fault(golly_canon_key(BYTES("x = 3\n"), GOLLY_CANON_MOVED, LIMIT, SEED, fresh(), WIDE, &needed, &line), GOLLY_CANON_BAD_HEADER, 1),
           "a key is refused as the text");
     check(golly_canon_key(BYTES(MANY), GOLLY_CANON_TURNED, LIMIT, SEED, fresh(), WIDE, &needed, &line) == GOLLY_CANON_OK && needed == 32,
           "many cells have a key in each form");
-    check(is_fault(golly_canon_key(BYTES(GLIDER), 3, LIMIT, SEED, fresh(), WIDE, &needed, &line), GOLLY_CANON_NO_FORM, 0), "no form has no key");
+    check(is_fault(golly_canon_key(BYTES(GLIDER), 3, LIMIT, SEED, fresh(), WIDE, &needed, &line), GOLLY_CANON_NO_FORM, 0)
+              && is_fault(golly_canon_key(BYTES(GLIDER), 0x7fffffff, LIMIT, SEED, fresh(), WIDE, &needed, &line), GOLLY_CANON_NO_FORM, 0),
+          "no form has no key");
 }
 
 static void comparisons_in_forms(void)
@@ -276,10 +318,10 @@ static void comparisons_in_forms(void)
         check(is_compared(images[i], shifted, GOLLY_CANON_MOVED, GOLLY_CANON_OK, 0, i == 0), "a shift takes one image alone to a glider");
         check(is_compared(images[i], shifted, GOLLY_CANON_TURNED, GOLLY_CANON_OK, 0, 1), "a turn takes each image to a glider");
     }
-    for (i = 0; i < 3; i++) {
-        uint32_t form = (uint32_t)i;
+    for (i = 0; i < FORMS; i++) {
+        uint32_t form = each_form[i];
         check(is_compared(GLIDER, GLIDER_TEXT, form, GOLLY_CANON_OK, 0, 1), "two spellings are one in each form");
-        check(is_compared(GLIDER, later, form, GOLLY_CANON_OK, 0, 0), "two generations are told apart");
+        check(is_compared(GLIDER, later, form, GOLLY_CANON_OK, 0, form == GOLLY_CANON_PHASES(4)), "two generations are told apart, except in all phases");
         check(is_compared(GLIDER, other_rule, form, GOLLY_CANON_OK, 0, 0), "so are two rules");
         check(is_compared(GLIDER, more, form, GOLLY_CANON_OK, 0, 0), "and two patterns");
         check(is_compared("\nx\n", "x = 1, y = 1\n0o!\n", form, GOLLY_CANON_BAD_HEADER, 2, 0), "the first file is refused first");
@@ -291,7 +333,16 @@ static void comparisons_in_forms(void)
     check(is_compared(GLIDER, MANY, GOLLY_CANON_MOVED, GOLLY_CANON_OK, 0, 0), "so are moved ones");
     check(is_compared(MANY, GLIDER, GOLLY_CANON_TURNED, GOLLY_CANON_OK, 0, 0), "and turned ones");
     check(is_compared(later, MANY, GOLLY_CANON_TURNED, GOLLY_CANON_OK, 0, 0), "two generations are told apart");
+    check(is_compared(GLIDER, LATER_GLIDER, GOLLY_CANON_TURNED, GOLLY_CANON_OK, 0, 0), "turned, two phases are told apart");
+    check(is_compared(GLIDER, "#CXRLE Pos=5,5 Gen=1\n" LATER_GLIDER, GOLLY_CANON_PHASES(4), GOLLY_CANON_OK, 0, 1), "in all phases they are one");
+    check(is_compared(LATER_GLIDER, shifted, GOLLY_CANON_PHASES(4), GOLLY_CANON_OK, 0, 1), "and the other way about");
+    check(is_compared(GLIDER, LATER_GLIDER, GOLLY_CANON_PHASES(3), GOLLY_CANON_OK, 0, 0), "but not where their period isn't sought");
+    check(is_compared(EDGES, GLIDER, GOLLY_CANON_PHASES(0), GOLLY_CANON_OK, 0, 0), "no generation of two patterns is made");
+    check(is_compared(EDGES, GLIDER, GOLLY_CANON_PHASES(1), GOLLY_CANON_OUT_OF_PLANE, 0, 0), "the first pattern leaves the plane");
+    check(is_compared(GLIDER, EDGES, GOLLY_CANON_PHASES(1), GOLLY_CANON_OUT_OF_PLANE, 0, 0), "the second one does");
+    check(is_compared(EDGES, "x = 1, y = 1\n0o!\n", GOLLY_CANON_PHASES(1), GOLLY_CANON_ZERO_COUNT, 2, 0), "a refused file comes before that");
     check(is_compared(GLIDER, "", 3, GOLLY_CANON_NO_FORM, 0, 0), "no form is told before a file is read");
+    check(is_compared(GLIDER, "", 0x7fffffff, GOLLY_CANON_NO_FORM, 0, 0), "nor is the number below those of all phases a form");
 }
 
 static void forms(void)
@@ -309,6 +360,11 @@ static uint32_t open_moved(golly_canon_stream *stream, uint64_t limit, uint64_t 
 static uint32_t open_turned(golly_canon_stream *stream, uint64_t limit, uint64_t seed)
 {
     return golly_canon_open_canon_form(stream, GOLLY_CANON_TURNED, limit, seed);
+}
+
+static uint32_t open_phases(golly_canon_stream *stream, uint64_t limit, uint64_t seed)
+{
+    return golly_canon_open_canon_form(stream, GOLLY_CANON_PHASES(4), limit, seed);
 }
 
 /* A file of a stream, the text that its finish gives, and the SHA-256 of that text, by sha256sum. */
@@ -333,6 +389,7 @@ static const struct {
      "a14b50c2a4d63d6691747d0a193d3e2ce177de09830734e252fe405787b82840"},
     {"a moved text in pieces", open_moved, BYTES("#CXRLE Pos=-12345,777\n" GLIDER), GLIDER_TEXT, GLIDER_KEY},
     {"a turned text in pieces", open_turned, BYTES("x = 3, y = 3\n3o$o$bo!\n"), TURNED_TEXT, TURNED_KEY},
+    {"a text of all phases in pieces", open_phases, BYTES("#CXRLE Pos=5,5 Gen=1\n" LATER_GLIDER), TURNED_TEXT, TURNED_KEY},
 };
 
 /* A file that is refused: the first byte of `refused` is the first that is fed with the fault, and where it has no byte, finish tells the fault. */
@@ -354,6 +411,7 @@ static const struct {
     {"too many cells", golly_canon_open_to_rle, BYTES("x = 2000000, y = 1\n2000000o!\n"), "", GOLLY_CANON_TOO_MANY_CELLS, 0},
     {"a name without a table", golly_canon_open_step, BYTES(WIRE), "", GOLLY_CANON_NEEDS_TABLE, 0},
     {"a child of a turned pattern", open_turned, BYTES("[M2]\n4 0 0 0 9"), "\n", GOLLY_CANON_BAD_CHILD, 2},
+    {"a pattern that leaves the plane", open_phases, BYTES(EDGES), "", GOLLY_CANON_OUT_OF_PLANE, 0},
 };
 
 static uint32_t feed(golly_canon_stream *stream, const void *piece, size_t length)
@@ -540,6 +598,8 @@ static void open_streams(void)
     check(golly_canon_open_canon_form(&stream, GOLLY_CANON_PLACED, LIMIT, SEED) == GOLLY_CANON_OK && is_fed(&stream, BYTES(GLIDER))
               && is_finished(&stream, GLIDER_TEXT), "a stream is opened for a placed text");
     check(golly_canon_open_canon_form(&stream, 3, LIMIT, SEED) == GOLLY_CANON_NO_FORM && is_spent(&stream), "a stream of no form is closed");
+    check(open_phases(&stream, LIMIT, SEED) == GOLLY_CANON_OK && golly_canon_open_canon_form(&stream, 0x7fffffff, LIMIT, SEED) == GOLLY_CANON_NO_FORM
+              && is_spent(&stream), "also if it was open");
     golly_canon_close(&stream);
 }
 
@@ -732,7 +792,8 @@ static void *deep_calls(void *given_count)
     golly_canon_stream stream = {0};
     size_t length;
     uint64_t at;
-    uint32_t same, in_table, status, form;
+    uint32_t same, in_table, status;
+    size_t i;
     long *wrong = given_count;
     *wrong += golly_canon_canon(BYTES(CORNERS), LIMIT, SEED, own, sizeof own, &length, &at) != GOLLY_CANON_OK;
     *wrong += golly_canon_show(BYTES(CORNERS), LIMIT, SEED, own, sizeof own, &length, &at) != GOLLY_CANON_OK;
@@ -743,7 +804,8 @@ static void *deep_calls(void *given_count)
     *wrong += golly_canon_same(BYTES(CORNERS), BYTES(ROWS), LIMIT, SEED, &same, &at) != GOLLY_CANON_OK || same;
     *wrong += golly_canon_canon(BYTES(ROWS), LIMIT, SEED, own, sizeof own, &length, &at) != GOLLY_CANON_OK;
     *wrong += golly_canon_show(BYTES(ROWS), LIMIT, SEED, own, sizeof own, &length, &at) != GOLLY_CANON_OK;
-    for (form = GOLLY_CANON_PLACED; form <= GOLLY_CANON_TURNED; form++) {
+    for (i = 0; i < FORMS; i++) {
+        uint32_t form = each_form[i];
         *wrong += golly_canon_canon_form(BYTES(CORNERS), form, LIMIT, SEED, own, sizeof own, &length, &at) != GOLLY_CANON_OK;
         *wrong += golly_canon_key(BYTES(CORNERS), form, LIMIT, SEED, own, sizeof own, &length, &at) != GOLLY_CANON_OK;
         *wrong += golly_canon_same_form(BYTES(CORNERS), BYTES(CORNERS), form, LIMIT, SEED, &same, &at) != GOLLY_CANON_OK || !same;
@@ -763,7 +825,8 @@ static void no_bytes(void)
     static unsigned char nothing[1];
     uint64_t at[2];
     size_t needed[2];
-    uint32_t status[2], same[2], in_table[2], form;
+    uint32_t status[2], same[2], in_table[2];
+    size_t i;
     int turn;
     golly_canon_stream stream = {0};
     /* Twice: with an address, and with NULL. Of no bytes, and of a file whose text has no room. */
@@ -789,7 +852,8 @@ static void no_bytes(void)
     TWICE("same", golly_canon_same(none, 0, none, 0, LIMIT, SEED, &same[turn], &at[turn]));
     TWICE("same, the first", golly_canon_same(none, 0, BYTES(CORNERS), LIMIT, SEED, &same[turn], &at[turn]));
     TWICE("same, the second", golly_canon_same(BYTES(CORNERS), none, 0, LIMIT, SEED, &same[turn], &at[turn]));
-    for (form = GOLLY_CANON_PLACED; form <= GOLLY_CANON_TURNED; form++) {
+    for (i = 0; i < FORMS; i++) {
+        uint32_t form = each_form[i];
         TWICE("canon_form", golly_canon_canon_form(none, 0, form, LIMIT, SEED, none, 0, &needed[turn], &at[turn]));
         TWICE("key", golly_canon_key(none, 0, form, LIMIT, SEED, none, 0, &needed[turn], &at[turn]));
         TWICE("same_form", golly_canon_same_form(none, 0, none, 0, form, LIMIT, SEED, &same[turn], &at[turn]));

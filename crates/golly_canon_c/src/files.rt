@@ -137,7 +137,8 @@ pub extern "C" fn golly_canon_step_by_table(
     tell(answer, needed, line)
 }
 
-/// The canonical text of the pattern of a file of either format, in the form with this number.
+/// The canonical text of the pattern of a file of either format, in the form with this number: 0 placed, 1 moved, 2 turned, and 2^31 + `most` for all phases,
+/// with a period of up to `most` generations.
 #[unsafe(no_mangle)]
 pub extern "C" fn golly_canon_canon_form(
     alloc: Global,

@@ -28,7 +28,7 @@ pub extern "C" fn golly_canon_open_canon(
     )
 }
 
-/// Opens a stream whose end gives the canonical text in the form with this number, and closes it first where it is open.
+/// Opens a stream whose end gives what `golly_canon_canon_form` gives in the form with this number, and closes it first where it is open.
 #[unsafe(no_mangle)]
 pub extern "C" fn golly_canon_open_canon_form(
     alloc: Global,

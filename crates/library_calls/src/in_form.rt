@@ -13,7 +13,7 @@ use std::alloc::Global;
 /// The status of a call with a number that is that of no form.
 pub const NO_FORM: u32 = 65;
 
-/// The least number of a form for all phases. Each form of so many generations has the number that is so much greater.
+/// The least number of a form for all phases. The form whose period is sought up to `most` generations has the number `PHASES + most`.
 pub const PHASES: u32 = 1 << 31;
 
 /// The form with this number, if one has it.
@@ -40,7 +40,8 @@ fn no_form() -> Reported
     }
 }
 
-/// The canonical text of the pattern of a file of either format, in the form with this number.
+/// The canonical text of the pattern of a file of either format, in the form with this number: 0 placed, 1 moved, 2 turned, and `PHASES + most` for all phases,
+/// with a period of up to `most` generations.
 pub fn canon_form(
     alloc: Global,
     bytes: &[u8],

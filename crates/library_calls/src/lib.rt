@@ -46,7 +46,7 @@ mod texts;
 pub use compared::{Compared, same};
 pub use comparison::same_form;
 pub use hints::warning;
-pub use in_form::{NO_FORM, canon_form, key};
+pub use in_form::{NO_FORM, PHASES, canon_form, key};
 pub use life_base::Form;
 pub use options::Options;
 pub use reported::{NO_ROOM, Reported, give};

@@ -31,8 +31,7 @@ pub fn open(alloc: Global, stream: &mut Stream, output: Output, options: Options
     }
 }
 
-/// Opens a stream whose end gives the canonical text in the form with this number, and closes it first where it is open. The
-/// answer is the status.
+/// Opens a stream whose end gives what `canon_form` gives in the form with this number, and closes it first where it is open. The answer is the status.
 pub fn open_canon_form(alloc: Global, stream: &mut Stream, form: u32, options: Options) -> u32
     ensures { MatchOption (form_numbered form) ((result ≡ 65) × (session_of stream.new ≡ None))
         (λ form. OpensStream (Output.Canonical form) options.limit result (session_of stream.new)) }
