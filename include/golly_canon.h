@@ -131,8 +131,8 @@ enum {
 #define GOLLY_CANON_PHASES(most) (((uint32_t)1 << 31) | (uint32_t)(most))
 
 /* `limit`, of each call: how many different squares the store of the call may hold, including those that it makes on the way to the answer. Squares in which
- * each cell is 0 don't count. The forms other than placed are made in further stores, and many generations use up to three stores at a time. Each of these has
- * this limit too. Two things are proved of the limit:
+ * each cell is 0 don't count. The forms other than placed are made in further stores, and many generations and GOLLY_CANON_PHASES use up to three stores at a
+ * time. Each of these has this limit too. Two things are proved of the limit:
  *
  *  - A call returns Full only if it needs more different squares than the limit. In the forms moved and turned the limit is 2^21, if yours is more. (This isn't
  *    proved of golly_canon_step_generations, because HashLife also stores squares that the answer doesn't need, and of GOLLY_CANON_PHASES.)
