@@ -85,9 +85,18 @@ MOVED = {
     "no header": (b"o!\n", 0, 6),
 }
 
+# Oscillators and spaceships, of periods from 2 to 15, and their rules.
+REPEATING = (("3o", "B3/S23"), ("b3o$3o", "B3/S23"), ("2o$2o$2b2o$2b2o", "B3/S23"), ("bo$2bo$3o", "B36/S23"), ("bo2bo$o$o3bo$4o", "B3/S23"),
+             ("3b2o$bo4bo$o$o5bo$6o", "B3/S23"), ("2bo4bo$2ob4ob2o$2bo4bo", "B3/S23"), ("bo$o$o$bo", "B2/S"),
+             ("2b3o3b3o2$o4bobo4bo$o4bobo4bo$o4bobo4bo$2b3o3b3o2$2b3o3b3o$o4bobo4bo$o4bobo4bo$o4bobo4bo2$2b3o3b3o", "B3/S23"))
+
 # How many generations further the worked files are taken within each limit, and the most cells with which the independent reader can do that.
 LATER = (0, 1, 6)
 MOST_CELLS = 4096
+
+# The number of each form. The form for all phases has one for each greatest period that is sought.
+PHASES = 2**31
+NUMBERS = {"placed": 0, "moved": 1, "turned": 2, **{f"phases up to {most}": PHASES + most for most in (0, 3, 4, 12)}}
 
 # How many random files of each kind are read with the room that suffices for their bytes.
 ROOM_FILES = 200
@@ -141,19 +150,19 @@ def compared_with(other, same=library.golly_canon_same):
 
 def in_form(call, form):
     """A call in a form, with the arguments of the others."""
-    return lambda file, length, *others: call(file, length, ctypes.c_uint32(forms.FORMS.index(form)), *others)
+    return lambda file, length, *others: call(file, length, ctypes.c_uint32(NUMBERS[form]), *others)
 
 
 def compared_in(other, form):
     """The call that compares with another file in a form, with the arguments of the others, as `compared_with`."""
     def call(first, length, second, other_length, *others):
-        return library.golly_canon_same_form(first, length, second, other_length, ctypes.c_uint32(forms.FORMS.index(form)), *others)
+        return library.golly_canon_same_form(first, length, second, other_length, ctypes.c_uint32(NUMBERS[form]), *others)
     return compared_with(other, call)
 
 
 def opened_in(form):
     """The call that opens a stream for a text in a form, with the arguments of the others."""
-    return lambda stream, *others: library.golly_canon_open_canon_form(stream, ctypes.c_uint32(forms.FORMS.index(form)), *others)
+    return lambda stream, *others: library.golly_canon_open_canon_form(stream, ctypes.c_uint32(NUMBERS[form]), *others)
 
 
 def later_by(generations):
@@ -352,9 +361,27 @@ def text_in(data, form):
     return forms.text_in(file.squares, file.pattern, form)
 
 
+def words_of(form):
+    """What the independent reader is told of a form."""
+    return (form,) if NUMBERS[form] < PHASES else ("phases", NUMBERS[form] - PHASES)
+
+
 def formed(data, form):
     """The text of a file in a form, as the independent reader has it, and what it tells where it refuses."""
-    answer = commands.canon(commands.File(data), form)
+    answer = commands.canon(commands.File(data), *words_of(form))
+    return answer.output, answer.fault
+
+
+def compared_by_texts(first, second):
+    """What the comparison of two files tells whose texts these are."""
+    if first[1] or second[1]:
+        return b"", first[1] or second[1]
+    return (b"same\n" if first[0] == second[0] else b"different\n"), ""
+
+
+def compared_by_cells(first, second, form):
+    """The same by the independent reader, which looks at the cells of the two files. It refuses a pattern that leaves the plane after both files are read."""
+    answer = commands.same(commands.File(first), commands.File(second), *words_of(form))
     return answer.output, answer.fault
 
 
@@ -364,14 +391,12 @@ def key_of(answer):
 
 
 def wrong_forms(files):
-    """The files whose text or key in a form is another one than the independent reader's, or that aren't compared by those texts: each with the file
-    before it, and the first with the last."""
-    for form in forms.FORMS:
+    """The files whose text or key in a form is another one than the independent reader's, or that aren't compared by those texts, or for all phases by the
+    cells: each with the file before it, and the first with the last."""
+    for form, number in NUMBERS.items():
         answers = [formed(file, form) for file in files]
         for at, (file, answer) in enumerate(zip(files, answers)):
-            before = answers[at - 1]
-            told = ("", before[1]) if before[1] else ("", answer[1])
-            same = (b"same\n" if answer[0] == before[0] else b"different\n", "") if told == ("", "") else (b"", told[1])
+            same = compared_by_texts(answers[at - 1], answer) if number < PHASES else compared_by_cells(files[at - 1], file, form)
             if outcome_of(in_form(library.golly_canon_canon_form, form), file) != answer:
                 yield f"{form}: {file!r}"
             if outcome_of(by_stream(opened_in(form), at), file) != answer:
@@ -389,6 +414,18 @@ def random_file(number):
     return random_files.mutated(source, random_files.pattern_file(source, rule, greatest))
 
 
+def random_phase(number):
+    """A file of an oscillator or a spaceship after some generations; or of random cells at two edges of the plane, which they may leave."""
+    source = random.Random(f"phase {number}")
+    north, generation = source.randrange(-50, 50), source.choice((0, 7))
+    if number % 3:
+        cells, rule = source.choice(REPEATING)
+        file = f"#CXRLE Pos={source.choice((0, -12345, 2**61 - 99))},{north} Gen={generation}\nx = 0, y = 0, rule = {rule}\n{cells}!\n"
+        return commands.step(commands.File(file.encode()), generations=source.randrange(30)).output
+    rows = "$".join("".join(source.choice("bo") for _ in range(4)) + f"{2**62 - 8}b" + "".join(source.choice("bo") for _ in range(4)) for _ in range(4))
+    return f"#CXRLE Pos={-(2**61)},{north} Gen={generation}\nx = 0, y = 0, rule = {source.choice(('B3/S23', 'B2/S013V'))}\n{rows}!\n".encode()
+
+
 def has_few_cells(data):
     answer = commands.show(commands.File(data))
     return answer.fault != "" or int(answer.output.split(b"\n")[2].split()[1]) < 3000
@@ -403,12 +440,22 @@ def check_forms():
     small = [*small_files.LIFE_FILES.values(), *(file for file, _ in small_files.NAMED_FILES.values()), *(file for file, _, _ in MOVED.values())]
     small = [file for file in small if has_few_cells(file)]
     chosen = [file for file in map(random_file, range(RANDOM_FILES)) if has_few_cells(file)]
-    for what, files in (("gliders", gliders), ("small files", small), ("random files", chosen)):
+    phases = list(map(random_phase, range(RANDOM_FILES // 3)))
+    texts = [[formed(file, form)[0] for file in phases] for form in ("phases up to 0", "phases up to 12")]
+    left = texts[1].count(b"")
+    others = sum(one != other for one, other in zip(*texts)) - left
+    check(left > 9 and others > 9, f"of {len(phases)} random patterns {left} leave the plane, and {others} have the text of another phase")
+    for what, files in (("gliders", gliders), ("small files", small), ("random files", chosen), ("random phases", phases)):
         wrong = list(wrong_forms(files))
         check(not wrong and len(files) > 20, f"{len(files)} {what} in forms: {wrong[:2]}")
     check(len({text_of(in_form(library.golly_canon_key, "turned"), file) for file in gliders}) == 1, "one key of all turned gliders")
     check(len({text_of(in_form(library.golly_canon_key, "moved"), file) for file in gliders}) == 8, "eight keys of all moved gliders")
     check(len({text_of(in_form(library.golly_canon_key, "placed"), file) for file in gliders}) == 24, "24 keys of all placed gliders")
+    later = [commands.step(commands.File(file), generations=number).output for file in gliders for number in range(4)]
+    later = [file for file in later if file]  # without those that would leave the plane
+    for form, count in (("turned", 4), ("phases up to 3", 2), ("phases up to 4", 1)):
+        found = {text_of(in_form(library.golly_canon_key, form), file) for file in later}
+        check(len(found) == count and len(later) > 64, f"{len(found)} keys of {len(later)} phases of gliders, {form}")
     first = MOVED["a glider"][0]
     for name, (file, least, least_both) in MOVED.items():
         answer, both = formed(file, "moved"), commands.answer_of(lambda: same_in_form(first, file, "moved"))
@@ -422,6 +469,8 @@ def check_forms():
         if name in WORKED:
             found = first_limit(in_form(library.golly_canon_canon_form, "turned"), file, formed(file, "turned"))
             check(found == WORKED[name][1].read, f"each limit: turned text of {name}: {found}")
+            found = first_limit(in_form(library.golly_canon_canon_form, "phases up to 0"), file, formed(file, "phases up to 0"))
+            check(found == WORKED[name][1].read, f"each limit: text of {name} where no period is sought: {found}")
 
 
 def same_in_form(first, second, form):
