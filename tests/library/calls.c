@@ -1,12 +1,13 @@
 /* Does by the library what the program golly_canon does with the same words, to compare the two: it writes the same bytes, and ends with the
    same status. The memory for a text is a byte at first, so that each text is asked for again.
    calls canon FILE | show FILE | rle FILE | step FILE [TABLE] | same A B
-   calls moved FILE | turned FILE | same_moved A B | same_turned A B: the canonical text in a form, and the comparison
-   calls key FILE | key_moved FILE | key_turned FILE: the 32 bytes of the key
-   calls pieces N canon FILE | show FILE | rle FILE | step FILE | moved FILE | turned FILE: by a stream, which is fed N bytes at a time. Nothing is held at the end then,
-   also where memory is refused.
-   calls pieces N keys FILE | keys_moved FILE | keys_turned FILE: the same for the key, in the line that `keys` of the program writes; and if there is none, the line that
-   says why, with its sentence. */
+   calls moved FILE | turned FILE | phases FILE | same_moved A B | same_turned A B | same_phases A B: the canonical text in a form, and the comparison.
+   For phases the period is sought up to 12 generations.
+   calls key FILE | key_moved FILE | key_turned FILE | key_phases FILE: the 32 bytes of the key
+   calls pieces N canon FILE | show FILE | rle FILE | step FILE | moved FILE | turned FILE | phases FILE: by a stream, which is fed N bytes at a time.
+   Nothing is held at the end then, also where memory is refused.
+   calls pieces N keys FILE | keys_moved FILE | keys_turned FILE | keys_phases FILE: the same for the key, in the line that `keys` of the program writes;
+   and if there is none, the line that says why, with its sentence. */
 #include <golly_canon.h>
 #include <stdio.h>
 #include <stdlib.h>
@@ -94,9 +95,11 @@ typedef uint32_t text_call(const unsigned char *, size_t, uint64_t, uint64_t, un
     }
 IN_FORM(moved, golly_canon_canon_form, GOLLY_CANON_MOVED)
 IN_FORM(turned, golly_canon_canon_form, GOLLY_CANON_TURNED)
+IN_FORM(phases, golly_canon_canon_form, GOLLY_CANON_PHASES(12))
 IN_FORM(key, golly_canon_key, GOLLY_CANON_PLACED)
 IN_FORM(key_moved, golly_canon_key, GOLLY_CANON_MOVED)
 IN_FORM(key_turned, golly_canon_key, GOLLY_CANON_TURNED)
+IN_FORM(key_phases, golly_canon_key, GOLLY_CANON_PHASES(12))
 /* And twelve generations, which are two leaps. */
 IN_FORM(later, golly_canon_step_generations, 12)
 
@@ -106,7 +109,8 @@ static text_call *call_of(const char *word)
         const char *word;
         text_call *call;
     } all[] = {{"canon", golly_canon_canon}, {"show", golly_canon_show}, {"rle", golly_canon_to_rle}, {"step", golly_canon_step},
-               {"later", later}, {"moved", moved}, {"turned", turned}, {"key", key}, {"key_moved", key_moved}, {"key_turned", key_turned}};
+               {"later", later}, {"moved", moved}, {"turned", turned}, {"phases", phases}, {"key", key}, {"key_moved", key_moved}, {"key_turned", key_turned},
+               {"key_phases", key_phases}};
     size_t i;
     for (i = 0; i < sizeof all / sizeof *all; i++)
         if (!strcmp(all[i].word, word))
@@ -141,13 +145,15 @@ static int text(const char *word, struct bytes file, const struct bytes *table)
 
 static int same(const char *word, struct bytes first, struct bytes second)
 {
+    uint32_t form = !strcmp(word, "same_moved")  ? (uint32_t)GOLLY_CANON_MOVED
+                  : !strcmp(word, "same_turned") ? (uint32_t)GOLLY_CANON_TURNED
+                                                 : GOLLY_CANON_PHASES(12);
     uint32_t is_same = 12345, status;
     uint64_t line;
     if (!strcmp(word, "same"))
         status = golly_canon_same(first.at, first.length, second.at, second.length, GOLLY_CANON_SQUARES, SEED, &is_same, &line);
     else
-        status = golly_canon_same_form(first.at, first.length, second.at, second.length,
-                                       !strcmp(word, "same_moved") ? GOLLY_CANON_MOVED : GOLLY_CANON_TURNED, GOLLY_CANON_SQUARES, SEED, &is_same, &line);
+        status = golly_canon_same_form(first.at, first.length, second.at, second.length, form, GOLLY_CANON_SQUARES, SEED, &is_same, &line);
     if (status != GOLLY_CANON_OK)
         return refused(status, line, 0);
     fputs(is_same ? "same\n" : "different\n", stdout);
@@ -201,6 +207,11 @@ static uint32_t open_turned(golly_canon_stream *stream, uint64_t limit, uint64_t
     return golly_canon_open_canon_form(stream, GOLLY_CANON_TURNED, limit, seed);
 }
 
+static uint32_t open_phases(golly_canon_stream *stream, uint64_t limit, uint64_t seed)
+{
+    return golly_canon_open_canon_form(stream, GOLLY_CANON_PHASES(12), limit, seed);
+}
+
 static uint32_t open_later(golly_canon_stream *stream, uint64_t limit, uint64_t seed)
 {
     return golly_canon_open_step_generations(stream, 12, limit, seed);
@@ -216,6 +227,7 @@ static int stream(const char *word, const char *name, size_t size)
         : !strcmp(word, "later")                                     ? open_later
         : !strcmp(word, "moved") || !strcmp(word, "keys_moved")      ? open_moved
         : !strcmp(word, "turned") || !strcmp(word, "keys_turned")    ? open_turned
+        : !strcmp(word, "phases") || !strcmp(word, "keys_phases")    ? open_phases
                                                                      : golly_canon_open_step;
     golly_canon_stream stream = {0};
     struct bytes answer = {NULL, 12345};

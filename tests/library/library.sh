@@ -104,9 +104,11 @@ count=0
 for file in files/*; do
     problems="$problems$(compared canon "canon $file" "$file")$(compared show "show $file" "$file")"
     problems="$problems$(compared rle "convert $file --to rle" "$file")$(compared step "step $file" "$file")"
+    problems="$problems$(compared phases "canon --form phases --within 12 $file" "$file")"
     for other in files/*; do
         case $other in *.rule) problems="$problems$(compared step "step $file --table $other" "$file" "$other")" ;; esac
         problems="$problems$(compared same "same $file $other" "$file" "$other")"
+        problems="$problems$(compared same_phases "same --form phases --within 12 $file $other" "$file" "$other")"
         count=$((count + 1))
     done
 done
@@ -121,6 +123,7 @@ for file in files/*; do
         problems="$problems$(compared "pieces $size keys" "keys --form placed $file" "$file")"
         problems="$problems$(compared "pieces $size keys_moved" "keys --form moved $file" "$file")"
         problems="$problems$(compared "pieces $size keys_turned" "keys --form turned $file" "$file")"
+        problems="$problems$(compared "pieces $size keys_phases" "keys --form phases --within 12 $file" "$file")"
         count=$((count + 1))
     done
 done
@@ -131,7 +134,8 @@ if command -v valgrind > /dev/null; then
     for words in "canon files/gosper_glider_gun.mc" "show files/gosper_glider_gun.mc" "rle files/gosper_glider_gun.mc" "step files/glider.rle" \
         "step files/wire.rle files/WireWorld.rule" "step files/wire.rle files/broken.rule" "same files/glider.rle files/glider.mc" \
         "canon files/child.mc" "moved files/gosper_glider_gun.mc" "turned files/wire.rle" "key_moved files/glider.rle" "key_turned files/child.mc" \
-        "same_moved files/glider.rle files/glider.mc" "same_turned files/glider.rle files/child.mc" \
+        "same_moved files/glider.rle files/glider.mc" "same_turned files/glider.rle files/child.mc" "same_phases files/glider.rle files/glider.mc" \
+        "phases files/gosper_glider_gun.mc" "pieces 7 keys_phases files/glider.rle" "key_phases files/wire.rle" \
         "pieces 1 canon files/gosper_glider_gun.mc" "pieces 7 show files/gosper_glider_gun.mc" "pieces 65536 rle files/gosper_glider_gun.mc" \
         "pieces 1 keys files/gosper_glider_gun.mc" "pieces 7 keys_turned files/glider.rle" "pieces 1 keys_moved files/child.mc" \
         "later files/gosper_glider_gun.mc" "pieces 7 later files/glider.rle" "later files/wire.rle" \
@@ -186,6 +190,8 @@ each_request same files/glider.rle files/glider.mc
 each_request moved files/glider.rle
 each_request key files/glider.rle
 each_request same_moved files/glider.rle files/glider.mc
+each_request phases files/glider.rle
+each_request same_phases files/glider.rle files/glider.mc
 each_request canon files/child.mc
 each_request pieces 1 canon files/glider.rle
 each_request pieces 7 canon files/gosper_glider_gun.mc
@@ -199,6 +205,7 @@ each_request pieces 7 canon files/child.mc
 each_request pieces 1 keys files/glider.rle
 each_request pieces 7 keys_moved files/gosper_glider_gun.mc
 each_request pieces 7 keys_turned files/glider.mc
+each_request pieces 7 keys_phases files/glider.rle
 each_request pieces 7 keys files/child.mc
 each_request pieces 65536 step files/wire.rle
 
