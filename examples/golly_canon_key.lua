@@ -3,8 +3,8 @@
 -- It needs the program golly_canon, and a table that it has made, say by
 --     golly_canon keys --form turned -r ~/patterns > ~/keys
 -- These may be set before Golly is started: GOLLY_CANON, the program (if none is named, golly_canon on the PATH); GOLLY_CANON_KEYS, the table (the
--- file keys in the home folder); and GOLLY_CANON_FORM, the form of its keys (turned: in any place and direction). A key says the generation too, so a
--- pattern that has run on is another one.
+-- file keys in the home folder); and GOLLY_CANON_FORM, the form of its keys (turned: in any place and direction; phases: an oscillator or a spaceship
+-- in any phase too). A key says the generation too, except with phases, so a pattern that has run on is another one.
 
 local g = golly()
 
