@@ -9,12 +9,13 @@ use Rattle.life_canon.specs.Files.{Accepted}
 use Rattle.life_canon.specs.Least.{IsLeastText}
 use Rattle.life_canon.specs.Listing.{canon_text, canonical_file}
 use Rattle.life_canon.specs.Texts.{IsCanonical, IsShownText as LayerShown}
+use Rattle.pattern_forms.specs.InForm.{OneFileLacksForm}
 use Rattle.pattern_sources.specs.Forms.{IsTextIn as LayerTextIn}
 use Rattle.life_cli.specs.Jobs.{Compares, IsSteppedTimes, TaskWrites, HasAnswer}
 use Rattle.life_table.specs.declared.table.Table.{Table as LayerTable}
 use Rattle.command_line.specs.Plans.{HasSecond as LayerSecond}
 use Rattle.life_base.specs.declared.form.Form.{Form}
-use Rattle.life_base.specs.declared.form.Form.TheVariants.{Placed, Moved, Turned}
+use Rattle.life_base.specs.declared.form.Form.TheVariants.{Placed, Moved, Turned, Phases}
 use Rattle.command_line.specs.declared.plans.Task.{Task}
 use Rattle.command_line.specs.declared.plans.Task.TheVariants as tasks
 use Rattle.command_line.specs.declared.plans.Target.TheVariants.{Rle, Mc}
@@ -36,11 +37,12 @@ use Rattle.theorems.proofs.StepBy as by_table
 use Rattle.claims.specs.Tables.{IsTable}
 use Rattle.generation_theorems.proofs.FurtherLaw.{later-is}
 use Rattle.program_theorems.proofs.PeriodLaw.{shown-with_period}
+use Rattle.program_theorems.proofs.PhaseLaw.{either-from}
 use Rattle.program_theorems.specs.Jobs.{AreClaimedSteps, HasClaimedSecond, WritesCanonical, IsOutcome, IsShortFile}
-use Rattle.program_theorems.specs.Forms.{SameIn, IsClaimedTextIn}
+use Rattle.program_theorems.specs.Forms.{SameIn, IsClaimedTextIn, OneFileLacksClaimedForm}
 use Rattle.program_theorems.specs.Layers.{LayersAgree}
-use Rattle.program_theorems.proofs.FormTexts.{moved_exact, turned_exact}
-use Rattle.program_theorems.proofs.FormLaw.{moved_text_is, own_moved, own_text_of, own_turned, same_in_from, same_in_to, texts_tell_in, turned_text_is}
+use Rattle.program_theorems.proofs.FormTexts.{moved_exact, phases_exact, turned_exact}
+use Rattle.program_theorems.proofs.FormLaw.{moved_text_is, own_moved, own_phases, own_text_of, own_turned, phases_text_is, related_from, same_in_from, same_in_to, say_related, texts_tell_in, turned_text_is}
 
 -- ---- second files
 
@@ -91,7 +93,7 @@ canonical laws bytes text c = canonical_so laws.on_plane laws.files laws.keep by
 
 compares : LayersAgree → (form : Form) (a b : List ℕ) (status : ℕ) (text : List ℕ) → Accepted 62 a → Accepted 62 b → Compares form a b status text
     → ((status ≡ 0) × SameIn form a b × (text ≡ codes "same\n")) ⊎ ((status ≡ 1) × (SameIn form a b → ⊥) × (text ≡ codes "different\n"))
-compares laws form a b status text p q (inl h) = inl (h.0, same_in_to form a b h.1, h.2)
+compares laws form a b status text p q (inl h) = inl (h.0, same_in_to laws.on_plane form a b h.1, h.2)
 compares laws form a b status text p q (inr h) = inr (h.0, (λ s. h.1 (same_in_from laws.on_plane form a b p.0 q.0 p.1 q.1 s)), h.2)
 
 text_in : LayersAgree → (form : Form) (file text : List ℕ) → LayerTextIn form 62 file text → IsClaimedTextIn form file text
@@ -104,6 +106,19 @@ text_in laws Turned file text h =
     let is = turned_text_is laws file text h in
     let p = files_agree file h.universe h.reads in
     (is, canonical laws text text (own_turned laws file text h), (p.pattern, p.is, turned_exact laws file text h))
+text_in laws (Phases most) file text h =
+    let is = phases_text_is laws file text most h in
+    let p = files_agree file h.universe h.reads in
+    (is, canonical laws text text (own_phases laws file text most h), (p.pattern, p.is, phases_exact laws file text most h))
+
+-- two files that are compared have no reason against it
+no_lack : LayersAgree → (form : Form) (a b : List ℕ) → Accepted 62 a → Accepted 62 b → ¬ (OneFileLacksForm form 62 (2 ^ 21) a b)
+    → OneFileLacksClaimedForm form a b → ⊥
+no_lack laws Placed a b p q none s = elim s.related [ inl h ↦ h | inr h ↦ h ]
+no_lack laws Moved a b p q none s = elim s.related [ inl h ↦ h | inr h ↦ h ]
+no_lack laws Turned a b p q none s = elim s.related [ inl h ↦ h | inr h ↦ h ]
+no_lack laws (Phases most) a b p q none s =
+    none (say_related p.0 q.0 p.1 q.1 (related_from laws.on_plane (either-from most) a b p.0 q.0 p.1 q.1 s))
 
 -- many steps by a table
 pub times : LayersAgree → (layer : LayerTable) (table : Table) → IsTable layer table → (n : ℕ) (bytes text : List ℕ) → IsSteppedTimes layer n bytes text
@@ -118,8 +133,12 @@ answers laws (tasks.Canon form) file second status text h = (h.0, text_in laws f
 answers laws (tasks.Convert Rle) file second status text h =
     (h.0, same_to file text (laws.rle (2 ^ 20) file text h.1), rle_format file text h.1, few_cells file text h.1, rle_of_file file text h.1)
 answers laws (tasks.Convert Mc) file second status text h = (h.0, canonical laws file text h.1)
-answers laws (tasks.Same form) file second status text h =
-    (accepted_is_ok file h.0, accepted_is_ok second h.1, compares laws form file second status text h.0 h.1 h.3)
+answers laws (tasks.Same form) file second status text h = (
+  accepted_is_ok file h.0,
+  accepted_is_ok second h.1,
+  no_lack laws form file second h.0 h.1 h.2,
+  compares laws form file second status text h.0 h.1 h.3,
+)
 answers laws tasks.Show file second status text h =
     let reported = canon_text 62 h.1.universe in
     let c : IsCanonical 62 file reported = record { universe = h.1.universe; reads = h.1.reads; is = refl } in
@@ -201,6 +220,7 @@ own_text : LayersAgree → (task : Task) (file second : List ℕ) (status : ℕ)
 own_text laws (tasks.Canon Placed) file second status text w h = own_canonical laws file text h.1
 own_text laws (tasks.Canon Moved) file second status text w h = own_moved laws file text h.1
 own_text laws (tasks.Canon Turned) file second status text w h = own_turned laws file text h.1
+own_text laws (tasks.Canon (Phases most)) file second status text w h = own_phases laws file text most h.1
 own_text laws (tasks.Convert Rle) file second status text w h = absurd w
 own_text laws (tasks.Convert Mc) file second status text w h = own_canonical laws file text h.1
 own_text laws (tasks.Same form) file second status text w h = absurd w

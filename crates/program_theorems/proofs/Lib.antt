@@ -1,5 +1,8 @@
+mod PatternLaw
+mod PeriodLaw
+mod PhaseLaw
 mod FormLaw
 mod FormTexts
-mod PeriodLaw
 mod AnswerLaw
 mod RefusalLaw
+mod Rows

@@ -1,5 +1,5 @@
 -- The period of a file in the words of the claims is that of the layer below.
-use Rattle.std.proofs.Common.{◌≡◌, ℕ, ◌≤◌, List, ◌++◌, refl, ap, ◌∙◌, sym, subst, ◌⊎◌, inl, inr, filter, Option, Some, None, Result, Ok, ℤ, ◌+ℤ◌}
+use Rattle.std.proofs.Common.{◌≡◌, ℕ, List, ◌++◌, refl, ap, ◌∙◌, sym, subst, inl, inr, filter, Option, Some, None, Result, Ok, ℤ, ◌+ℤ◌}
 use Rattle.life_base.specs.Rules.{IsRule, IsLifeRule, has_digit, counts, most_neighbours}
 use Rattle.life_base.specs.Sets.{OuterTotalistic}
 use Rattle.life_base.specs.declared.fault.Fault.{Fault}
@@ -11,7 +11,7 @@ use Rattle.life_canon.specs.Laws.{FilesAreOnPlane, FilesAreUnique, TextsAreFiles
 use Rattle.life_canon.specs.Texts.{IsCanonical}
 use Rattle.life_canon.specs.Universe.{Universe}
 use Rattle.life_phases.specs.Middle.{IsInMiddle, moved_by}
-use Rattle.life_phases.specs.Periods.{HasPeriod, IsPeriodUpTo, LeavesFirst, LeavesFromMiddle}
+use Rattle.life_phases.specs.Periods.{HasPeriod, IsLeastPeriod, IsPeriodUpTo, LeavesFirst, LeavesFromMiddle}
 use Rattle.life_phases.specs.declared.period.Period.{Period}
 use Rattle.life_periods.specs.Line.{period_line}
 use Rattle.life_periods.specs.OfFile.{IsPeriodUnder, IsShownWithPeriod, PeriodRefusal, PeriodRuleRefusal}
@@ -25,18 +25,18 @@ use Rattle.theorems.proofs.FileLaw.{files_agree}
 use Rattle.theorems.proofs.ShownLaw.{shown_is}
 use Rattle.theorems.proofs.StepLaw.{none_some, some_of}
 use Rattle.generation_theorems.proofs.FurtherLaw.{life-after_is, leaves-to, leaves-from}
-use Rattle.program_theorems.specs.Periods.{HasClaimedPeriod, IsClaimedPeriod, LeavesClaimedPlaneFirst, IsInClaimedMiddle, LeavesFromClaimedMiddle, IsPeriodReason, no_table_for_period, leaves_from_middle, claimed_period_line, IsClaimedShownWithPeriod, HasNoClaimedPeriod}
+use Rattle.program_theorems.specs.Periods.{HasClaimedPeriod, IsClaimedLeastPeriod, IsClaimedPeriod, LeavesClaimedPlaneFirst, IsInClaimedMiddle, LeavesFromClaimedMiddle, IsPeriodReason, no_table_for_period, leaves_from_middle, claimed_period_line, IsClaimedShownWithPeriod, HasNoClaimedPeriod}
 
 -- ---- periods
 
 module _ (life : OuterTotalistic) (valid : IsLifeRule life) where
-  abbrev births : List ℕ
+  abbrev pub births : List ℕ
   births = filter (has_digit life.sets.births) counts
 
-  abbrev survivals : List ℕ
+  abbrev pub survivals : List ℕ
   survivals = filter (has_digit life.sets.survivals) counts
 
-  abbrev neighbours : ℕ
+  abbrev pub neighbours : ℕ
   neighbours = most_neighbours life.near
 
   has-to : (d : ℤ → ℤ → ℕ) (n : ℕ) (columns rows : ℤ) → HasPeriod life d n columns rows → HasClaimedPeriod neighbours births survivals d n columns rows
@@ -45,23 +45,30 @@ module _ (life : OuterTotalistic) (valid : IsLifeRule life) where
     moved = λ x y. ap (λ (f : ℤ → ℤ → ℕ). f (x +ℤ columns) (y +ℤ rows)) (life-after_is life valid n d) ∙ h.moved.cells x y;
   }
 
-  has-from : (d : ℤ → ℤ → ℕ) (n : ℕ) (columns rows : ℤ) → HasClaimedPeriod neighbours births survivals d n columns rows → HasPeriod life d n columns rows
+  pub has-from : (d : ℤ → ℤ → ℕ) (n : ℕ) (columns rows : ℤ) → HasClaimedPeriod neighbours births survivals d n columns rows → HasPeriod life d n columns rows
   has-from d n columns rows h = record {
     some = h.some;
     moved = record { cells = λ x y. ap (λ (f : ℤ → ℤ → ℕ). f (x +ℤ columns) (y +ℤ rows)) (sym (life-after_is life valid n d)) ∙ h.moved x y };
   }
 
+  pub least-to : (d : ℤ → ℤ → ℕ) (period : Period) → IsLeastPeriod life d period → IsClaimedLeastPeriod neighbours births survivals d period
+  least-to d period h = record {
+    is = has-to d period.generations period.shift.columns period.shift.rows h.is;
+    least = λ n columns rows p. h.least n columns rows (has-from d n columns rows p);
+    still = h.still;
+  }
+
+  pub least-from : (d : ℤ → ℤ → ℕ) (period : Period) → IsClaimedLeastPeriod neighbours births survivals d period → IsLeastPeriod life d period
+  least-from d period h = record {
+    is = has-from d period.generations period.shift.columns period.shift.rows h.is;
+    least = λ n columns rows p. h.least n columns rows (has-to d n columns rows p);
+    still = h.still;
+  }
+
   period-to : (most : ℕ) (d : ℤ → ℤ → ℕ) (answer : Option Period) → IsPeriodUpTo life d most answer
       → IsClaimedPeriod most (rule_in (Life life)) d answer
   period-to most d None h = λ n columns rows within p. h n columns rows within (has-from d n columns rows p)
-  period-to most d (Some period) h = (
-    h.0,
-    record {
-      is = has-to d period.generations period.shift.columns period.shift.rows h.1.is;
-      least = λ n columns rows p. h.1.least n columns rows (has-from d n columns rows p);
-      still = h.1.still;
-    },
-  )
+  period-to most d (Some period) h = (h.0, least-to d period h.1)
 
   first-to : (most : ℕ) (d : ℤ → ℤ → ℕ) → LeavesFirst life most d → LeavesClaimedPlaneFirst neighbours births survivals most d
   first-to most d h = record {
@@ -99,7 +106,7 @@ module _ (life : OuterTotalistic) (valid : IsLifeRule life) where
     down = record { low_end = h.3.0; high_end = h.3.1 };
   }
 
-  middle-to : (most : ℕ) (d : ℤ → ℤ → ℕ) → LeavesFromMiddle life most d → LeavesFromClaimedMiddle neighbours births survivals most d
+  pub middle-to : (most : ℕ) (d : ℤ → ℤ → ℕ) → LeavesFromMiddle life most d → LeavesFromClaimedMiddle neighbours births survivals most d
   middle-to most d h = (
     h.columns,
     h.rows,
@@ -107,7 +114,7 @@ module _ (life : OuterTotalistic) (valid : IsLifeRule life) where
     first-to most (moved_by h.columns h.rows d) h.leaves,
   )
 
-  middle-from : (most : ℕ) (d : ℤ → ℤ → ℕ) → LeavesFromClaimedMiddle neighbours births survivals most d → LeavesFromMiddle life most d
+  pub middle-from : (most : ℕ) (d : ℤ → ℤ → ℕ) → LeavesFromClaimedMiddle neighbours births survivals most d → LeavesFromMiddle life most d
   middle-from most d h = record {
     columns = h.0;
     rows = h.1;

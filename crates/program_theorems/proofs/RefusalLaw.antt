@@ -13,7 +13,7 @@ use Rattle.life_base.specs.declared.kind.Kind.TheVariants as kinds
 use Rattle.life_quad.specs.Store.{Nodes}
 use Rattle.life_table.specs.Reading.{is_table_kind}
 use Rattle.life_table.specs.declared.table.Table.{Table as LayerTable}
-use Rattle.life_canon.specs.Files.{Accepted, Refuses as LayerRefuses, is_file_kind}
+use Rattle.life_canon.specs.Files.{Refuses as LayerRefuses, is_file_kind}
 use Rattle.life_canon.specs.Running.{RunRefuses, ReadRefuses}
 use Rattle.life_canon.specs.Running as running
 use Rattle.life_canon.specs.Texts.{IsCanonical, IsRleOf, IsShownText as LayerShown}
@@ -24,9 +24,10 @@ use Rattle.pattern_sources.specs.Faults.{is_of_table, place_text, Reports, fault
 use Rattle.life_cli.specs.Jobs as layer
 use Rattle.pattern_sources.specs.Sources as sources
 use Rattle.command_line.specs.Plans.{HasSecond as LayerSecond}
-use Rattle.pattern_sources.specs.Forms.{IsTextIn as LayerTextIn}
+use Rattle.pattern_forms.specs.InForm.{RefusesFormFor}
+use Rattle.pattern_sources.specs.Forms.{IsTextIn as LayerTextIn, LacksForm}
 use Rattle.life_base.specs.declared.form.Form.{Form}
-use Rattle.life_base.specs.declared.form.Form.TheVariants.{Placed, Moved, Turned}
+use Rattle.life_base.specs.declared.form.Form.TheVariants.{Placed, Moved, Turned, Phases}
 use Rattle.command_line.specs.declared.plans.Task.{Task}
 use Rattle.command_line.specs.declared.plans.Task.TheVariants as tasks
 use Rattle.command_line.specs.declared.plans.Target.TheVariants.{Rle, Mc}
@@ -49,8 +50,12 @@ use Rattle.theorems.proofs.StepBy as by_table
 use Rattle.claims.specs.Tables.{IsTable}
 use Rattle.theorems.proofs.StepLaw.{unstepped_is}
 use Rattle.program_theorems.proofs.AnswerLaw.{own_times, times}
+use Rattle.program_theorems.proofs.FormLaw.{related_to}
+use Rattle.program_theorems.proofs.PatternLaw.{said}
 use Rattle.program_theorems.proofs.PeriodLaw.{period-reason_of}
+use Rattle.program_theorems.proofs.PhaseLaw.{either-to, lacks-to}
 use Rattle.program_theorems.specs.Jobs.{AreClaimedSteps, HasClaimedSecond, IsShortFile, RefusesTask, RefusesClaimedMany, IsReason, of_files, of_want, of_length, of_source, of_sink, DeviceHolds}
+use Rattle.program_theorems.specs.Forms.{FileLacksClaimedForm, OneFileLacksClaimedForm}
 use Rattle.program_theorems.specs.Layers.{LayersAgree}
 use Rattle.program_theorems.specs.Periods.{HasNoClaimedPeriod, IsPeriodReason, no_table_for_period, leaves_from_middle}
 use Rattle.program_theorems.specs.Faults.{claimed_fault_line, claimed_status_of}
@@ -231,6 +236,29 @@ module _ (laws : LayersAgree) (task : Task) (first second : SourceRun) (output :
         })
         breaks.written breaks.cause
 
+-- ---- forms
+
+-- why a pattern has no text in a form: for want, or because it leaves the plane
+no_text : LayersAgree → (form : Form) (bytes : List ℕ) (fault : Fault) → RefusesFormFor form (LacksForm form 62 bytes) fault
+    → IsShortage fault ⊎ ((fault ≡ claimed_fault_of kinds.OutOfPlane) × FileLacksClaimedForm form bytes)
+no_text laws Placed bytes fault h = inl (inl h.0)
+no_text laws Moved bytes fault h = inl (inl h.0)
+no_text laws Turned bytes fault h = inl (inl h.0)
+no_text laws (Phases most) bytes fault (inr full) = inl (inl full)
+no_text laws (Phases most) bytes fault (inl h) =
+    let u = h.1.0 in
+    let p = files_agree bytes u h.1.1 in
+    inr (h.0, (p.pattern, p.is, lacks-to p.pattern u (said bytes u p) (laws.on_plane bytes u h.1.1).rule most h.1.2))
+
+-- why two files aren't compared in a form
+no_comparison : LayersAgree → (form : Form) (a b : List ℕ) (fault : Fault) → layer.RefusesSame form a b fault
+    → IsShortage fault ⊎ ((fault ≡ claimed_fault_of kinds.OutOfPlane) × OneFileLacksClaimedForm form a b)
+no_comparison laws Placed a b fault h = inl (inl h.0)
+no_comparison laws Moved a b fault h = inl (inl h.0)
+no_comparison laws Turned a b fault h = inl (inl h.0)
+no_comparison laws (Phases most) a b fault (inr full) = inl (inl full)
+no_comparison laws (Phases most) a b fault (inl h) = inr (h.0, related_to laws.on_plane (either-to most) a b h.1)
+
 -- ---- each task
 
 module _ (laws : LayersAgree) (first second : SourceRun) (output : SinkRun) (refusal : Refusal) where
@@ -252,14 +280,27 @@ module _ (laws : LayersAgree) (first second : SourceRun) (output : SinkRun) (ref
         inr (m.0, subst (SaysMoreCells (2 ^ 20)) (all_read (2 ^ 30) first.before first.after file bytes read f) (says_more bytes m.1)),
       ))
 
+  out_of_plane : refusal.fault ≡ claimed_fault_of kinds.OutOfPlane → IsPlaceless refusal.fault
+  out_of_plane is = record { line = ap (λ (f : Fault). f.place.line) is; kind = other_kind refusal.fault kinds.OutOfPlane is (λ n. cc) }
+
   -- a file whose pattern is taken in a form
-  of_form_text : (form : Form) (task : Task)
-      → ((file other : List ℕ) → IsShortFile file × (pattern_of file ≡ Err refusal.fault) → RefusesTask task file other false refusal.fault)
-      → refusal.in_table ≡ false → (bytes : List ℕ) → ReadAll (2 ^ 30) first.before first.after bytes → sources.RefusesInForm form bytes refusal.fault
-      → Origin task first second output refusal
-  of_form_text form task to e bytes read (inl h) =
-      of_pattern laws task first second output refusal e bytes h (λ file other f g. to file other (read_as _ _ bytes file _ read f h))
-  of_form_text form task to e bytes read (inr large) = from_want (inl large.0)
+  of_form_text : (form : Form) → refusal.in_table ≡ false → (bytes : List ℕ) → ReadAll (2 ^ 30) first.before first.after bytes
+      → sources.RefusesInForm form bytes refusal.fault → Origin (tasks.Canon form) first second output refusal
+  of_form_text form e bytes read (inl h) =
+      of_pattern laws (tasks.Canon form) first second output refusal e bytes h
+      (λ file other f g. let r = read_as _ _ bytes file _ read f h in (r.0, refl, inl r.1))
+  of_form_text form e bytes read (inr h) = by (no_text laws form bytes refusal.fault h)
+    where
+      by : IsShortage refusal.fault ⊎ ((refusal.fault ≡ claimed_fault_of kinds.OutOfPlane) × FileLacksClaimedForm form bytes)
+          → Origin (tasks.Canon form) first second output refusal
+      by (inl want) = from_want want
+      by (inr k) =
+          of_none laws (tasks.Canon form) first second output refusal false (out_of_plane k.0)
+          (λ file other f g. (
+            short _ _ bytes file read f,
+            refl,
+            inr (k.0, subst (FileLacksClaimedForm form) (all_read (2 ^ 30) first.before first.after file bytes read f) k.1),
+          ))
 
   of_step : refusal.in_table ≡ false → (bytes : List ℕ) → ReadAll (2 ^ 30) first.before first.after bytes → layer.RefusesLifeStep bytes refusal.fault
       → Origin tasks.Step first second output refusal
@@ -312,7 +353,23 @@ module _ (laws : LayersAgree) (first second : SourceRun) (output : SinkRun) (ref
       → Origin (tasks.Same form) first second output refusal
   of_files_compared form e (layer.by_first h) = of_first_input laws (tasks.Same form) first second output refusal h
   of_files_compared form e (layer.by_second a read h) = of_second_input laws (tasks.Same form) first second output refusal tt h
-  of_files_compared form e (layer.by_form a b one two p q h) = from_want (inl h.0)
+  of_files_compared form e (layer.by_form a b one two p q h) = by (no_comparison laws form a b refusal.fault h)
+    where
+      by : IsShortage refusal.fault ⊎ ((refusal.fault ≡ claimed_fault_of kinds.OutOfPlane) × OneFileLacksClaimedForm form a b)
+          → Origin (tasks.Same form) first second output refusal
+      by (inl want) = from_want want
+      by (inr k) =
+          of_none laws (tasks.Same form) first second output refusal false (out_of_plane k.0)
+          (λ file other f g. (
+            short _ _ a file one f,
+            short _ _ b other two (g tt),
+            refl,
+            inr (inr (
+              k.0,
+              subst (λ (s : List ℕ). OneFileLacksClaimedForm form s other) (all_read (2 ^ 30) first.before first.after file a one f)
+                  (subst (OneFileLacksClaimedForm form a) (all_read (2 ^ 30) second.before second.after other b two (g tt)) k.1),
+            )),
+          ))
   of_files_compared form e (layer.by_files a b one two (inl h)) =
       of_pattern laws (tasks.Same form) first second output refusal e a h
       (λ file other f g. let r = read_as _ _ a file _ one f h in (r.0, short _ _ b other two (g tt), refl, inl r.1))
@@ -322,10 +379,10 @@ module _ (laws : LayersAgree) (first second : SourceRun) (output : SinkRun) (ref
         short _ _ a file one f,
         r.0,
         refl,
-        inr (
+        inr (inl (
           subst (λ (s : List ℕ). IsOk (pattern_of s)) (all_read (2 ^ 30) first.before first.after file a one f) (accepted_is_ok a h.0),
           r.1,
-        ),
+        )),
       ))
   of_files_compared form e (layer.by_first_shortage want) = from_want (wanted [] first refusal.fault want)
   of_files_compared form e (layer.by_second_shortage a stored read are want) = from_want (wanted stored second refusal.fault want)
@@ -489,16 +546,19 @@ pub origin_of : LayersAgree → (task : Task) (first second : SourceRun) (output
     → Origin task first second output refusal
 origin_of laws (tasks.Canon Placed) first second output refusal h =
     of_canon laws (tasks.Canon Placed) first second output refusal (λ bytes other text c. (refl, c)) (λ has. has) h.0
-    (λ file other r. (r.0, refl, r.1)) h.1.0 h.1.2
+    (λ file other r. (r.0, refl, inl r.1)) h.1.0 h.1.2
 origin_of laws (tasks.Convert Mc) first second output refusal h =
     of_canon laws (tasks.Convert Mc) first second output refusal (λ bytes other text c. (refl, c)) (λ has. has) h.0 (λ file other r. (r.0, refl, r.1)) h.1.0
     h.1.2
 origin_of laws (tasks.Canon Moved) first second output refusal h =
     of_file laws (tasks.Canon Moved) first second output refusal (LayerTextIn Moved 62) (sources.RefusesInForm Moved) (λ bytes other text is. (refl, is))
-    (λ has. has) (of_form_text laws first second output refusal Moved (tasks.Canon Moved) (λ file other r. (r.0, refl, r.1)) h.0) h.1
+    (λ has. has) (of_form_text laws first second output refusal Moved h.0) h.1
 origin_of laws (tasks.Canon Turned) first second output refusal h =
     of_file laws (tasks.Canon Turned) first second output refusal (LayerTextIn Turned 62) (sources.RefusesInForm Turned) (λ bytes other text is. (refl, is))
-    (λ has. has) (of_form_text laws first second output refusal Turned (tasks.Canon Turned) (λ file other r. (r.0, refl, r.1)) h.0) h.1
+    (λ has. has) (of_form_text laws first second output refusal Turned h.0) h.1
+origin_of laws (tasks.Canon (Phases most)) first second output refusal h =
+    of_file laws (tasks.Canon (Phases most)) first second output refusal (LayerTextIn (Phases most) 62) (sources.RefusesInForm (Phases most))
+    (λ bytes other text is. (refl, is)) (λ has. has) (of_form_text laws first second output refusal (Phases most) h.0) h.1
 origin_of laws (tasks.Convert Rle) first second output refusal h =
     of_file laws (tasks.Convert Rle) first second output refusal (IsRleOf 62 (2 ^ 20)) sources.RefusesMany (λ bytes other text is. (refl, is)) (λ has. has)
     (of_many laws first second output refusal (tasks.Convert Rle) (λ file other h. h) h.0) h.1

@@ -1,15 +1,17 @@
--- The forms in which patterns are taken: as they lie, moved, and turned. They are this project's own.
-use Rattle.std.specs.Prelude.{◌≡◌, ◌⊎◌, ℕ, Bool, true, false, if◌then◌else◌, ℤ, pos, negsuc, ◌+ℤ◌, ◌<ℤ◌, List, Ok}
+-- The forms in which patterns are taken: as they lie, moved, turned, and for all phases. They are this project's own.
+use Rattle.std.specs.Prelude.{◌≡◌, ◌⊎◌, ℕ, Bool, true, false, if◌then◌else◌, ℤ, pos, negsuc, ◌+ℤ◌, ◌<ℤ◌, ◌<◌, List, Ok}
 use Rattle.std.specs.Cmp.Lexicographic.{slice_cmp}
 use Rattle.std.specs.Ordering.{nat_cmp, is_gt}
 use Rattle.life_base.specs.declared.bounds.Bounds.{Bounds}
 use Rattle.life_base.specs.declared.form.Form.{Form}
-use Rattle.life_base.specs.declared.form.Form.TheVariants.{Placed, Moved, Turned}
+use Rattle.life_base.specs.declared.form.Form.TheVariants.{Placed, Moved, Turned, Phases}
+use Rattle.life_phases.specs.declared.period.Period.{Period}
 use Rattle.claims.specs.Canonical.{IsTextOfPattern}
 use Rattle.claims.specs.Counting.{IsCanonicalText}
 use Rattle.claims.specs.Files.{pattern_of, SayOnePattern}
 use Rattle.claims.specs.Pattern.{Pattern, coordinate_bound}
 use Rattle.claims.specs.Shown.{IsClaimedBoundingBox}
+use Rattle.program_theorems.specs.Phases.{claimed_begun, claimed_phase, HasClaimedPhases, HasNoClaimedPhases, LacksClaimedPhases}
 
 -- the second is the first, with each cell so many columns further east and rows further south
 abbrev pub IsClaimedShift : Pattern → Pattern → Type 0
@@ -34,6 +36,13 @@ claimed_image exchange columns rows p = record {
 abbrev pub IsClaimedTurnedShift : Pattern → Pattern → Type 0
 IsClaimedTurnedShift p q = (exchange : Bool) × (columns : Bool) × (rows : Bool) × IsClaimedShift (claimed_image exchange columns rows p) q
 
+-- Two patterns are one but for their places, orientations and phases: a turn and a shift take the first to the second, whatever their generations are; or the
+-- first has phases, and a turn and a shift take the first so many generations later to the second.
+pub data AreOfOneClaimedCourse (most : ℕ) (p q : Pattern) : Type 0 where
+  in_one_claimed_phase : IsClaimedTurnedShift (claimed_begun p) (claimed_begun q) → AreOfOneClaimedCourse most p q
+  in_two_claimed_phases : (neighbours : ℕ) (births survivals : List ℕ) (period : Period) → HasClaimedPhases most p neighbours births survivals period
+      → (n : ℕ) → IsClaimedTurnedShift (claimed_phase neighbours births survivals n p) (claimed_begun q) → AreOfOneClaimedCourse most p q
+
 -- both are files, and what the first says is related to what the second says
 pub record AreRelated (relates : Pattern → Pattern → Type 0) (a b : List ℕ) : Type 0 where
   pub first : Pattern
@@ -42,11 +51,12 @@ pub record AreRelated (relates : Pattern → Pattern → Type 0) (a b : List ℕ
   pub second_is : pattern_of b ≡ Ok second
   pub related : relates first second
 
--- both are files of one pattern, or of one that a shift takes to the other, or a shift after a turn
+-- both are files of one pattern, or of one that a shift takes to the other, or a shift after a turn, or a shift after a turn of one of its phases
 abbrev pub SameIn : Form → List ℕ → List ℕ → Type 0
 SameIn Placed a b = SayOnePattern a b
 SameIn Moved a b = AreRelated IsClaimedShift a b
 SameIn Turned a b = AreRelated IsClaimedTurnedShift a b
+SameIn (Phases most) a b = AreRelated (AreOfOneClaimedCourse most) a b
 
 -- the columns or the rows of a box begin with 0; but those that would leave the plane so end with the plane
 abbrev pub IsInClaimedPlace : (first last : ℤ) → Type 0
@@ -72,11 +82,39 @@ pub record IsClaimedTurnedText (pattern : Pattern) (text : List ℕ) : Type 0 wh
   pub least : (exchange columns rows : Bool) (other : List ℕ) → IsClaimedMovedText (claimed_image exchange columns rows pattern) other
       → IsNoGreaterText text other
 
+-- the text is that of one of the first `count` phases of a pattern, each turned, and no greater than that of any of them
+pub record IsLeastOfClaimedPhases (neighbours : ℕ) (births survivals : List ℕ) (count : ℕ) (pattern : Pattern) (text : List ℕ) : Type 0 where
+  pub number : ℕ
+  pub below : number < count
+  pub is : IsClaimedTurnedText (claimed_phase neighbours births survivals number pattern) text
+  pub least : (k : ℕ) (other : List ℕ) → k < count → IsClaimedTurnedText (claimed_phase neighbours births survivals k pattern) other
+      → IsNoGreaterText text other
+
+-- the text of a pattern for all its places, orientations and phases: the least text of its phases, or its own in generation 0 if it has none
+pub data IsClaimedPhasesText (most : ℕ) (pattern : Pattern) (text : List ℕ) : Type 0 where
+  of_claimed_phases : (neighbours : ℕ) (births survivals : List ℕ) (period : Period) → HasClaimedPhases most pattern neighbours births survivals period
+      → IsLeastOfClaimedPhases neighbours births survivals period.generations pattern text → IsClaimedPhasesText most pattern text
+  of_claimed_pattern : HasNoClaimedPhases most pattern → IsClaimedTurnedText (claimed_begun pattern) text → IsClaimedPhasesText most pattern text
+
+-- the pattern has no text in a form: for all phases, it leaves the plane before its period is found
+abbrev pub LacksClaimedForm : Form → Pattern → Type 0
+LacksClaimedForm (Phases most) pattern = LacksClaimedPhases most pattern
+LacksClaimedForm _ pattern = ⊥
+
+-- the bytes are a file of a pattern that has none
+abbrev pub FileLacksClaimedForm : Form → List ℕ → Type 0
+FileLacksClaimedForm form file = (pattern : Pattern) × (pattern_of file ≡ Ok pattern) × LacksClaimedForm form pattern
+
+-- both are files, and one of their patterns has none
+abbrev pub OneFileLacksClaimedForm : Form → List ℕ → List ℕ → Type 0
+OneFileLacksClaimedForm form a b = AreRelated (λ p q. LacksClaimedForm form p ⊎ LacksClaimedForm form q) a b
+
 -- the text of a pattern in a form
 abbrev pub IsTextOfForm : Form → Pattern → List ℕ → Type 0
 IsTextOfForm Placed pattern text = IsTextOfPattern pattern text
 IsTextOfForm Moved pattern text = IsClaimedMovedText pattern text
 IsTextOfForm Turned pattern text = IsClaimedTurnedText pattern text
+IsTextOfForm (Phases most) pattern text = (LacksClaimedPhases most pattern → ⊥) × IsClaimedPhasesText most pattern text
 
 -- the text is that of the file's pattern in the form, and the canonical text of a pattern that is the same in the form
 abbrev pub IsClaimedTextIn : Form → List ℕ → List ℕ → Type 0

@@ -2,9 +2,7 @@
 use Rattle.std.specs.Prelude.{◌≡◌, ◌⊎◌, ◌↔◌, ℕ, zero, suc, ◌^◌, ◌≤◌, ◌<◌, Bool, true, false, List, ◌++◌, length, take, codes, Option, Some, IsSome, IfSome, Ok, Err, IsOk}
 use Rattle.life_base.specs.Text.{begins_with}
 use Rattle.life_base.specs.declared.fault.Fault.{Fault}
-use Rattle.life_base.specs.declared.kind.Kind.TheVariants.{ReadFault, WriteFault, InputTooLong, TooManyCells}
-use Rattle.life_base.specs.declared.form.Form.{Form}
-use Rattle.life_base.specs.declared.form.Form.TheVariants.{Placed, Moved, Turned}
+use Rattle.life_base.specs.declared.kind.Kind.TheVariants.{ReadFault, WriteFault, InputTooLong, OutOfPlane, TooManyCells}
 use Rattle.command_line.specs.declared.plans.Task.{Task}
 use Rattle.command_line.specs.declared.plans.Task.TheVariants as tasks
 use Rattle.command_line.specs.declared.plans.Target.TheVariants.{Rle, Mc}
@@ -17,7 +15,7 @@ use Rattle.claims.specs.Table.{Table, table_of}
 use Rattle.claims.specs.ByTable.{IsClaimedStepBy, IsUnsteppedBy}
 use Rattle.theorems.specs.Patterns.{IsRleOfFile}
 use Rattle.generation_theorems.specs.ManyGenerations.{IsClaimedTextLater, IsNotAdvanced}
-use Rattle.program_theorems.specs.Forms.{SameIn, IsClaimedTextIn}
+use Rattle.program_theorems.specs.Forms.{SameIn, IsClaimedTextIn, FileLacksClaimedForm, OneFileLacksClaimedForm}
 use Rattle.program_theorems.specs.Periods.{IsClaimedShownWithPeriod, HasNoClaimedPeriod}
 use Rattle.program_theorems.specs.Faults.{claimed_status_of, claimed_fault_line}
 
@@ -63,7 +61,7 @@ IsOutcome (tasks.Convert Mc) file second status text = (status ≡ 0) × IsCanon
 IsOutcome (tasks.Convert Rle) file second status text =
     (status ≡ 0) × SayOnePattern file text × (begins_with text (codes "[M2]") ≡ false) × (SaysMoreCells (2 ^ 20) file → ⊥) × IsRleOfFile file text
 IsOutcome (tasks.Same form) file second status text =
-    IsOk (pattern_of file) × IsOk (pattern_of second)
+    IsOk (pattern_of file) × IsOk (pattern_of second) × (OneFileLacksClaimedForm form file second → ⊥)
     × (((status ≡ 0) × SameIn form file second × (text ≡ codes "same\n")) ⊎ ((status ≡ 1) × (SameIn form file second → ⊥) × (text ≡ codes "different\n")))
 IsOutcome tasks.Show file second status text =
     (status ≡ 0) × ((pattern : Pattern) × (pattern_of file ≡ Ok pattern)
@@ -87,10 +85,14 @@ RefusesClaimedMany file of_table fault =
 
 -- the fault for which a task refuses its files, and whether its line is one of a rule table
 abbrev pub RefusesTask : Task → (file second : List ℕ) → (of_table : Bool) → Fault → Type 0
+RefusesTask (tasks.Canon form) file second of_table fault =
+    IsShortFile file × (of_table ≡ false)
+    × ((pattern_of file ≡ Err fault) ⊎ ((fault ≡ claimed_fault_of OutOfPlane) × FileLacksClaimedForm form file))
 RefusesTask (tasks.Convert Rle) file second of_table fault = RefusesClaimedMany file of_table fault
 RefusesTask (tasks.Same form) file second of_table fault =
     IsShortFile file × IsShortFile second × (of_table ≡ false)
-    × ((pattern_of file ≡ Err fault) ⊎ (IsOk (pattern_of file) × (pattern_of second ≡ Err fault)))
+    × ((pattern_of file ≡ Err fault) ⊎ ((IsOk (pattern_of file) × (pattern_of second ≡ Err fault))
+    ⊎ ((fault ≡ claimed_fault_of OutOfPlane) × OneFileLacksClaimedForm form file second)))
 RefusesTask (tasks.ShowPeriod most) file second of_table fault =
     IsShortFile file × (of_table ≡ false) × ((pattern_of file ≡ Err fault) ⊎ HasNoClaimedPeriod most file fault)
 RefusesTask tasks.Step file second of_table fault = IsShortFile file × (of_table ≡ false) × ((pattern_of file ≡ Err fault) ⊎ IsUnstepped file fault)

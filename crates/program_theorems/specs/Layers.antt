@@ -3,6 +3,7 @@ use Rattle.life_canon.specs.Laws.{FilesAreOnPlane, FilesAreUnique, TextsAreFiles
 use Rattle.life_canon.specs.Listing.{canon_text}
 use Rattle.life_forms.specs.Laws.{ImagesStayOnPlane, MovedFormsAreOnPlane, MovedTextsAreFiles, MovedTextsTellFiles}
 use Rattle.life_forms.specs.Laws.{TurnedFormsAreOnPlane, TurnedTextsAreFiles, TurnedTextsTellFiles}
+use Rattle.life_phase_forms.specs.Laws.{PhasesTextsAreFiles, PhasesTextsTellFiles}
 use Rattle.life_table.specs.Grammar.{TableGrammarsAgree}
 use Rattle.life_table.specs.Laws.{TableRefusalsHaveKinds}
 use Rattle.claims.specs.TableLaws.{TablesRead, TablesRefuse, TablesDecide}
@@ -24,6 +25,8 @@ pub record LayersAgree : Type 0 where
   pub turned_on_plane : TurnedFormsAreOnPlane 62 (canon_text 62)
   pub turned_files : TurnedTextsAreFiles 62
   pub turned_tell : TurnedTextsTellFiles 62
+  pub phases_files : PhasesTextsAreFiles
+  pub phases_tell : PhasesTextsTellFiles
   pub grammars : TableGrammarsAgree
   pub table_kinds : TableRefusalsHaveKinds
   pub read : TablesRead

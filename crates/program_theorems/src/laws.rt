@@ -12,6 +12,7 @@ use life_forms::laws::{
     images_stay_on_plane, moved_forms_are_on_plane, moved_texts_are_files, moved_texts_tell_files,
     turned_forms_are_on_plane, turned_texts_are_files, turned_texts_tell_files,
 };
+use life_phase_forms::laws::{phases_texts_are_files, phases_texts_tell_files};
 use life_table::laws::{grammars_agree, refusals_have_kinds as table_refusals_have_kinds};
 
 /// What files, texts and tables are in the layers is what they are in the words of the formats.
@@ -34,6 +35,8 @@ pub fn layers_agree()
     turned_forms_are_on_plane();
     turned_texts_are_files();
     turned_texts_tell_files();
+    phases_texts_are_files();
+    phases_texts_tell_files();
     grammars_agree();
     table_refusals_have_kinds();
     tables_read();
