@@ -10,11 +10,17 @@ A pattern file is bytes in extended RLE or in macrocell. Two files have the same
       ...
     golly_canon.Refused: line 2: BadChild
 
-A pattern has three forms, each with its canonical text: `placed`, as it lies; `moved`, with its bounding box at (0, 0), which two files share
-exactly if they are one pattern wherever it is; and `turned`, which they share exactly if they are one pattern however it is turned or reflected too. `key`
-is the SHA-256 of such a text, for a table of many files:
+A pattern has four forms, each with its canonical text: `placed`, as it lies; `moved`, with its bounding box at (0, 0), which two files share
+exactly if they are one pattern wherever it is; `turned`, which they share exactly if they are one pattern however it is turned or reflected too; and `phases`,
+which all phases of an oscillator or a spaceship share too. `key` is the SHA-256 of such a text, for a table of many files:
 
     >>> golly_canon.key(b"x = 3, y = 3\\nbo$2bo$3o!\\n", "turned") == golly_canon.key(b"#CXRLE Pos=9,9\\nx = 3, y = 3\\n3o$2bo$bo!\\n", "turned")
+    True
+
+For `phases` the period of a pattern under its B/S rule is sought up to `within` generations, or up to 128 if you don't give `within`. The text has no
+generation. A pattern with no period up to there, or whose rule is a name, has its turned text in generation 0:
+
+    >>> golly_canon.same(b"x = 3, y = 3\\nbo$2bo$3o!\\n", b"x = 3, y = 3\\nobo$b2o$bo!\\n", "phases")
     True
 
 `keys` takes the paths of many files, and goes on where one of them is refused:
@@ -33,6 +39,7 @@ it, else in PREFIX/lib of PREFIX/share/golly_canon, or in out/library of the rep
 """
 
 import ctypes
+import operator
 import os
 import secrets
 import threading
@@ -45,7 +52,7 @@ __version__ = "0.2.0"
 
 Bytes = Union[bytes, bytearray, memoryview]
 Path = Union[str, bytes, "os.PathLike[str]", "os.PathLike[bytes]"]
-Form = Literal["placed", "moved", "turned"]
+Form = Literal["placed", "moved", "turned", "phases"]
 
 #: The limit of a call, if none is given: so many different squares, as the program has it. Beyond it a file is refused as `Full`. To read a file
 #: `14 * length + 264` suffices, and for two files the sum of both; the squares of a next generation, and of a moved pattern, come on top.
@@ -55,7 +62,8 @@ _NAME = "libgolly_canon.so.1"
 _HERE = os.path.dirname(os.path.abspath(__file__))
 _PLACES = [os.path.join(_HERE, _NAME), _NAME, os.path.join(_HERE, "..", "..", "lib", _NAME), os.path.join(_HERE, "..", "out", "library", _NAME)]
 _CHUNK = 1 << 16
-_FORMS = ("placed", "moved", "turned")  # by their numbers
+_FORMS = ("placed", "moved", "turned", "phases")  # by their numbers, but for the last one: its number is _PHASES and the greatest period that is sought
+_PHASES, _WITHIN = 1 << 31, 128
 _GIVEN = ("canon", "to_rle", "show", "step")
 _AMBIGUOUS, _NO_ROOM = 43, 64
 _HEAD = 512  # the bytes of a file by which the library says what it is
@@ -250,28 +258,30 @@ class Stream:
                 file.feed(chunk)
             text = file.finish()  # and file.finish_key()
 
-    `gives` says what comes of it: `canon`, `to_rle`, `show` or `step`; `form` is that of the text of `canon`, and `generations` is how many `step` makes, as
-    the function `step` has it. `limit` is the most different squares that it may store: `14 * length + 264` suffices to read, with the length of all that is
-    fed.
+    `gives` says what comes of it: `canon`, `to_rle`, `show` or `step`; `form` and `within` are those of the text of `canon`, and `generations` is how many
+    `step` makes, as the function `step` has it. `limit` is the most different squares that it may store: `14 * length + 264` suffices to read, with the length
+    of all that is fed.
     """
 
     _level = 2  # the caller of `finish`, to whom a warning goes
 
-    def __init__(self, gives: str = "canon", *, form: Form = "placed", generations: Optional[int] = None, limit: int = SQUARES) -> None:
+    def __init__(self, gives: str = "canon", *, form: Form = "placed", within: Optional[int] = None, generations: Optional[int] = None,
+                 limit: int = SQUARES) -> None:
         self._head = b""
         self._struct, self._line, self._thread = _Struct(), ctypes.c_uint64(), threading.get_ident()
         if gives not in _GIVEN:
             raise ValueError(f"a stream gives canon, to_rle, show or step, and not {gives!r}")
         if generations is not None and gives != "step":
             raise ValueError(f"generations are for step, and not for {gives}")
+        number = _number_of(form, within)
         if gives == "canon":
-            status = _library.golly_canon_open_canon_form(self._own(), _number_of(form), _limit_of(limit), _SEED)
-        elif generations is not None and form == "placed":
-            status = _library.golly_canon_open_step_generations(self._own(), _generations_of(generations), _limit_of(limit), _SEED)
-        elif form == "placed":
-            status = getattr(_library, f"golly_canon_open_{gives}")(self._own(), _limit_of(limit), _SEED)
-        else:
+            status = _library.golly_canon_open_canon_form(self._own(), number, _limit_of(limit), _SEED)
+        elif form != "placed":
             raise ValueError(f"{gives} takes a pattern as it lies")
+        elif generations is not None:
+            status = _library.golly_canon_open_step_generations(self._own(), _generations_of(generations), _limit_of(limit), _SEED)
+        else:
+            status = getattr(_library, f"golly_canon_open_{gives}")(self._own(), _limit_of(limit), _SEED)
         self._check(status)
 
     def _own(self) -> Any:
@@ -344,11 +354,18 @@ def _generations_of(generations: int) -> int:
     return generations
 
 
-def _number_of(form: Form) -> int:
-    """The number of a form."""
+def _number_of(form: Form, within: Optional[int]) -> int:
+    """The number of a form, which for `phases` has the greatest period that is sought."""
     if form not in _FORMS:
-        raise ValueError(f"a form is placed, moved or turned, and not {form!r}")
-    return _FORMS.index(form)
+        raise ValueError(f"a form is placed, moved, turned or phases, and not {form!r}")
+    if form != "phases":
+        if within is not None:
+            raise ValueError("within is for form='phases' alone")
+        return _FORMS.index(form)
+    most = _WITHIN if within is None else operator.index(within)
+    if not 1 <= most < _PHASES:
+        raise ValueError("within is a number of generations from 1 to 2^31 - 1")
+    return _PHASES + most
 
 
 def _chunks_of(source: Union[BinaryIO, Iterable[Bytes]]) -> Iterator[Bytes]:
@@ -357,56 +374,56 @@ def _chunks_of(source: Union[BinaryIO, Iterable[Bytes]]) -> Iterator[Bytes]:
     return iter(source) if read is None else iter(lambda: read(_CHUNK), b"")
 
 
-def stream(source: Union[BinaryIO, Iterable[Bytes]], gives: str = "canon", *, form: Form = "placed", generations: Optional[int] = None,
-           limit: int = SQUARES) -> bytes:
+def stream(source: Union[BinaryIO, Iterable[Bytes]], gives: str = "canon", *, form: Form = "placed", within: Optional[int] = None,
+           generations: Optional[int] = None, limit: int = SQUARES) -> bytes:
     """The text of a file that comes in chunks: of a file that is open for reading in binary, or of an iterable of chunks.
 
-    `gives` is `canon`, `to_rle`, `show` or `step`; `form` is that of the text of `canon`, and `generations` is how many `step` makes. What it reads is not
-    held. Raises `Refused`.
+    `gives` is `canon`, `to_rle`, `show` or `step`; `form` and `within` are those of the text of `canon`, and `generations` is how many `step` makes. What it
+    reads is not held. Raises `Refused`.
     """
-    return _streamed(source, gives, form, limit, 3, generations=generations)
+    return _streamed(source, gives, 3, form=form, within=within, generations=generations, limit=limit)
 
 
-def stream_key(source: Union[BinaryIO, Iterable[Bytes]], form: Form = "placed", *, limit: int = SQUARES) -> bytes:
+def stream_key(source: Union[BinaryIO, Iterable[Bytes]], form: Form = "placed", *, within: Optional[int] = None, limit: int = SQUARES) -> bytes:
     """The key of a file that comes in chunks, as `stream` takes them: what `key` returns for the whole file. Raises `Refused`."""
-    return _streamed(source, "canon", form, limit, 3, Stream.finish_key)
+    return _streamed(source, "canon", 3, Stream.finish_key, form=form, within=within, limit=limit)
 
 
-def _streamed(source: Union[BinaryIO, Iterable[Bytes]], gives: str, form: Form, limit: int, level: int,
-              end: Callable[[Stream], bytes] = Stream.finish, *, generations: Optional[int] = None) -> bytes:
-    """What the end of a stream gives, for a caller so many levels above."""
-    with Stream(gives, form=form, generations=generations, limit=limit) as file:
+def _streamed(source: Union[BinaryIO, Iterable[Bytes]], gives: str, level: int, end: Callable[[Stream], bytes] = Stream.finish, **options: Any) -> bytes:
+    """What the end of a stream with these options gives, for a caller so many levels above."""
+    with Stream(gives, **options) as file:
         file._level = level + 1
         for chunk in _chunks_of(source):
             file.feed(chunk)
         return end(file)
 
 
-def canon(data: Bytes, form: Form = "placed", *, limit: int = SQUARES) -> bytes:
+def canon(data: Bytes, form: Form = "placed", *, within: Optional[int] = None, limit: int = SQUARES) -> bytes:
     """The canonical text of the pattern of a file, in a form. Raises `Refused`, also of a pattern whose form has more than 2^21 different squares
-    (`Full`), unless the form is `placed`."""
-    return _streamed([data], "canon", form, limit, 3)
+    (`Full`), unless the form is `placed`; and for `phases` of a pattern that leaves the plane before its period is found (`OutOfPlane`). `within` is for
+    `phases` alone: the greatest period that is sought, from 1 to 2^31 - 1, and 128 if none is given."""
+    return _streamed([data], "canon", 3, form=form, within=within, limit=limit)
 
 
-def key(data: Bytes, form: Form = "placed", *, limit: int = SQUARES) -> bytes:
+def key(data: Bytes, form: Form = "placed", *, within: Optional[int] = None, limit: int = SQUARES) -> bytes:
     """The SHA-256 of the text that `canon` gives, 32 bytes; `.hex()` is what `sha256sum` writes of it. Raises `Refused` as `canon` does."""
     file = _bytes_of(data)
-    found = _key(file, form, limit)
+    found = _key(file, _number_of(form, within), limit)
     _warn(warning_of(file), 2)
     return found
 
 
-def _key(file: bytes, form: Form, limit: int) -> bytes:
-    """The same without a warning."""
+def _key(file: bytes, number: int, limit: int) -> bytes:
+    """The same of the form with this number, without a warning."""
     found, needed, line = ctypes.create_string_buffer(32), ctypes.c_size_t(), ctypes.c_uint64()
     out = found, len(found), ctypes.byref(needed), ctypes.byref(line)
-    status = _library.golly_canon_key(file, len(file), _number_of(form), _limit_of(limit), _SEED, *out)
+    status = _library.golly_canon_key(file, len(file), number, _limit_of(limit), _SEED, *out)
     if status:
         raise _refused(status, line.value, file)
     return found.raw
 
 
-def keys(paths: Iterable[Path], form: Form = "placed", *, limit: int = SQUARES) -> Iterator[Keyed]:
+def keys(paths: Iterable[Path], form: Form = "placed", *, within: Optional[int] = None, limit: int = SQUARES) -> Iterator[Keyed]:
     """The key of each of these files, in their order: what `key` gives, or why the file has none. It goes on where a file is refused or can't be read, and
     holds one file at a time. Files with equal keys are duplicates:
 
@@ -419,21 +436,21 @@ def keys(paths: Iterable[Path], form: Form = "placed", *, limit: int = SQUARES) 
     """
     if isinstance(paths, (str, bytes, os.PathLike)):
         raise TypeError(f"paths are the paths of files, and not one path: {paths!r}")
-    _number_of(form), _limit_of(limit)  # refused here, and not in the middle of the files
-    return (_keyed(path, form, limit) for path in paths)
+    number, _ = _number_of(form, within), _limit_of(limit)  # refused here, and not in the middle of the files
+    return (_keyed(path, number, limit) for path in paths)
 
 
-def _keyed(path: Path, form: Form, limit: int) -> Keyed:
-    """The key of one file."""
+def _keyed(path: Path, number: int, limit: int) -> Keyed:
+    """The key of one file in the form with this number."""
     try:
         with open(path, "rb") as file:
             data = file.read()
-        return Keyed(path, _key(data, form, limit), None, warning_of(data))
+        return Keyed(path, _key(data, number, limit), None, warning_of(data))
     except (OSError, Refused) as why:
         return Keyed(path, None, why.with_traceback(None), None)  # whose frames would hold the file
 
 
-def pattern_keys(patterns: Iterable[Bytes], form: Form = "placed", *, limit: int = SQUARES) -> Iterator[KeyedPattern]:
+def pattern_keys(patterns: Iterable[Bytes], form: Form = "placed", *, within: Optional[int] = None, limit: int = SQUARES) -> Iterator[KeyedPattern]:
     """The key of each of these patterns, in their order: what `key` gives for the bytes of its file, or why it has none. `golly_canon keys --stream` writes the
     same. It goes on where a pattern is refused, takes each pattern when it is asked for its key, and holds one at a time, so `patterns` may be a generator
     that never ends:
@@ -451,60 +468,60 @@ def pattern_keys(patterns: Iterable[Bytes], form: Form = "placed", *, limit: int
         given = iter(patterns)
     except TypeError:
         raise TypeError(f"patterns are the bytes of one pattern after another, and not {type(patterns).__name__}") from None
-    _number_of(form), _limit_of(limit)  # refused here, and not in the middle of the patterns
-    return _pattern_keys(given, form, limit)
+    number_of_form, _ = _number_of(form, within), _limit_of(limit)  # refused here, and not in the middle of the patterns
+    return _pattern_keys(given, number_of_form, limit)
 
 
-def _pattern_keys(patterns: Iterator[Bytes], form: Form, limit: int) -> Iterator[KeyedPattern]:
+def _pattern_keys(patterns: Iterator[Bytes], number_of_form: int, limit: int) -> Iterator[KeyedPattern]:
     """The same without a look at what is given."""
     number = 0
     for data in patterns:
         number += 1
-        found = _keyed_pattern(number, data, form, limit)
+        found = _keyed_pattern(number, data, number_of_form, limit)
         del data  # it isn't held until there is another one
         yield found
 
 
-def _keyed_pattern(number: int, data: Bytes, form: Form, limit: int) -> KeyedPattern:
+def _keyed_pattern(number: int, data: Bytes, number_of_form: int, limit: int) -> KeyedPattern:
     """The key of the pattern with this number."""
     try:
         file = _bytes_of(data)
     except TypeError:
         raise TypeError(f"patterns are bytes, and pattern {number} is {type(data).__name__}") from None
     try:
-        return KeyedPattern(number, _key(file, form, limit), None, warning_of(file))
+        return KeyedPattern(number, _key(file, number_of_form, limit), None, warning_of(file))
     except Refused as why:
         return KeyedPattern(number, None, why.with_traceback(None), None)  # whose frames would hold the pattern
 
 
 def to_rle(data: Bytes, *, limit: int = SQUARES) -> bytes:
     """The pattern of a file in extended RLE. Raises `Refused`, also of a pattern with more than 2^20 cells that aren't 0 (`TooManyCells`)."""
-    return _streamed([data], "to_rle", "placed", limit, 3)
+    return _streamed([data], "to_rle", 3, limit=limit)
 
 
 def show(data: Bytes, *, limit: int = SQUARES) -> Shown:
     """What a pattern file holds. Raises `Refused`."""
-    return Shown.of(_streamed([data], "show", "placed", limit, 3))
+    return Shown.of(_streamed([data], "show", 3, limit=limit))
 
 
-def same(first: Bytes, second: Bytes, form: Form = "placed", *, limit: int = SQUARES) -> bool:
+def same(first: Bytes, second: Bytes, form: Form = "placed", *, within: Optional[int] = None, limit: int = SQUARES) -> bool:
     """Whether two files are one pattern, in a form: whether `canon` gives one text of them. Raises `Refused` for the first file where that is refused,
     and else for the second. Two turned patterns of different generations are different whatever their cells are."""
-    one, other, number = _bytes_of(first), _bytes_of(second), _number_of(form)
+    one, other, number = _bytes_of(first), _bytes_of(second), _number_of(form, within)
     is_same, line = ctypes.c_uint32(), ctypes.c_uint64()
     answered = ctypes.byref(is_same), ctypes.byref(line)
     status = _library.golly_canon_same_form(one, len(one), other, len(other), number, _limit_of(limit), _SEED, *answered)
     if status:
-        raise _refused(status, line.value, one if _is_refused(one, status, line.value, limit) else other)
+        raise _refused(status, line.value, one if _is_refused(one, status, line.value, number, limit) else other)
     _warn(warning_of(one) or warning_of(other), 2)
     return bool(is_same.value)
 
 
-def _is_refused(file: bytes, status: int, line: int, limit: int) -> bool:
-    """Whether a file is refused with this status and line when it is read alone."""
+def _is_refused(file: bytes, status: int, line: int, number: int, limit: int) -> bool:
+    """Whether a file is refused with this status and line when its key is made alone, in the form with this number."""
     out = ctypes.create_string_buffer(32), 32, ctypes.byref(ctypes.c_size_t())
     at = ctypes.c_uint64()
-    return _library.golly_canon_key(file, len(file), 0, _limit_of(limit), _SEED, *out, ctypes.byref(at)) == status and at.value == line
+    return _library.golly_canon_key(file, len(file), number, _limit_of(limit), _SEED, *out, ctypes.byref(at)) == status and at.value == line
 
 
 def step(data: Bytes, table: Optional[Bytes] = None, *, generations: Optional[int] = None, limit: int = SQUARES) -> bytes:
@@ -514,7 +531,7 @@ def step(data: Bytes, table: Optional[Bytes] = None, *, generations: Optional[in
     With `generations` it is the text so many generations later by the B/S rule, from 0 to 2^64 - 1, of any number of cells. A small file can be a machine that
     runs for ever: its time has no bound, and `limit` bounds its memory. A table makes one generation at a time."""
     if table is None:
-        return _streamed([data], "step", "placed", limit, 3, generations=generations)
+        return _streamed([data], "step", 3, generations=generations, limit=limit)
     if generations is not None:
         raise ValueError("a table makes one generation at a time")
     file, rule, room, status = _bytes_of(data), _bytes_of(table), _CHUNK, _NO_ROOM

@@ -41,6 +41,11 @@ ELSEWHERE = b"#CXRLE Pos=-12345,777\n" + GLIDER
 # The glider, turned: of its eight images the one whose first row ends behind one cell.
 TURNED_TEXT = LIFE + b"$$$$....*$....*.*$....**$$\n"
 MIRRORED = b"x = 3, y = 3\n3o$2bo$bo!\n"
+# The glider one generation later, and its text, turned, which is greater than that of the glider.
+LATER = b"x = 3, y = 3\nobo$b2o$bo!\n"
+LATER_TEXT = LIFE + b"$$$$....*$.....**$....**$$\n"
+# Two blinkers as far from each other as the plane is wide: they leave it.
+WIDE = b"#CXRLE Pos=-2305843009213693952,0\nx = 1, y = 3\n" + b"$".join([b"o4611686018427387902bo"] * 3) + b"!\n"
 CHILD = b"[M2]\n#R B3/S23\n....*$$$$$$$$\n4 0 0 0 9\n"
 
 
@@ -91,6 +96,14 @@ def refused_again():
         return outcome_of(it.feed, CHILD), outcome_of(it.feed, b"$\n"), outcome_of(it.finish), outcome_of(it.finish_key)
 
 
+def sentence_on(call, *arguments, **more):
+    """What the error of a call says that isn't a refusal."""
+    try:
+        return call(*arguments, **more)
+    except (TypeError, ValueError) as error:
+        return str(error)
+
+
 def keyed(chunks, gives="canon", form="placed"):
     """The key that a stream gives, which is fed one chunk after another; then its text, and the key again, which is the digest of the text; and that it
     takes no chunk then."""
@@ -126,15 +139,28 @@ ROWS = [
     ("canon, placed", outcome_of(golly_canon.canon, GLIDER, "placed"), GLIDER_TEXT),
     ("canon, moved", outcome_of(golly_canon.canon, ELSEWHERE, "moved"), GLIDER_TEXT),
     ("canon, turned", outcome_of(golly_canon.canon, MIRRORED, form="turned"), TURNED_TEXT),
+    ("canon, phases", outcome_of(golly_canon.canon, LATER, "phases"), TURNED_TEXT),
+    ("canon, phases up to the period", outcome_of(golly_canon.canon, LATER, "phases", within=4), TURNED_TEXT),
+    ("canon, phases up to less", outcome_of(golly_canon.canon, LATER, "phases", within=3), LATER_TEXT),
+    ("canon, phases up to the greatest number", outcome_of(golly_canon.canon, LATER, "phases", within=2**31 - 1), TURNED_TEXT),
+    ("canon, phases, of a later generation", outcome_of(golly_canon.canon, b"#CXRLE Gen=7\n" + LATER, form="phases"), TURNED_TEXT),
+    ("canon, phases, of a name", outcome_of(golly_canon.canon, b"#CXRLE Gen=7\n" + FILES["named.rle"], "phases"),
+     golly_canon.canon(FILES["named.rle"], "turned")),
+    ("canon, phases, of what leaves the plane", outcome_of(golly_canon.canon, WIDE, "phases"), ("OutOfPlane", None, False, "OutOfPlane")),
+    ("canon of a blank plane, phases", outcome_of(golly_canon.canon, FILES["input"], "phases"), LIFE),
     ("canon of a blank plane, moved", outcome_of(golly_canon.canon, FILES["input"], "moved"), LIFE),
     ("key", outcome_of(golly_canon.key, GLIDER), hashlib.sha256(GLIDER_TEXT).digest()),
     ("key, moved", outcome_of(golly_canon.key, ELSEWHERE, "moved"), hashlib.sha256(GLIDER_TEXT).digest()),
     ("key, turned", outcome_of(golly_canon.key, bytearray(MIRRORED), form="turned"), hashlib.sha256(TURNED_TEXT).digest()),
+    ("key, phases", outcome_of(golly_canon.key, LATER, "phases"), hashlib.sha256(TURNED_TEXT).digest()),
+    ("key, phases up to less", outcome_of(golly_canon.key, LATER, "phases", within=1), hashlib.sha256(LATER_TEXT).digest()),
     ("the key of a stream of bytes", outcome_of(keyed, (GLIDER[at:at + 1] for at in range(len(GLIDER)))), (GLIDER_KEY, True, SPENT)),
     ("the key of a moved stream", outcome_of(keyed, [ELSEWHERE[:9], ELSEWHERE[9:]], form="moved"), (GLIDER_KEY, True, SPENT)),
     ("the key of a stream to RLE", outcome_of(keyed, [FILES["pair.mc"]], "to_rle"), (hashlib.sha256(PAIR_RLE).hexdigest(), True, SPENT)),
     ("the key of an open file", outcome_of(golly_canon.stream_key, io.BytesIO(ELSEWHERE), "moved"), bytes.fromhex(GLIDER_KEY)),
     ("the key of chunks, turned", outcome_of(golly_canon.stream_key, [MIRRORED, b""], form="turned"), hashlib.sha256(TURNED_TEXT).digest()),
+    ("the key of chunks, phases", outcome_of(golly_canon.stream_key, [LATER], "phases"), hashlib.sha256(TURNED_TEXT).digest()),
+    ("the key of chunks, phases up to less", outcome_of(golly_canon.stream_key, [LATER], "phases", within=3), hashlib.sha256(LATER_TEXT).digest()),
     ("the key of chunks that are refused", outcome_of(golly_canon.stream_key, [CHILD]), NO_CHILD),
     ("the key of chunks, many cells", outcome_of(golly_canon.stream_key, [FILES["many.rle"]], "moved"), hashlib.sha256(MANY_TEXT).digest()),
     ("the key of chunks, a limit of 0", outcome_of(golly_canon.stream_key, [GLIDER], limit=0), ("Full", None, False, "Full")),
@@ -153,6 +179,10 @@ ROWS = [
     ("same, moved", outcome_of(golly_canon.same, GLIDER, ELSEWHERE, "moved"), True),
     ("same of a mirrored one, moved", outcome_of(golly_canon.same, ELSEWHERE, MIRRORED, "moved"), False),
     ("same, turned", outcome_of(golly_canon.same, ELSEWHERE, MIRRORED, form="turned"), True),
+    ("same of two phases, turned", outcome_of(golly_canon.same, GLIDER, LATER, "turned"), False),
+    ("same, phases", outcome_of(golly_canon.same, GLIDER, LATER, "phases"), True),
+    ("same, phases up to less", outcome_of(golly_canon.same, GLIDER, LATER, "phases", within=3), False),
+    ("same, phases, of what leaves the plane", outcome_of(golly_canon.same, GLIDER, WIDE, "phases"), ("OutOfPlane", None, False, "OutOfPlane")),
     ("step", outcome_of(golly_canon.step, FILES["line.rle"]), LINE_STEPPED),
     ("step by one generation", outcome_of(golly_canon.step, FILES["line.rle"], generations=1), LINE_STEPPED),
     ("step by an odd number of generations", outcome_of(golly_canon.step, FILES["line.rle"], generations=2**40 + 1),
@@ -172,7 +202,10 @@ ROWS = [
     ("a stream that is stepped", outcome_of(fed, [FILES["line.rle"]], "step"), LINE_STEPPED),
     ("a stream of a moved text", outcome_of(fed, (ELSEWHERE[at:at + 7] for at in range(0, len(ELSEWHERE), 7)), form="moved"), GLIDER_TEXT),
     ("an open file of a turned text", outcome_of(golly_canon.stream, io.BytesIO(MIRRORED), form="turned"), TURNED_TEXT),
+    ("a stream of phases", outcome_of(fed, [LATER[:9], LATER[9:]], form="phases"), TURNED_TEXT),
+    ("an open file of phases up to less", outcome_of(golly_canon.stream, io.BytesIO(LATER), form="phases", within=3), LATER_TEXT),
     ("a stream to RLE in a form", outcome_of(Stream, "to_rle", form="moved"), "ValueError"),
+    ("a stream to RLE in phases", outcome_of(Stream, "to_rle", form="phases", within=4), "ValueError"),
     ("an open file", outcome_of(golly_canon.stream, io.BytesIO(GLIDER)), GLIDER_TEXT),
     ("an open file to RLE", outcome_of(golly_canon.stream, io.BytesIO(FILES["pair.mc"]), "to_rle"), PAIR_RLE),
     ("a long file", outcome_of(golly_canon.stream, io.BytesIO(b"#C a comment\n" * 20_000 + GLIDER)), GLIDER_TEXT),
@@ -193,6 +226,14 @@ ROWS = [
     ("another form", outcome_of(golly_canon.canon, GLIDER, "shifted"), "ValueError"),
     ("a key in another form", outcome_of(golly_canon.key, GLIDER, 1), "ValueError"),
     ("same in another form", outcome_of(golly_canon.same, GLIDER, GLIDER, None), "ValueError"),
+    *((f"{name} within {within!r}", outcome_of(call, *given, "phases", within=within), error) for name, call, given in (
+        ("canon", golly_canon.canon, [GLIDER]), ("key", golly_canon.key, [GLIDER]), ("same", golly_canon.same, [GLIDER, GLIDER]),
+        ("keys", golly_canon.keys, [[]]), ("pattern_keys", golly_canon.pattern_keys, [[]]), ("stream_key", golly_canon.stream_key, [[]]))
+      for within, error in ((0, "ValueError"), (-1, "ValueError"), (2**31, "ValueError"), (4.0, "TypeError"), ("4", "TypeError"))),
+    *((f"{name} within a number in another form", sentence_on(call, *given, within=128), "within is for form='phases' alone") for name, call, given in (
+        ("canon", golly_canon.canon, [GLIDER]), ("key", golly_canon.key, [GLIDER, "moved"]), ("same", golly_canon.same, [GLIDER, GLIDER, "turned"]),
+        ("keys", golly_canon.keys, [[]]), ("pattern_keys", golly_canon.pattern_keys, [[], "turned"]), ("stream_key", golly_canon.stream_key, [[]]),
+        ("stream", golly_canon.stream, [[]]), ("a stream", Stream, []), ("a stream to RLE", Stream, ["to_rle"]))),
     ("a name without its table", outcome_of(golly_canon.step, FILES["spread.rle"]), ("NeedsTable", None, False, "NeedsTable")),
     ("a table of another name", outcome_of(golly_canon.step, GLIDER, FILES["spread.rule"]), ("RuleMismatch", None, False, "RuleMismatch")),
     ("a refused table", outcome_of(golly_canon.step, GLIDER, FILES["bad.rule"]), ("NoTable", 2, True, "table line 2: NoTable")),
@@ -234,6 +275,9 @@ def as_the_program(program, pattern, other, rule_table):
             (["step", "pattern"], told(golly_canon.step, pattern)),
             (["step", "pattern", "--table", "table"], told(golly_canon.step, pattern, rule_table)),
             (["same", "pattern", "other"], told(golly_canon.same, pattern, other)),
+            (["canon", "pattern", "--form", "phases"], told(golly_canon.canon, pattern, "phases")),
+            (["canon", "pattern", "--form", "phases", "--within", "2"], told(lambda it: golly_canon.canon(it, "phases", within=2), pattern)),
+            (["same", "pattern", "other", "--form", "phases"], told(golly_canon.same, pattern, other, "phases")),
         ]
         for words, found in runs:
             answer = processes.run([program, *words], cwd=folder)
@@ -353,7 +397,7 @@ def of_keys(program):
                 it.write(data)
         paths = [os.path.join(folder, it) for it in files]
         paths += [os.path.join(folder, "absent"), folder, pathlib.Path(paths[0]), os.fsencode(paths[0])]
-        for form in ("placed", "moved", "turned"):
+        for form in ("placed", "moved", "turned", "phases"):
             with warnings.catch_warnings(record=True) as issued:
                 warnings.simplefilter("always")
                 found = list(golly_canon.keys(iter(paths), form))
@@ -375,6 +419,22 @@ def of_keys(program):
     check([it.why.kind for it in golly_canon.keys([__file__, __file__], limit=0)] == ["NoHeader", "NoHeader"], "keys within a limit")
 
 
+# Patterns by their periods: a block, a toad, a pulsar, a lightweight spaceship, and a figure eight.
+PERIODIC = [(1, b"2o$2o!"), (2, b"b3o$3o!"), (3, b"2b3o3b3o2$o4bobo4bo$o4bobo4bo$o4bobo4bo$2b3o3b3o2$2b3o3b3o$o4bobo4bo$o4bobo4bo$o4bobo4bo2$2b3o3b3o!"),
+            (4, b"bo2bo$o$o3bo$4o!"), (8, b"3o$3o$3o$3b3o$3b3o$3b3o!")]
+
+
+def of_phases():
+    """All phases of a pattern have one text, which is the least of their turned texts, in generation 0; and a lesser `within` leaves each its own."""
+    for period, cells in PERIODIC:
+        phases = [golly_canon.step(b"x = 0, y = 0\n" + cells, generations=number) for number in range(period)]
+        turned = [golly_canon.canon(it, "turned").replace(b"#G %d\n" % number, b"") for number, it in enumerate(phases)]
+        check({golly_canon.canon(it, "phases") for it in phases} == {min(turned)}, f"the text of the phases of a pattern of period {period}")
+        check({golly_canon.canon(it, "phases", within=period) for it in phases} == {min(turned)}, f"the same up to its period {period}")
+        found = [golly_canon.canon(it, "phases", within=period - 1) for it in phases] if period > 1 else turned
+        check(found == turned, f"the texts of phases up to less than the period {period}")
+
+
 def misuse_of(call, *arguments, **more):
     """The text of the `TypeError` that a call raises, or an empty one."""
     try:
@@ -386,7 +446,7 @@ def misuse_of(call, *arguments, **more):
 
 def of_pattern_keys(program):
     """The keys of patterns that come one after the other, beside those that the program writes of the same stream, and why a pattern has none."""
-    for form in ("placed", "moved", "turned"):
+    for form in ("placed", "moved", "turned", "phases"):
         wanted = streams.said_by(program, form)
         with warnings.catch_warnings(record=True) as issued:
             warnings.simplefilter("always")
@@ -480,7 +540,7 @@ def main(program):
     program = processes.program_of(program)
     warnings.simplefilter("ignore", PatternWarning)  # but where they are looked for
     results = doctest.testmod(golly_canon)
-    check(results.attempted == 4 and results.failed == 0, f"the example of the module: {results}")
+    check(results.attempted == 5 and results.failed == 0, f"the example of the module: {results}")
     found = outcome_of(names_of_page)
     check(found == (GLIDER_TEXT, 5, True, hashlib.sha256(TURNED_TEXT).digest()), f"the example of docs/LIBRARY.md: {found}")
     for name, found, wanted in ROWS:
@@ -488,6 +548,7 @@ def main(program):
     of_line_ends()
     of_hints(program)
     of_keys(program)
+    of_phases()
     of_pattern_keys(program)
     wrong = [number for number in range(RANDOM_FILES) if not as_the_program(program, *random_triple(number))]
     check(not wrong, f"{RANDOM_FILES} random files as the program has them: {wrong[:5]}")
