@@ -4,10 +4,10 @@
 export type Data = string | ArrayBuffer | ArrayBufferView;
 
 /**
- * A form of a pattern: the pattern where it lies; wherever it lies; or also however it is turned or reflected. Rule and generation count in each. The
- * last two may have up to 2^21 different squares.
+ * A form of a pattern: the pattern where it lies; wherever it lies; also however it is turned or reflected; or also in whichever phase, if it is an oscillator
+ * or a spaceship. The rule counts in each, and the generation in all but the last. The last three may have up to 2^21 different squares.
  */
-export type Form = "placed" | "moved" | "turned";
+export type Form = "placed" | "moved" | "turned" | "phases";
 
 /** The forms, from the one in which fewest patterns are one. */
 export const FORMS: readonly Form[];
@@ -22,6 +22,11 @@ export interface Limited {
 
 export interface InForm extends Limited {
   form?: Form;
+  /**
+   * For the form phases alone: up to how many generations the period is sought, from 1 to 2^31 - 1, and 128 if it isn't given. A pattern with no period up to
+   * there, or whose rule is a name, has its turned form in generation 0. A pattern that leaves the plane before its period is found is refused as `OutOfPlane`.
+   */
+  within?: number | bigint;
 }
 
 /** The least box of the cells that aren't 0. `top` is the row with the least number, as y grows downwards. */
@@ -71,7 +76,7 @@ export function load(
 
 /**
  * The library. Each call throws `Refused`, or `Fault`; what it returns is the caller's. It throws a TypeError for options that aren't an object, or that have
- * a member that the call doesn't know.
+ * a member that the call doesn't know, or `within` without the form phases.
  */
 export interface Library {
   readonly version: string;

@@ -11,8 +11,11 @@
 /** The limit of a call, if none is given: so many different squares, as the program has it. */
 export const SQUARES = 2 ** 31;
 
-/** The forms of a pattern: where it lies, wherever it lies, and also however it is turned or reflected. */
-export const FORMS = Object.freeze(["placed", "moved", "turned"]);
+/** The forms of a pattern: where it lies, wherever it lies, also however it is turned or reflected, and also in whichever phase. */
+export const FORMS = Object.freeze(["placed", "moved", "turned", "phases"]);
+/** The number of the form of phases, without the greatest period that is sought, and that period, if none is given. */
+const PHASES = 2 ** 31;
+const WITHIN = 128;
 /** What a stream can give, and the name of it in the library. */
 const STREAMS = { canon: "canon", toRle: "to_rle", show: "show", step: "step" };
 const AMBIGUOUS = 43;
@@ -31,7 +34,7 @@ const LIGHTEST = 1 << 12;
 const WEIGHT = 16;
 const HEAVIEST = 1 << 24;
 /** The members that the options of a call may have. */
-const IN_FORM = ["form", "limit"];
+const IN_FORM = ["form", "within", "limit"];
 const OF_STREAM = ["gives", "generations", ...IN_FORM];
 /** A small module that has what the library's module needs: its function `f` clears memory, extends a sign, and returns the bigint it is given. */
 const NEEDED = Uint8Array.of(
@@ -187,11 +190,29 @@ function generationsOf(generations) {
   return BigInt(generations);
 }
 
-/** The number of a form. */
-function numberOf(form) {
+/** The number of a form, which for phases has the greatest period that is sought. */
+function numberOf(form = "placed", within) {
   const number = FORMS.indexOf(form);
   if (number < 0) {
     throw new RangeError(`a form is one of ${FORMS.join(", ")}, and not ${form}`);
+  }
+  if (form === "phases") {
+    return PHASES + periodOf(within);
+  }
+  if (within !== undefined) {
+    throw new TypeError(`within is for the form phases alone, and not for ${form}`);
+  }
+  return number;
+}
+
+/** A greatest period as a call takes it. */
+function periodOf(within = WITHIN) {
+  if (typeof within !== "number" && typeof within !== "bigint") {
+    throw new TypeError(`within is a number, and not ${shownValue(within)}`);
+  }
+  const number = Number(within);
+  if (!Number.isInteger(number) || number < 1 || number >= PHASES) {
+    throw new RangeError(`within is a whole number from 1 to 2^31 - 1, and not ${within}`);
   }
   return number;
 }
@@ -521,14 +542,14 @@ class Library {
   }
 
   /** A stream with these options, of which only so much is wanted. */
-  #opened({ gives = "canon", form = "placed", generations, limit = SQUARES }, wanted) {
+  #opened({ gives = "canon", form = "placed", within, generations, limit = SQUARES }, wanted) {
     if (!Object.hasOwn(STREAMS, gives) || (gives !== "canon" && form !== "placed")) {
       throw new RangeError(`gives is canon in any form, or ${Object.keys(STREAMS).slice(1).join(", ")} as placed, and not ${gives} ${form}`);
     }
     if (generations !== undefined && gives !== "step") {
       throw new RangeError(`generations are for step, and not for ${gives}`);
     }
-    const number = numberOf(form);
+    const number = numberOf(form, within);
     const words = generations !== undefined ? ["step_generations", generationsOf(generations)] : number === 0 ? [STREAMS[gives]] : ["canon_form", number];
     return new Stream(this.#here(), gives, words, limit, this.#seed, wanted);
   }
@@ -550,24 +571,25 @@ class Library {
   }
 
   key(data, options) {
-    const { form = "placed", limit = SQUARES } = optionsOf(options, IN_FORM);
+    const { form, within, limit = SQUARES } = optionsOf(options, IN_FORM);
     const here = this.#here();
     const file = bytesOf(data);
-    return here.lent([file], (...words) => here.text("key", [...words, numberOf(form), limitOf(limit), this.#seed], [1], [file]));
+    return here.lent([file], (...words) => here.text("key", [...words, numberOf(form, within), limitOf(limit), this.#seed], [1], [file]));
   }
 
   same(first, second, options) {
-    const { form = "placed", limit = SQUARES } = optionsOf(options, IN_FORM);
+    const { form, within, limit = SQUARES } = optionsOf(options, IN_FORM);
     const here = this.#here();
     const files = [bytesOf(first, "first"), bytesOf(second, "second")];
+    const number = numberOf(form, within);
     return here.lent(files, (...words) => {
-      const status = here.call("golly_canon_same_form", ...words, numberOf(form), limitOf(limit), this.#seed, here.place(2), here.place(1));
+      const status = here.call("golly_canon_same_form", ...words, number, limitOf(limit), this.#seed, here.place(2), here.place(1));
       if (status === 0) {
         return here.isFlagged();
       }
       // The fault is that of the first file exactly if this one is refused alone.
       const line = here.number(1);
-      const alone = here.call("golly_canon_key", words[0], words[1], 0, limitOf(limit), this.#seed, 0n, 0n, here.place(0), here.place(1));
+      const alone = here.call("golly_canon_key", words[0], words[1], number, limitOf(limit), this.#seed, 0n, 0n, here.place(0), here.place(1));
       throw here.refused(status, alone === status && here.number(1) === line ? files : files.slice(1), false, line);
     });
   }

@@ -26,11 +26,14 @@ Options of keys and duplicates:
   --from LIST  a file, or - for standard input, that names further files, one a line
   --zero       the names of LIST end in NUL, and so do the lines of the output, whose names are written as they are
   --json       for keys: an object of JSON for each file, one a line, also for a file without a key
-FORM is placed (the pattern as it lies), moved (up to translation) or turned (up to rotation and reflection too). The file - is standard input.
+FORM is placed (the pattern as it lies), moved (up to translation), turned (up to rotation and reflection too) or phases (up to the phase of an oscillator or
+a spaceship too). With --form phases, --within MOST sets the greatest period to seek: a number from 1 to 2^31 - 1, or 128 if it isn't given.
+The file - is standard input.
 Status: 0 done; 1 different, or no duplicates; 2 a file was refused; 3 it can't be read or written; 4 out of memory; 5 wrong arguments.
 
 This command has neither --explain, --ignore-generation nor --period of the program, nor its line of progress and its hints on a terminal, nor the help of each
-command. It takes more time, and at most 4 GB of memory. What the program has beyond that is in its packages for Linux, with its man page.
+command. It takes more time, and at most 4 GB of memory, and it seeks no period above 2^31 - 1. What the program has beyond that is in its packages for Linux,
+with its man page.
 npx hands all arguments to a shell as one text. From some 128 KB on the system takes no such text, and npx ends with the status 249 and no message: the
 command isn't even started. For so many files use -r or --from:
   find patterns -name '*.rle' -print0 | npx golly_canon keys --zero --from -`;
@@ -57,6 +60,8 @@ const SENTENCES = {
   ReadFault: "A file can't be opened or read, or the system gives no random bytes.",
 };
 const MOST_BYTES = 2 ** 30;
+/** The greatest period that the library seeks. */
+const MOST_PERIOD = 2n ** 31n - 1n;
 const LINE_FEED = 10;
 /** How many bytes of a stream are read at once. */
 const CHUNK = 65536;
@@ -325,8 +330,10 @@ function* patternsIn(descriptor) {
 
 // ---- arguments
 
-const OPTIONS = { form: { type: "string" }, to: { type: "string" }, table: { type: "string" }, generations: { type: "string" }, from: { type: "string" },
-  stream: { type: "string" }, zero: { type: "boolean" }, json: { type: "boolean" }, recursive: { type: "boolean", short: "r" } };
+const OPTIONS = { form: { type: "string" }, within: { type: "string" }, to: { type: "string" }, table: { type: "string" }, generations: { type: "string" },
+  from: { type: "string" }, stream: { type: "string" }, zero: { type: "boolean" }, json: { type: "boolean" }, recursive: { type: "boolean", short: "r" } };
+/** The options of a command that takes a pattern in a form. */
+const IN_FORM = ["form", "within"];
 
 /** The arguments of a command, which takes these options. */
 function parsed(words, options) {
@@ -345,10 +352,23 @@ function parsed(words, options) {
   if ([...files, values.table, values.from].filter(it => it === "-").length > 1) {
     throw new Misused("TwoInputs");
   }
-  if (values.form !== undefined && !FORMS.includes(values.form)) {
-    throw new Misused(`a form is ${FORMS.join(", ")}`);
+  const { form, within } = values;
+  if (within !== undefined && form !== "phases") {
+    throw new Misused("--within is for --form phases alone");
   }
-  return { ...values, files };
+  if (form !== undefined && !FORMS.includes(form)) {
+    throw new Misused("the value of --form is placed, moved, turned or phases");
+  }
+  return { ...values, files, within: within === undefined ? undefined : numberWithin("within", within, 1n, MOST_PERIOD, "2^31 - 1") };
+}
+
+/** The number that a word writes in digits, as the value of an option that takes one from `least` to `most`, which is written as `shown`. */
+function numberWithin(option, word, least, most, shown) {
+  const number = /^[0-9]+$/.test(word) ? BigInt(word) : null;
+  if (number === null || number < least || number > most) {
+    throw new Misused(`the value of --${option} is a number from ${least} to ${shown}`);
+  }
+  return number;
 }
 
 /** The arguments of a command over so many files. */
@@ -362,7 +382,7 @@ function taken(words, count, options) {
 
 /** The arguments of a command over any number of files, which `what` has to be given of, or of `keys` over a stream. */
 function takenAll(words, options, form, what) {
-  const found = parsed(words, [...options, "form", "zero", "recursive", "from"]);
+  const found = parsed(words, [...options, ...IN_FORM, "zero", "recursive", "from"]);
   const hasFiles = found.files.length > 0 || found.from !== undefined;
   if (found.stream !== undefined && (hasFiles || found.recursive)) {
     throw new Misused("--stream can't be used with a FILE, with --from or with -r");
@@ -401,11 +421,11 @@ function bytesOf({ name, path = name, why }) {
   return data;
 }
 
-/** The key of what has this name; or why it has none: its status, its kind, a line and a reason. `give` gives its bytes. */
-function outcomeOf(golly, name, form, give) {
+/** The key of what has this name, in a form; or why it has none: its status, its kind, a line and a reason. `give` gives its bytes. */
+function outcomeOf(golly, name, { form, within }, give) {
   try {
     const data = give();
-    return { key: Buffer.from(golly.key(data, { form })).toString("hex"), warning: golly.warningOf(data) };
+    return { key: Buffer.from(golly.key(data, { form, within })).toString("hex"), warning: golly.warningOf(data) };
   } catch (error) {
     if (isUnopened(error)) {
       return { status: 3, kind: "ReadFault", reason: reasonOf(name, error), said: reasonOf(name, error) };
@@ -446,7 +466,7 @@ function takeFiles(golly, found, tell, take) {
   let greatest = 0;
   const leftOut = { devices: 0 };
   for (const file of filesOf(found, listed, leftOut)) {
-    const outcome = outcomeOf(golly, file.name, found.form, () => bytesOf(file));
+    const outcome = outcomeOf(golly, file.name, found, () => bytesOf(file));
     greatest = Math.max(greatest, noted(file.name, outcome, tell, take));
   }
   if (leftOut.devices > 0) {
@@ -456,8 +476,8 @@ function takeFiles(golly, found, tell, take) {
 }
 
 /** The same of the patterns of a stream, whose names are their numbers. */
-function takeStream(golly, { stream, form }, tell, take) {
-  const name = Buffer.from(stream);
+function takeStream(golly, found, tell, take) {
+  const name = Buffer.from(found.stream);
   let descriptor;
   try {
     descriptor = opened(name);
@@ -465,28 +485,19 @@ function takeStream(golly, { stream, form }, tell, take) {
     const give = () => {
       throw why;
     };
-    return noted(name, outcomeOf(golly, name, form, give), tell, take);
+    return noted(name, outcomeOf(golly, name, found, give), tell, take);
   }
   let greatest = 0;
   let count = 0;
   for (const pattern of patternsIn(descriptor)) {
     count += 1;
     const number = Buffer.from(`${count}`);
-    greatest = Math.max(greatest, noted(number, outcomeOf(golly, number, form, () => pattern.bytes()), tell, take));
+    greatest = Math.max(greatest, noted(number, outcomeOf(golly, number, found, () => pattern.bytes()), tell, take));
   }
   return greatest;
 }
 
 const tellReason = (name, { said }) => report(escaped(name), `: ${said}\n`);
-
-/** The number of `--generations`. */
-function countOf(word) {
-  const count = /^[0-9]+$/.test(word) ? BigInt(word) : null;
-  if (count === null || count >= 1n << 64n) {
-    throw new Misused("the value of --generations is a number from 0 to 2^64 - 1");
-  }
-  return count;
-}
 
 /** The text of a file after so many single steps by a table. With none, only the table and the file can be refused. */
 function steppedBy(golly, table, file, count) {
@@ -510,8 +521,8 @@ function steppedBy(golly, table, file, count) {
 /** What each command does with its arguments. It returns the status, where that isn't 0. */
 const COMMANDS = {
   canon(golly, words) {
-    const { files, form } = taken(words, 1, ["form"]);
-    write(golly.canon(read(files[0]), { form }));
+    const { files, form, within } = taken(words, 1, IN_FORM);
+    write(golly.canon(read(files[0]), { form, within }));
   },
 
   convert(golly, words) {
@@ -523,8 +534,8 @@ const COMMANDS = {
   },
 
   same(golly, words) {
-    const { files, form } = taken(words, 2, ["form"]);
-    const isSame = golly.same(read(files[0]), read(files[1]), { form });
+    const { files, form, within } = taken(words, 2, IN_FORM);
+    const isSame = golly.same(read(files[0]), read(files[1]), { form, within });
     write(isSame ? "same\n" : "different\n");
     return isSame ? 0 : 1;
   },
@@ -537,7 +548,7 @@ const COMMANDS = {
 
   step(golly, words) {
     const { files, table, generations } = taken(words, 1, ["table", "generations"]);
-    const count = generations === undefined ? undefined : countOf(generations);
+    const count = generations === undefined ? undefined : numberWithin("generations", generations, 0n, 2n ** 64n - 1n, "2^64 - 1");
     if (table === undefined) {
       write(golly.step(read(files[0]), { generations: count }));
       return;

@@ -28,7 +28,7 @@ from golly_canon import Box, PatternWarning, Refused, Shown, Stream  # noqa: E40
 from independent.fuzz import random_files  # noqa: E402
 from shared import hints, processes, streams  # noqa: E402
 from shared.counting import check, ended  # noqa: E402
-from shared.fixtures import FILES, LIFE, LINE_STEPPED, MANY_TEXT, PAIR_RLE, PAIR_SHOWN, PAIR_TEXT, SPREAD_STEPPED  # noqa: E402
+from shared.fixtures import FILES, LIFE, LINE_STEPPED, MANY_TEXT, PAIR_RLE, PAIR_SHOWN, PAIR_TEXT, SPREAD_STEPPED, WIDE  # noqa: E402
 
 PAGE = os.path.join(os.path.dirname(os.path.abspath(__file__)), "../../docs/LIBRARY.md")
 RANDOM_FILES = 200
@@ -44,8 +44,6 @@ MIRRORED = b"x = 3, y = 3\n3o$2bo$bo!\n"
 # The glider one generation later, and its text, turned, which is greater than that of the glider.
 LATER = b"x = 3, y = 3\nobo$b2o$bo!\n"
 LATER_TEXT = LIFE + b"$$$$....*$.....**$....**$$\n"
-# Two blinkers as far from each other as the plane is wide: they leave it.
-WIDE = b"#CXRLE Pos=-2305843009213693952,0\nx = 1, y = 3\n" + b"$".join([b"o4611686018427387902bo"] * 3) + b"!\n"
 CHILD = b"[M2]\n#R B3/S23\n....*$$$$$$$$\n4 0 0 0 9\n"
 
 

@@ -12,10 +12,12 @@ from shared import counting, fixtures, processes, streams
 from shared.processes import Answer
 
 GLIDER = b"x = 3, y = 3\nbo$2bo$3o!\n"
+LATER = b"#CXRLE Gen=1\nx = 3, y = 3\nobo$b2o$bo!\n"  # the glider, one generation later
 # Files below the folder in which the commands run. Links and pipes in a folder are passed over.
 BELOW = {b"top/a.rle": GLIDER, b"top/b/2.rle": b"#CXRLE Pos=9,9\nx = 3, y = 3\nbo$2bo$3o!\n", b"top/b/10.rle": GLIDER, b"top/b/bad.rle": b"x=1,y=1\n0o!\n",
          b"top/b.rle": b"x = 3, y = 3\n3o$2bo$bo!\n", b"top/c d/=x": b"", b"top/back\\slash.rle": GLIDER, b"top/new\nline.rle": GLIDER, b"top/cr\r.rle": b"?\n",
-         b"top/quote\".rle": GLIDER, b"top/tab\t\x1b\x7f.rle": GLIDER, "top/\u00e4\u202e.rle".encode(): GLIDER}
+         b"top/quote\".rle": GLIDER, b"top/tab\t\x1b\x7f.rle": GLIDER, "top/\u00e4\u202e.rle".encode(): GLIDER, b"later.rle": LATER,
+         b"wide.rle": fixtures.WIDE}
 LIST = b"pair.rle\n\ntop/b/bad.rle\nabsent\ntop/new\\nline.rle\n-"
 # Arguments, and standard input: the answer is that of the program, byte by byte.
 SAME = [
@@ -43,9 +45,19 @@ SAME = [
     (["step", "two.rle", "--table", "two.rule", "--generations", "0"], b""), (["step", "two.rle", "--table", "two.rule", "--generations", "2"], b""),
     (["step", "spread.rle", "--table", "bad.rule", "--generations", "0"], b""),
 ]
+# The same of the form phases.
+SAME += [(words.split(), source) for words, source in (
+    ("canon later.rle --form phases", b""), ("canon --form=phases --within=3 -", LATER), ("canon wide.rle --form phases", b""),
+    ("canon later.rle --within 2147483647 --form phases", b""), ("canon named.rle --form phases", b""), ("canon last.rle --form phases --within 2", b""),
+    ("canon bad.rle --form phases", b""), ("same top/a.rle later.rle --form phases", b""), ("same top/a.rle later.rle --form turned", b""),
+    ("same --within 003 later.rle - --form phases", GLIDER), ("same wide.rle later.rle --form phases", b""), ("same later.rle wide.rle --form phases", b""),
+    ("same - - --form phases --within 0", b""), ("keys -r top later.rle wide.rle --form phases", b""),
+    ("keys --zero -r top later.rle --form phases --within 3", b""), ("keys --json later.rle wide.rle bad.rle --form phases --within 1000", b""),
+    ("duplicates -r top later.rle --form phases", b""), ("duplicates wide.rle later.rle - --form phases --within 3", GLIDER))]
 # The same of streams: patterns of each kind, accepted and refused, in each form, and odd streams.
 SAME += [([*words, "--stream", "-"], streams.STREAM) for words in (
-    ["keys"], ["keys", "--form", "moved"], ["keys", "--form=turned"], ["keys", "--json"], ["keys", "--json", "--form", "turned", "--zero"], ["keys", "--zero"])]
+    ["keys"], ["keys", "--form", "moved"], ["keys", "--form=turned"], ["keys", "--form", "phases"], ["keys", "--form=phases", "--within=2"],
+    ["keys", "--json"], ["keys", "--json", "--form", "turned", "--zero"], ["keys", "--zero"])]
 SAME += [(["keys", "--stream", "-", *words], source) for words in ([], ["--json"]) for source in (
     b"", b"\0", b"\0\0\0", GLIDER, GLIDER + b"\0", GLIDER + b"\0\0" + GLIDER, streams.STREAM + b"\0", b"x = 3, y = 3\nbo$2b")]
 SAME += [(["keys", *words], b"") for words in (
@@ -59,7 +71,11 @@ MISUSED = ["keys", "keys --form moved", "keys -r", "duplicates", "duplicates --z
            "step line.rle --generations 18446744073709551616", "step line.rle --generations 1 --generations 1", "show line.rle --generations 1",
            "step - --table - --generations x", "keys --stream", "keys --stream - pair.rle", "keys pair.rle --stream -", "keys --stream stream -r",
            "keys --stream - --from list", "keys --stream - -", "keys --stream - --stream -", "keys --stream stream --form still", "duplicates --stream stream",
-           "canon --stream stream"]
+           "canon --stream stream", "canon --within 5 later.rle", "canon --form phases --within 0 later.rle", "canon --form phase later.rle",
+           "same --form turned --within 5 later.rle wide.rle", "same --form phases --within 18446744073709551616 later.rle wide.rle",
+           "keys --form phases --within later.rle", "keys --form phases later.rle --within", "keys --form phases --within x later.rle",
+           "keys --form phases --within=-1 later.rle", "keys --form phases --within 1 --within 1 later.rle", "keys --stream stream --within 5",
+           "duplicates --within 5 later.rle", "show --within 5 later.rle", "convert later.rle --to mc --within 5", "step later.rle --within 5"]
 # How many patterns of a stream are taken, and how many more megabytes these may take than a tenth of them: Node collects what it holds no more when it likes.
 MANY, MORE_MEGABYTES = 100_000, 25
 # Endings that only a shell makes: the status, and what is on standard error.
@@ -137,6 +153,9 @@ def rows(built, program, package):
         for name, script, wanted in ENDINGS:
             found = processes.run(["bash", "-c", script], cwd=folder, env={**os.environ, "command": command})
             counting.row(f"npm: {name}", [] if found == wanted else [f"{found} and not {wanted}"])
+        found = processes.run([command, *"keys later.rle --form phases --within 2147483648".split()], cwd=folder)
+        wanted = Answer(5, b"", b"golly_canon: the value of --within is a number from 1 to 2^31 - 1\n")
+        counting.row("npm: a greater period than the library seeks", [] if found == wanted else [repr(found)])
         terminal(command, folder)
         not_text(command, folder)
         streamed(command, folder)
@@ -207,7 +226,7 @@ def helped(command, folder):
     """The help says what the command lacks, and what to do with many names by npx."""
     for words in (["--help"], ["-h"], ["help"], ["keys", "--help"], ["duplicates", "-h"]):
         found = processes.run([command, *words], cwd=folder)
-        wanted = ["duplicates [OPTIONS]", "-r ", "--from LIST", "--zero", "--json", "--stream STREAM", "neither --explain, --ignore-generation nor --period",
-                  "status 249", "npx golly_canon keys --zero --from -"]
+        wanted = ["duplicates [OPTIONS]", "-r ", "--from LIST", "--zero", "--json", "--stream STREAM", "--within MOST",
+                  "neither --explain, --ignore-generation nor --period", "status 249", "npx golly_canon keys --zero --from -"]
         problems = [f"{it} isn't there" for it in wanted if it not in found.output.decode()]
         counting.row(f"npm: {' '.join(words)}", problems if found.status == 0 and not found.error else [repr(found)])

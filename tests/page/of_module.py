@@ -166,14 +166,16 @@ def hinted(browser, address, path, where="page"):
 # What a call says of an argument that it can't take: its name, what it has to be, and what it is.
 FILE = "is a file: bytes (an ArrayBuffer or a view of one) or a string, and not"
 GENERATIONS = "is a whole number from 0 to 2^64 - 1, above 2^53 - 1 a bigint, and not"
+WITHIN = "is a whole number from 1 to 2^31 - 1, and not"
 # The most memory that the heap takes: 4 GB but for the length of the stack.
 MOST_MEMORY = 2 ** 32 - 2 ** 20
 # Each call with options, and the members that they may have.
-IN_FORM = "the members form and limit"
+IN_FORM = "the members form, within and limit"
 OPTIONS = {
     "canon('x=1,y=1', {})": IN_FORM, "key('x=1,y=1', {})": IN_FORM, "same('x=1,y=1', 'x=1,y=1', {})": IN_FORM, "toRle('x=1,y=1', {})": "the member limit",
-    "show('x=1,y=1', {})": "the member limit", "step('x=1,y=1', {})": "the members table, generations and limit", "stream({})": "the members gives, generations, form and limit",
-    "read(['x=1,y=1'], {})": "the members gives, generations, form, limit and onProgress", "readKey(['x=1,y=1'], {})": "the members form, limit and onProgress",
+    "show('x=1,y=1', {})": "the member limit", "step('x=1,y=1', {})": "the members table, generations and limit", "stream({})": "the members gives, generations, form, within and limit",
+    "read(['x=1,y=1'], {})": "the members gives, generations, form, within, limit and onProgress",
+    "readKey(['x=1,y=1'], {})": "the members form, within, limit and onProgress",
 }
 # What isn't the options of a call, and what a call says that it is.
 NO_OPTIONS = {"'turned'": '"turned"', "null": "null", "7": "7", "['turned']": "object", "true": "boolean", "() => 0": "function"}
@@ -198,6 +200,15 @@ ERRORS = {
     "generations, not exact": ("golly.step('', { generations: 2 ** 53 })", f"RangeError: generations {GENERATIONS} {2 ** 53}"),
     "generations of another text": ("golly.stream({ generations: 5 })", "RangeError: generations are for step, and not for canon"),
     "generations by a table": ("golly.step('', { generations: 5, table: '' })", "RangeError: a table makes one generation at a time"),
+    "within": ("golly.canon('', { form: 'phases', within: 0 })", f"RangeError: within {WITHIN} 0"),
+    "within, below 0": ("golly.key('', { form: 'phases', within: -1n })", f"RangeError: within {WITHIN} -1"),
+    "within, too much": ("golly.same('', '', { form: 'phases', within: 2 ** 31 })", f"RangeError: within {WITHIN} {2 ** 31}"),
+    "within, not whole": ("golly.stream({ form: 'phases', within: 1.5 })", f"RangeError: within {WITHIN} 1.5"),
+    "within, a text": ("await golly.readKey('', { form: 'phases', within: '5' })", "TypeError: within is a number, and not string"),
+    "within, null": ("golly.canon('', { form: 'phases', within: null })", "TypeError: within is a number, and not null"),
+    "within, another form": ("golly.key('', { form: 'turned', within: 5 })", "TypeError: within is for the form phases alone, and not for turned"),
+    "within, no form": ("golly.same('', '', { within: 128 })", "TypeError: within is for the form phases alone, and not for placed"),
+    "within, another text": ("await golly.read('', { gives: 'show', within: 5 })", "TypeError: within is for the form phases alone, and not for placed"),
     "limit": ("golly.canon('', { limit: 1.5 })", "RangeError: limit is a whole number of squares, 0 or more, and not 1.5"),
     "limit, below 0": ("golly.key('', { limit: -1n })", "RangeError: limit is a whole number of squares, 0 or more, and not -1"),
     "limit, a text": ("golly.key('', { limit: 'all' })", "TypeError: limit is a number of squares, and not string"),
@@ -352,9 +363,12 @@ def version():
         return it.read().strip()
 
 
-# A glider, the same elsewhere, the same reflected, and another pattern.
-GLIDERS = ["x=3,y=3\nbo$2bo$3o!", "#CXRLE Pos=-70,5\nx=3,y=3\nbo$2bo$3o!", "#CXRLE Pos=9,9\nx=3,y=3\nbo$o$3o!", "x=3,y=3\n3o$3o!"]
-WANTED = {"placed": [True, False, False, False], "moved": [True, True, False, False], "turned": [True, True, True, False]}
+# A glider, the same elsewhere, the same reflected, the same one generation later, and another pattern.
+GLIDERS = ["x=3,y=3\nbo$2bo$3o!", "#CXRLE Pos=-70,5\nx=3,y=3\nbo$2bo$3o!", "#CXRLE Pos=9,9\nx=3,y=3\nbo$o$3o!", "#CXRLE Gen=1\nx=3,y=3\nobo$b2o$bo!",
+           "x=3,y=3\n3o$3o!"]
+# The options of a form, and how many of these files, from the first one on, are one pattern in it.
+IN_FORMS = [({"form": "placed"}, 1), ({"form": "moved"}, 2), ({"form": "turned"}, 3), ({"form": "phases"}, 4), ({"form": "phases", "within": 4}, 4),
+            ({"form": "phases", "within": 3}, 3)]
 
 
 def memory(browser, address):
@@ -459,18 +473,25 @@ def stacks(browser, address, folder):
 
 
 def forms(browser):
-    """Each form groups four files as it should, by texts, keys and comparisons."""
-    for form, wanted in WANTED.items():
-        script = """const [files, form] = given; const golly = window.golly; const text = it => new TextDecoder().decode(it);
+    """Each form groups five files as it should, by texts, keys and comparisons; and a pattern that leaves the plane is refused for its phases."""
+    for options, count in IN_FORMS:
+        script = """const [files, options] = given; const golly = window.golly; const text = it => new TextDecoder().decode(it);
             const hex = it => Array.from(it, byte => byte.toString(16).padStart(2, "0")).join("");
-            const texts = files.map(it => text(golly.canon(it, { form })));
+            const texts = files.map(it => text(golly.canon(it, options)));
             for (const [index, it] of files.entries()) {
-              if (text(await golly.read([it.slice(0, 7), it.slice(7)], { form })) !== texts[index]) texts[index] = "other";
+              if (text(await golly.read([it.slice(0, 7), it.slice(7)], options)) !== texts[index]) texts[index] = "other";
+              if (hex(await golly.readKey([it], options)) !== hex(golly.key(it, options))) texts[index] = "other";
             }
-            return { texts, keys: files.map(it => hex(golly.key(it, { form }))), same: files.map(it => golly.same(files[0], it, { form })) };"""
-        found = browser.run(script, GLIDERS, form)
+            return { texts, keys: files.map(it => hex(golly.key(it, options))), same: files.map(it => golly.same(files[0], it, options)) };"""
+        found = browser.run(script, GLIDERS, options)
+        wanted = [number < count for number in range(len(GLIDERS))]
         digests = [hashlib.sha256(it.encode()).hexdigest() for it in found["texts"]]
         problems = [] if [it == found["texts"][0] for it in found["texts"]] == wanted else [f"texts {found['texts']}"]
         problems += [] if found["same"] == wanted else [f"same {found['same']}"]
         problems += [] if found["keys"] == digests else [f"keys {found['keys']}"]
-        counting.row(f"patterns that are {form}", problems)
+        counting.row(f"patterns in the form {' within '.join(map(str, options.values()))}", problems)
+    script = """const golly = window.golly; const [wide, glider] = given; const tried = act => { try { return act(); } catch (why) { return why.message; } };
+        return [() => golly.key(wide, { form: "phases" }), () => golly.same(wide, glider, { form: "phases", within: 5n }),
+          () => golly.same(glider, wide, { form: "phases", within: 1 })].map(tried);"""
+    found = browser.run(script, fixtures.WIDE.decode(), GLIDERS[0])
+    counting.row("phases that leave the plane", [] if found == ["OutOfPlane"] * 3 else [repr(found)])

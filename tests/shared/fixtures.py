@@ -31,6 +31,8 @@ FILES = {
     "edge.rle": b"#CXRLE Pos=0,2305843009213693951\nx = 3, y = 1\n3o!\n",
     "still.rule": b"@RULE Still\n@TABLE\nn_states:2\nneighborhood:Moore\nsymmetries:none\n",
 }
+# Two blinkers as far from each other as the plane is wide: they leave it, wherever they begin.
+WIDE = b"#CXRLE Pos=-2305843009213693952,0\nx = 1, y = 3\n" + b"$".join([b"o4611686018427387902bo"] * 3) + b"!\n"
 
 # What the commands write of some of them.
 PAIR_RLE = b"#CXRLE Pos=-4,0\nx = 9, y = 1, rule = B3/S23\no7bo!\n"
