@@ -53,7 +53,7 @@ def timed(folder, shares, work, of_workers):
     spent = of_workers() - before
     if failed:
         sys.exit(f"shares failed: {failed}")
-    return took, spent, own, table.database.execute(f"SELECT {', '.join(collection.COLUMNS)} FROM file ORDER BY id").fetchall()
+    return took, spent, own, table.database.execute(f"SELECT {', '.join(table.columns)} FROM file ORDER BY id").fetchall()
 
 
 def main(words):

@@ -1,10 +1,12 @@
 #!/usr/bin/env python3
 """The keys of a collection of pattern files, by the processes of a machine or by a cluster, in one table with its duplicates.
 
-usage: collection.py --table OUT.sqlite [--form placed|moved|turned] [--zero] [--archive] [--workers N | --scheduler ADDRESS] FILE.. | --from LIST
+usage: collection.py --table OUT.sqlite [--form placed|moved|turned|phases] [--within MOST] [--zero] [--archive] [--workers N | --scheduler ADDRESS]
+                     FILE.. | --from LIST
 
-The table has the keys of all three forms of each pattern. `--form` says in which of them the duplicates are listed: without it as the command `duplicates`
-of the program lists them, wherever a pattern is (`moved`).
+The table has the keys of each pattern in the forms placed, moved and turned; and in the form phases if the run that makes it is given `--form phases` or
+`--within`. `--form` says in which of them the duplicates are listed: without it as the command `duplicates` of the program lists them, wherever a pattern is
+(`moved`).
 
 The list is cut into shares. A worker turns a share into rows and keeps nothing; this process alone writes, and a share's rows come into the table
 all or none, with the mark that it is done. So a worker that dies, a share that is done twice and a scheduler that starts again change nothing, and a
@@ -36,15 +38,19 @@ import zlib
 from typing import Any, BinaryIO, Callable, Dict, Iterable, Iterator, List, Optional, Sequence, Tuple, Union
 
 # Shares and rows are plain tuples, so that any system can send them.
-Share = Tuple[int, bytes, Tuple[bytes, ...], bool]  # its number; the folder from which its paths go, the paths, and whether they are archives
+# A share: its number; the folder from which its paths go, the paths, and whether they are archives; and the greatest period that is sought for the keys of
+# the form phases, or None where these aren't wanted.
+Share = Tuple[int, bytes, Tuple[bytes, ...], bool, Optional[int]]
 Key = Optional[bytes]
-Row = Tuple[str, Optional[str], Key, Key, Key, Optional[str], Optional[int], Optional[str]]  # as the columns of a row of the table
+Row = Tuple[Any, ...]  # as the columns of a row of the table
 Done = Tuple[int, Union[List[Row], str]]  # the number of a share, and its rows or why it has none
 Work = Callable[[Sequence[Share]], Iterator[Done]]
 
-COLUMNS = ("path", "member", "placed", "moved", "turned", "kind", "line", "why")
-FORMS = COLUMNS[2:5]  # in each of which a pattern has a key
+FORMS = ("placed", "moved", "turned", "phases")  # in each of which a pattern has a key; in the last one where that is asked for
+PHASES = FORMS[-1]
 FORM = "moved"  # in which duplicates are listed if none is named, here and by the command `duplicates` of the program
+WITHIN = 128  # the greatest period that is sought for phases if none is named, here and by the program
+MOST_WITHIN = 2**31 - 1
 LEFT = 141  # the status where the reader of standard output has left, as a shell reports it of a program that SIGPIPE ends
 SIZE = 1000  # of a share, in files; an archive is a share by itself
 TRIES = 3  # of a share that raises
@@ -160,7 +166,7 @@ def contents(path: bytes) -> bytes:
         return file.read()
 
 
-def row_of(path: str, member: Optional[str], read: Callable[[], bytes]) -> Row:
+def row_of(path: str, member: Optional[str], within: Optional[int], read: Callable[[], bytes]) -> Row:
     """The row of a file: its keys, with a warning where it probably isn't what its author meant, or why it has none. A file that gzip packed is
     unpacked."""
     import golly_canon  # the process that starts the run needs no library
@@ -170,32 +176,36 @@ def row_of(path: str, member: Optional[str], read: Callable[[], bytes]) -> Row:
         data = unpacked(data) if data[:2] == b"\x1f\x8b" else data
         with warnings.catch_warnings():  # the row has the warning
             warnings.simplefilter("ignore", golly_canon.PatternWarning)
-            keys, fault = keys_of(data)
+            keys, fault = keys_of(data, within)
     except MemoryError:
-        return row_without_key(path, member, "Memory", "Memory")
+        return row_without_key(path, member, within, "Memory", "Memory")
     except UNREAD as why:
-        return row_without_key(path, member, "ReadFault", words_of_fault(why, name_of(path)))
+        return row_without_key(path, member, within, "ReadFault", words_of_fault(why, name_of(path)))
     kind, line, said = fault or (None, None, golly_canon.warning_of(data))
     return (path, member, *keys, kind, line, said)
 
 
-def keys_of(data: bytes) -> Tuple[Tuple[Key, Key, Key], Optional[Tuple[str, Optional[int], str]]]:
+def forms_of(within: Optional[int]) -> Tuple[str, ...]:
+    """The forms in which a pattern has a key, by the greatest period that is sought for phases, if there is one."""
+    return FORMS[:-1] if within is None else FORMS
+
+
+def keys_of(data: bytes, within: Optional[int]) -> Tuple[List[Key], Optional[Tuple[str, Optional[int], str]]]:
     """The key of a file in each form; and the kind and the line of the first fault, with what is said of it. A file that is refused in its place is refused in
-    the other forms too, and these may refuse more (`Full`)."""
+    the other forms too, and these may refuse more (`Full`, and `OutOfPlane` for phases)."""
     import golly_canon
 
     keys: List[Key] = []
     fault = None
-    for form in FORMS:
+    for form in forms_of(within):
         try:
-            keys.append(golly_canon.key(data, form))
+            keys.append(golly_canon.key(data, form, within=within if form == PHASES else None))
         except golly_canon.Refused as why:
             if not any(keys):
-                return (None, None, None), (why.kind, why.line, f"{why}: {why.sentence}{advice_of(why.kind, why.advice, data)}")
+                return [None for _ in forms_of(within)], (why.kind, why.line, f"{why}: {why.sentence}{advice_of(why.kind, why.advice, data)}")
             keys.append(None)
             fault = fault or (why.kind, why.line, f"{form}: {why}: {why.sentence}")
-    placed, moved, turned = keys
-    return (placed, moved, turned), fault
+    return keys, fault
 
 
 def advice_of(kind: str, said: Optional[str], data: bytes) -> str:
@@ -207,9 +217,9 @@ def advice_of(kind: str, said: Optional[str], data: bytes) -> str:
     return f" {what} With --archive its files are read." if ARCHIVE.match(head) else f" {what}"
 
 
-def row_without_key(path: str, member: Optional[str], kind: str, why: str) -> Row:
+def row_without_key(path: str, member: Optional[str], within: Optional[int], kind: str, why: str) -> Row:
     """The row of a file that isn't read."""
-    return path, member, None, None, None, kind, None, why
+    return (path, member, *(None for _ in forms_of(within)), kind, None, why)
 
 
 def words_of_fault(why: BaseException, name: bytes) -> str:
@@ -236,17 +246,17 @@ def is_text(name: bytes) -> bool:
 
 def rows_of(share: Share) -> List[Row]:
     """The rows of a share, in their order: the same ones wherever and however often it is done, if the files are the same."""
-    _, folder, paths, is_archive = share
+    _, folder, paths, is_archive, within = share
     rows: List[Row] = []
     for path in paths:
         place, name = os.path.join(folder, path), text_of(path)
         if not is_archive:
-            rows.append(row_of(name, None, functools.partial(contents, place)))
+            rows.append(row_of(name, None, within, functools.partial(contents, place)))
             continue
         try:
-            rows.extend(row_of(name, text_of(member), read) for member, read in members_of(place))
+            rows.extend(row_of(name, text_of(member), within, read) for member, read in members_of(place))
         except UNREAD as why:  # after the members that could be read
-            rows.append(row_without_key(name, None, "ReadFault", words_of_fault(why, path)))
+            rows.append(row_without_key(name, None, within, "ReadFault", words_of_fault(why, path)))
     return rows
 
 
@@ -356,49 +366,45 @@ class Table:
     """The result in one SQLite file, which also says which shares are done.
 
     `file` has a row for each file, in the order of the list. `duplicates` has the files of which there is another one, once for each form in which they are
-    the same pattern, each with the number of the first of them.
+    the same pattern, each with the number of the first of them. `within` is the greatest period that is sought for the keys of phases. It is None for a table
+    without these keys, which has the columns that each table had before there was this form.
     """
 
-    SCHEMA = ";".join([
-        "CREATE TABLE run (list BLOB NOT NULL, shares INTEGER NOT NULL)",
-        "CREATE TABLE share (number INTEGER PRIMARY KEY, files INTEGER NOT NULL, unread INTEGER NOT NULL)",
-        "CREATE TABLE file (id INTEGER PRIMARY KEY, path TEXT NOT NULL, member TEXT, placed BLOB, moved BLOB, turned BLOB, kind TEXT, line INTEGER, why TEXT)",
-        "CREATE VIEW duplicates AS " + " UNION ALL ".join(
-            f"SELECT '{form}' AS form, first, id, path, member, {form} AS key FROM "
-            f"(SELECT {form}, min(id) AS first FROM file WHERE {form} IS NOT NULL GROUP BY {form} HAVING count(*) > 1) JOIN file USING ({form})"
-            for form in FORMS),
-    ])
-
-    def __init__(self, path: str, shares: Sequence[Share]) -> None:
-        """Opens the table of these shares, or makes it. Raises ValueError where the file is another table."""
+    def __init__(self, path: str, shares: Sequence[Share], form: str = FORM, within: Optional[int] = None) -> None:
+        """Opens the table of these shares, or makes it: with the keys of phases if that is the form, or if there is a greatest period to seek. Raises
+        ValueError where the file is another table, or lacks the keys of phases that are wanted."""
         self.database = sqlite3.connect(path, timeout=60, isolation_level=None)
         with self.database as it:
             it.execute("BEGIN IMMEDIATE")
             mark = digest_of(shares)
             if not it.execute("SELECT 1 FROM sqlite_master").fetchone():
-                for statement in self.SCHEMA.split(";"):
-                    it.execute(statement)
-                it.execute("INSERT INTO run VALUES (?, ?)", (mark, len(shares)))
+                make_table(it, mark, len(shares), WITHIN if within is None and form == PHASES else within)
             columns = {name for _, name, *_ in it.execute("PRAGMA table_info(run)")}
             if "form" in columns:
                 raise ValueError("it is a table of an older collection.py, with the keys of one form: name another table, or remove this one")
             if "list" not in columns or it.execute("SELECT list FROM run").fetchone() != (mark,):
                 raise ValueError("it is the table of another list or size of shares: name another table, or remove this one")
+            self.within: Optional[int] = it.execute("SELECT within FROM run").fetchone()[0] if "within" in columns else None
+            self.columns = ("path", "member", *forms_of(self.within), "kind", "line", "why")
+            if self.within is None and (within is not None or form == PHASES):
+                raise ValueError("it has no keys in the form phases: name another table, or remove this one")
+            if within not in (None, self.within):
+                raise ValueError(f"it has the keys of phases within {self.within} generations: name another table, or remove this one")
 
     def left(self, shares: Sequence[Share]) -> List[Share]:
-        """The shares that are not done, or in which a file couldn't be read."""
+        """The shares that are not done, or in which a file couldn't be read, with the keys that this table has."""
         done = {number for number, in self.database.execute("SELECT number FROM share WHERE unread = 0")}
-        return [it for it in shares if it[0] not in done]
+        return [(number, folder, paths, is_archive, self.within) for number, folder, paths, is_archive, _ in shares if number not in done]
 
     def take(self, number: int, rows: Sequence[Row]) -> None:
         """Puts the rows of a share into the table, all or none. A share that is done stays as it is."""
-        first, unread = number << 32, sum(row[5] in UNSETTLED for row in rows)
+        first, unread = number << 32, sum(row[-3] in UNSETTLED for row in rows)
         with self.database as it:
             it.execute("BEGIN IMMEDIATE")
             if it.execute("SELECT 1 FROM share WHERE number = ? AND unread = 0", (number,)).fetchone():
                 return
             it.execute("DELETE FROM file WHERE id >= ? AND id < ?", (first, first + (1 << 32)))
-            it.executemany("INSERT INTO file VALUES (?, ?, ?, ?, ?, ?, ?, ?, ?)", ((at, *row) for at, row in enumerate(rows, first)))
+            it.executemany(f"INSERT INTO file VALUES ({', '.join('?' * (len(self.columns) + 1))})", ((at, *row) for at, row in enumerate(rows, first)))
             it.execute("INSERT OR REPLACE INTO share VALUES (?, ?, ?)", (number, len(rows), unread))
 
     def counted(self, form: str = FORM) -> Dict[str, int]:
@@ -429,8 +435,8 @@ class Table:
 
     def order(self, form: str) -> None:
         """Orders the files by their keys in a form, so that equal ones are found."""
-        if form not in FORMS:
-            raise ValueError(f"a form is placed, moved or turned, and not {form!r}")
+        if form not in forms_of(self.within):
+            raise ValueError(f"a form of this table is {', '.join(forms_of(self.within))}, and not {form!r}")
         self.database.execute(f"CREATE INDEX IF NOT EXISTS file_by_{form} ON file ({form})")
 
     def write_parquet(self, path: str) -> None:
@@ -439,12 +445,28 @@ class Table:
         import pyarrow.parquet
 
         special = {"line": pyarrow.int64(), **{form: pyarrow.binary(32) for form in FORMS}}
-        kinds = {name: special.get(name, pyarrow.string()) for name in COLUMNS}
+        kinds = {name: special.get(name, pyarrow.string()) for name in self.columns}
         rows = self.database.execute(f"SELECT {', '.join(kinds)} FROM file ORDER BY id")
         with pyarrow.parquet.ParquetWriter(f"{path}.new", pyarrow.schema(kinds)) as writer:
             for some in iter(lambda: rows.fetchmany(100_000), []):
                 writer.write_table(pyarrow.table({name: pyarrow.array(column, kind) for (name, kind), column in zip(kinds.items(), zip(*some))}))
         os.replace(f"{path}.new", path)
+
+
+def make_table(database: sqlite3.Connection, mark: bytes, shares: int, within: Optional[int]) -> None:
+    """Makes the tables of a run over so many shares, and the view of the duplicates. Where keys of phases are wanted there is a column for them, and one for
+    the greatest period."""
+    forms = forms_of(within)
+    database.execute(f"CREATE TABLE run (list BLOB NOT NULL, shares INTEGER NOT NULL{'' if within is None else ', within INTEGER NOT NULL'})")
+    database.execute("CREATE TABLE share (number INTEGER PRIMARY KEY, files INTEGER NOT NULL, unread INTEGER NOT NULL)")
+    keys = ", ".join(f"{form} BLOB" for form in forms)
+    database.execute(f"CREATE TABLE file (id INTEGER PRIMARY KEY, path TEXT NOT NULL, member TEXT, {keys}, kind TEXT, line INTEGER, why TEXT)")
+    database.execute("CREATE VIEW duplicates AS " + " UNION ALL ".join(
+        f"SELECT '{form}' AS form, first, id, path, member, {form} AS key FROM "
+        f"(SELECT {form}, min(id) AS first FROM file WHERE {form} IS NOT NULL GROUP BY {form} HAVING count(*) > 1) JOIN file USING ({form})"
+        for form in forms))
+    row = (mark, shares) if within is None else (mark, shares, within)
+    database.execute(f"INSERT INTO run VALUES ({', '.join('?' * len(row))})", row)
 
 
 def whole_name(path: str, member: Optional[str]) -> str:
@@ -458,7 +480,7 @@ def whole_name(path: str, member: Optional[str]) -> str:
 def digest_of(shares: Sequence[Share]) -> bytes:
     """What is different for two different lists of shares, by their whole paths."""
     found = hashlib.sha256()
-    for number, folder, paths, is_archive in shares:
+    for number, folder, paths, is_archive, _ in shares:
         found.update(f"{number} {is_archive}\0".encode())
         found.update(b"".join(os.path.join(folder, it) + b"\0" for it in paths))
     return found.digest()
@@ -467,7 +489,7 @@ def digest_of(shares: Sequence[Share]) -> bytes:
 def shares_of(paths: Sequence[Union[str, bytes]], is_archive: bool, size: int = SIZE) -> List[Share]:
     """A list in shares. An archive is one by itself, since its files are found by reading it."""
     size, folder = 1 if is_archive else size, os.getcwdb()
-    return [(number, folder, tuple(map(os.fsencode, paths[at:at + size])), is_archive) for number, at in enumerate(range(0, len(paths), size))]
+    return [(number, folder, tuple(map(os.fsencode, paths[at:at + size])), is_archive, None) for number, at in enumerate(range(0, len(paths), size))]
 
 
 def listed(file: BinaryIO) -> List[bytes]:
@@ -570,7 +592,10 @@ def words_of(arguments: Optional[Sequence[str]]) -> argparse.Namespace:
     parser.add_argument("--from", dest="list", metavar="LIST", help="takes the paths from a file: one on a line, or a NUL after each; - is standard input")
     parser.add_argument("--archive", action="store_true", help="each FILE is a zip or a tar, also one that is packed by gzip, bzip2 or xz")
     parser.add_argument("--form", choices=FORMS, default=FORM, help="which files are duplicates: those of one pattern as it lies (placed), wherever it is "
-                        f"(moved), or however it is turned or reflected too (turned); {FORM} if none is named. The table has the keys of all three")
+                        f"(moved), however it is turned or reflected too (turned), or in whichever phase too (phases); {FORM} if none is named. The table "
+                        "has the keys of the first three, and those of phases if it is made with --form phases or with --within")
+    parser.add_argument("--within", type=int, metavar="MOST", help="makes the table with the keys of phases too, for which a period is sought up to MOST "
+                        f"generations, from 1 to 2^31 - 1; {WITHIN} if --form phases is given without it")
     parser.add_argument("--zero", action="store_true", help="writes each duplicate as two names that each end in NUL, FIRST and OTHER, without escapes")
     parser.add_argument("--table", required=True, metavar="OUT.sqlite", help="the table, which is made, or goes on")
     parser.add_argument("--parquet", metavar="OUT.parquet", help="writes the rows of the files as Parquet too, which takes pyarrow")
@@ -587,6 +612,8 @@ def words_of(arguments: Optional[Sequence[str]]) -> argparse.Namespace:
         parser.error(f"{shown(folder)} is a folder: name its files, as find {shown(folder)} -type f -print0 | {program} --from - does")
     if words.share < 1 or (words.workers or 0) < 0:
         parser.error("--share takes a number above 0, and --workers one of 0 or more")
+    if words.within is not None and not 1 <= words.within <= MOST_WITHIN:
+        parser.error("--within takes a number from 1 to 2^31 - 1")
     if words.parquet is not None:
         try:
             import pyarrow.parquet  # noqa: F401
@@ -610,7 +637,7 @@ def main(arguments: Optional[Sequence[str]] = None) -> int:
         tell(WITHOUT_DASK)  # before there is a table, so that the next command may have another list
         return 1
     try:
-        table = Table(words.table, shares)
+        table = Table(words.table, shares, words.form, words.within)
     except (sqlite3.Error, ValueError) as why:
         tell(f"{shown(words.table)}: {why}")
         return 2

@@ -1,9 +1,10 @@
 r"""The duplicates in a folder: prints `FILE = FILE` for each file that is the same pattern as an earlier one, and `FILE: line N: KIND: SENTENCE` for
 each that is no pattern, or why it can't be read, on standard error. Files that gzip packed are unpacked. It keeps the key of each different pattern.
 A pattern is the same wherever it is (`moved`, as the command `duplicates` of the program has it). With `placed` it has to be in the same place, and with
-`turned` it is also the same whichever way it is turned or reflected. A name is written so that it is one line and does nothing to a terminal: a
-backslash as \\, a line feed as \n, a carriage return as \r, and each byte of what is no UTF-8 text, of another control character or of one that turns the
-direction of text as \xHH. The status is 0, or 1 where a file has no key. usage: duplicates.py FOLDER [placed|moved|turned]"""
+`turned` it is also the same whichever way it is turned or reflected. With `phases` an oscillator or a spaceship with a period up to 128 is also the same in
+whichever phase it is. A name is written so that it is one line and does nothing to a terminal: a backslash as \\, a line feed as \n, a carriage return as \r,
+and each byte of what is no UTF-8 text, of another control character or of one that turns the direction of text as \xHH. The status is 0, or 1 where a file has
+no key. usage: duplicates.py FOLDER [placed|moved|turned|phases]"""
 import contextlib
 import gzip
 import os
@@ -23,6 +24,7 @@ except ImportError as why:
     sys.exit(f"duplicates.py: {why}: docs/LIBRARY.md says where the module and its library are looked for")
 
 FORM = "moved"
+FORMS = ("placed", "moved", "turned", "phases")
 HIDDEN = re.compile(r"[\\\x00-\x1f\x7f-\x9f\u061c\u200e\u200f\u2028-\u202e\u2066-\u2069\udc80-\udcff]")
 
 
@@ -78,8 +80,8 @@ def write_duplicates(folder, form, output):
 
 def main(words):
     form = words[2] if len(words) == 3 else FORM
-    if len(words) not in (2, 3) or form not in ("placed", "moved", "turned") or not pathlib.Path(words[1]).is_dir():
-        sys.exit("usage: duplicates.py FOLDER [placed|moved|turned]")
+    if len(words) not in (2, 3) or form not in FORMS or not pathlib.Path(words[1]).is_dir():
+        sys.exit(f"usage: duplicates.py FOLDER [{'|'.join(FORMS)}]")
     warnings.simplefilter("ignore", golly_canon.PatternWarning)  # each file has its own
     try:
         with open(1, "wb", closefd=False) as output:

@@ -4,13 +4,15 @@
 --     golly_canon keys --form turned -r ~/patterns > ~/keys
 -- These may be set before Golly is started: GOLLY_CANON, the program (if none is named, golly_canon on the PATH); GOLLY_CANON_KEYS, the table (the
 -- file keys in the home folder); and GOLLY_CANON_FORM, the form of its keys (turned: in any place and direction; phases: an oscillator or a spaceship
--- in any phase too). A key says the generation too, except with phases, so a pattern that has run on is another one.
+-- in any phase too). A key says the generation too, except with phases, so a pattern that has run on is another one. If the table was made with --within MOST,
+-- set GOLLY_CANON_WITHIN to MOST.
 
 local g = golly()
 
 local program = os.getenv("GOLLY_CANON") or "golly_canon"
 local table_of_keys = os.getenv("GOLLY_CANON_KEYS") or (os.getenv("HOME") or "") .. "/keys"
 local form = os.getenv("GOLLY_CANON_FORM") or "turned"
+local within = os.getenv("GOLLY_CANON_WITHIN")
 
 -- A word as a shell takes it.
 local function quoted(word)
@@ -45,7 +47,8 @@ local function key_of_pattern()
     local ending = (algorithm == "QuickLife" or algorithm == "Larger than Life") and "rle" or "mc"
     local path = g.getdir("temp") .. "golly_canon_key." .. ending
     g.save(path, ending)
-    local pipe = io.popen(quoted(program) .. " keys --form " .. quoted(form) .. " -- " .. quoted(path) .. " 2>&1")
+    local options = " --form " .. quoted(form) .. (within and " --within " .. quoted(within) or "")
+    local pipe = io.popen(quoted(program) .. " keys" .. options .. " -- " .. quoted(path) .. " 2>&1")
     local said = pipe:read("a")
     pipe:close()
     os.remove(path)

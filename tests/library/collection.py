@@ -36,7 +36,7 @@ sys.path.insert(0, EXAMPLES)
 
 import collection  # noqa: E402
 from shared.counting import check, ended  # noqa: E402
-from shared.fixtures import LIFE  # noqa: E402
+from shared.fixtures import LIFE, WIDE  # noqa: E402
 
 PROGRAM = os.path.abspath(os.path.join(EXAMPLES, "collection.py"))
 PAGE = os.path.abspath(os.path.join(EXAMPLES, "../docs/COLLECTIONS.md"))
@@ -45,6 +45,8 @@ PATTERNS, SHARE = 100, "20"
 PATIENCE = 240  # the most seconds for what is waited for, and for each run
 GLIDER = b"x = 3, y = 3, rule = 23/3\nbo$2bo$3o!\n"
 GLIDER_KEY = hashlib.sha256(LIFE + b"$$$$.....*$......*$....***$$\n").digest()
+PHASES_KEY = hashlib.sha256(LIFE + b"$$$$....*$....*.*$....**$$\n").digest()  # of its phases
+LATER = b"#CXRLE Gen=1\nx = 3, y = 3\nobo$b2o$bo!\n"  # the glider, one generation later
 CHILD = b"[M2]\n#R B3/S23\n....*$$$$$$$$\n4 0 0 0 9\n"
 HELD = "held.rle"  # the named pipe
 WITHOUT_DASK = ["--workers", "0"]
@@ -481,6 +483,90 @@ def of_older_tables():
         check((status, output, errors) == (2, "", said) and it.read() == before, f"an older table: status {status}, {errors}")
 
 
+# What made a table before there were keys in the form phases.
+SCHEMA = [
+    "CREATE TABLE run (list BLOB NOT NULL, shares INTEGER NOT NULL)",
+    "CREATE TABLE share (number INTEGER PRIMARY KEY, files INTEGER NOT NULL, unread INTEGER NOT NULL)",
+    "CREATE TABLE file (id INTEGER PRIMARY KEY, path TEXT NOT NULL, member TEXT, placed BLOB, moved BLOB, turned BLOB, kind TEXT, line INTEGER, why TEXT)",
+    "CREATE VIEW duplicates AS " + " UNION ALL ".join(
+        f"SELECT '{form}' AS form, first, id, path, member, {form} AS key FROM "
+        f"(SELECT {form}, min(id) AS first FROM file WHERE {form} IS NOT NULL GROUP BY {form} HAVING count(*) > 1) JOIN file USING ({form})"
+        for form in ("placed", "moved", "turned")),
+]
+WITHOUT_PHASES = "it has no keys in the form phases: name another table, or remove this one"
+
+
+def schema_of(table):
+    """What makes the tables and the view in a table, without its indexes."""
+    with contextlib.closing(sqlite3.connect(table)) as it:
+        return [sql for sql, in it.execute("SELECT sql FROM sqlite_master WHERE type IN ('table', 'view')")]
+
+
+def of_tables_without_phases():
+    """A table that was made before there were keys in the form phases goes on as it is, and a new table without them is the same; a run that wants them is
+    refused by name, and the table stays as it is."""
+    names = ["glider.rle", "000a.rle"]
+    with contextlib.closing(sqlite3.connect("three.sqlite")) as it:
+        it.executescript(";".join(SCHEMA))
+        with it:
+            it.execute("INSERT INTO run VALUES (?, ?)", (collection.digest_of(collection.shares_of(names, False)), 1))
+    for table in ("three.sqlite", "new.sqlite"):
+        status, _, errors = ran("--table", table, *WITHOUT_DASK, *names)
+        check(status == 0 and [it[0] for it in rows(table)] == names and rows(table)[0][2] == GLIDER_KEY, f"{table}: status {status}, {errors}")
+        check(schema_of(table) == SCHEMA, f"{table}: {schema_of(table)}")
+        with open(table, "rb") as it:
+            before = it.read()
+        for words in (["--form", "phases"], ["--within", "128"], ["--form", "phases", "--within", "9"]):
+            found = ran("--table", table, *WITHOUT_DASK, *words, *names)
+            with open(table, "rb") as it:
+                check(found == (2, "", f"collection: {table}: {WITHOUT_PHASES}\n") and it.read() == before, f"{table}, {words}: {found}")
+
+
+def of_phases():
+    """A table that is made with keys in the form phases has them for each file, and says why a file has none. It goes on with these keys whichever form its
+    duplicates are listed in later, and no file is read again for another form."""
+    os.mkdir("phases")
+    for name, data in {"glider.rle": GLIDER, "later.rle": LATER, "wide.rle": WIDE, "refused.mc": CHILD}.items():
+        with open(f"phases/{name}", "wb") as it:
+            it.write(data)
+    names = [f"phases/{it}" for it in ("glider.rle", "later.rle", "wide.rle", "refused.mc", "last.rle")]
+    words = ["--table", "phases.sqlite", *WITHOUT_DASK, *names]
+    with contextlib.closing(sqlite3.connect("phases.sqlite")) as it:
+        status, output, errors = ran(*words, "--form", "phases")
+        found = it.execute("SELECT path, phases, kind, line, why, placed IS NULL FROM file ORDER BY id").fetchall()
+        check(status == 1 and output == "phases/glider.rle = phases/later.rle\n", f"duplicates, phases: status {status}, {output}, {errors}")
+        said = "5 files, 2 keys, 2 refused, 1 unread, 1 patterns, 1 groups in the form phases"
+        check(errors.splitlines()[-1] == f"collection: {said}", f"the counts, phases: {errors}")
+        check([row[1] for row in found] == [PHASES_KEY, PHASES_KEY, None, None, None], f"keys in the form phases: {found}")
+        kinds, whys = [row[2:4] for row in found], [row[4] or "" for row in found]
+        wanted = [(None, None), (None, None), ("OutOfPlane", None), ("BadChild", 4), ("ReadFault", None)]
+        check(kinds == wanted and [row[5] for row in found] == [0, 0, 0, 1, 1], f"why files have no key in it: {found}")
+        check(whys[2].startswith("phases: OutOfPlane: ") and whys[3].startswith("line 4: BadChild: "), f"what is said of them: {whys}")
+        shutil.copy("phases/later.rle", "phases/last.rle")
+        status, output, errors = ran(*words)
+        check(status == 0 and output == "phases/later.rle = phases/last.rle\n", f"the same table, moved: status {status}, {output}, {errors}")
+        check(it.execute("SELECT phases FROM file WHERE path = 'phases/last.rle'").fetchone() == (PHASES_KEY,), "it goes on with these keys")
+        shutil.rmtree("phases")
+        for more in ([], ["--within", "128"]):
+            status, output, errors = ran(*words, "--form", "phases", *more)
+            found = [f"phases/glider.rle = phases/{name}.rle" for name in ("later", "last")]
+            check(status == 0 and output.splitlines() == found, f"no file is read again, {more}: status {status}, {output}, {errors}")
+        found = it.execute("SELECT path FROM duplicates WHERE form = 'phases' ORDER BY id").fetchall()
+        check([name for name, in found] == [names[0], names[1], names[4]], f"the view of the duplicates, phases: {found}")
+        check(it.execute("SELECT within FROM run").fetchall() == [(128,)], "the greatest period that was sought")
+    for form in ("phases", "moved"):
+        said = "collection: phases.sqlite: it has the keys of phases within 128 generations: name another table, or remove this one\n"
+        found = ran(*words, "--form", form, "--within", "3")
+        check(found == (2, "", said), f"another greatest period: {found}")
+    with open("later.rle", "wb") as it:
+        it.write(LATER)
+    words = ["--table", "within.sqlite", *WITHOUT_DASK, "glider.rle", "later.rle"]
+    for more in (["--within", "3"], ["--form", "phases"]):
+        status, output, errors = ran(*words, *more)
+        said = f"2 files, 2 keys, 0 refused, 0 unread, 2 patterns, 0 groups in the form {more[1] if '--form' in more else 'moved'}"
+        check((status, output, errors) == (0, "", f"collection: {said}\n"), f"a lesser greatest period, {more}: status {status}, {output}, {errors}")
+
+
 LOST = b"[M2] (golly 4.2)\r#R B3/S23\r$$..*$...*$.***$\r"
 
 
@@ -552,6 +638,9 @@ def of_words():
         (["--table", "x.sqlite", "glider.rle", "folder"], "folder is a folder: name its files, as find folder -type f -print0 | collection.py --from - does"),
         (["--table", "x.sqlite", "--from", "no list"], "no list: No such file or directory"),
         (["--table", "x.sqlite", "--form", "shifted", "glider.rle"], "shifted"),
+        (["--table", "x.sqlite", "--form", "phases", "--within", "0", "glider.rle"], "--within takes a number from 1 to 2^31 - 1"),
+        (["--table", "x.sqlite", "--within", "2147483648", "glider.rle"], "--within takes a number from 1 to 2^31 - 1"),
+        (["--table", "x.sqlite", "--within", "few", "glider.rle"], "--within"),
         (["--table", "x.sqlite", "--share", "0", "glider.rle"], "--share takes a number above 0"),
         (["--table", "x.sqlite", "--workers", "2", "--scheduler", "tcp://one:8786", "glider.rle"], "not allowed with"),
         (["--table", "alone.sqlite", *WITHOUT_DASK, "glider.rle"], "alone.sqlite: it is the table of another list or size of shares: name another table"),
@@ -816,6 +905,8 @@ def all_of(paths):
     of_formats()
     of_output()
     of_older_tables()
+    of_tables_without_phases()
+    of_phases()
     of_line_ends()
     of_words()
     of_lacking_dask()

@@ -36,9 +36,10 @@ from shared import processes  # noqa: E402
 from shared.counting import check, ended  # noqa: E402
 from shared.fixtures import FILES  # noqa: E402
 
-FORMS = ("placed", "moved", "turned")
+FORMS = ("placed", "moved", "turned", "phases")
 RANDOM_FILES = 300
 GLIDER = b"x = 3, y = 3\nbo$2bo$3o!\n"
+LATER = b"x = 3, y = 3\nobo$b2o$bo!\n"  # the glider, one generation later
 # Names that are UTF-8 text, as the program shows them on a terminal; and others.
 NAMES = [b"plain", b"a\x1b]0;t\x07\x1b[31mb", b"back\\slash", b"line\nfeed\r", "\u00e9\u4e2d\U0001f600\x9b".encode(), b"a = b", b"\x7f"]
 TURNING = ["\u202egnp.rle", "\u061c\u200e\u2028\u2066\u2069"]
@@ -73,7 +74,7 @@ def files():
 
 
 def of_keys(program):
-    """The table has the three keys that the program writes in its three forms, and the faults that it reports. The duplicates of each form, and those without
+    """The table has the four keys that the program writes in its four forms, and the faults that it reports. The duplicates of each form, and those without
     a form, are those of the program's command `duplicates`, and so are those of duplicates.py."""
     os.mkdir("files")
     for name, data in files().items():
@@ -81,7 +82,7 @@ def of_keys(program):
             it.write(data)
     names = sorted(f"files/{it}" for it in os.listdir("files"))
     given = "".join(f"{it}\0" for it in names).encode()
-    found = run_collection("--table", "all.sqlite", "--from", "-", given=given)
+    found = run_collection("--table", "all.sqlite", "--form", "phases", "--from", "-", given=given)
     check(found.status == 0, f"a table of {len(names)} files: {found}")
     with contextlib.closing(sqlite3.connect("all.sqlite")) as it:
         rows = it.execute(f"SELECT path, {', '.join(FORMS)}, why FROM file ORDER BY id").fetchall()
@@ -92,7 +93,7 @@ def of_keys(program):
         own = {row[0]: row[at].hex() for row in rows if row[at]}
         check(own == wanted and len(own) > 100, f"the keys of {len(wanted)} files, {form}: {[it for it in names if own.get(it) != wanted.get(it)][:5]}")
         faults = dict(it.split(": ", 1) for it in answer.error.decode().splitlines() if ": warning: " not in it)
-        said = {row[0]: row[-1] or "" for row in rows if not row[at]}
+        said = {row[0]: (row[-1] or "").removeprefix(f"{form}: ") for row in rows if not row[at]}
         wrong = [(name, said.get(name), why) for name, why in faults.items() if not said.get(name, "").startswith(why)]
         check(not wrong and set(faults) == set(said) and len(faults) > 20, f"why {len(faults)} files have no key, {form}: {wrong[:3]}")
     for words in ([], *(["--form", form] for form in FORMS)):
@@ -121,6 +122,8 @@ def groups_of_lines(output):
 def of_default(program):
     """Each tool says which form it takes if none is named."""
     check(collection.FORM == duplicates.FORM == "moved", "one default form")
+    is_same = collection.WITHIN == golly_canon._WITHIN and re.search(rf"\b{collection.WITHIN}\b", processes.run([program, "keys", "-h"]).output.decode())
+    check(is_same, f"one greatest period for phases if none is given, and not {collection.WITHIN}, {golly_canon._WITHIN} and that of the program's help")
     said = re.sub(r"\s+", " ", run_collection("--help").output.decode())
     check(f"{collection.FORM} if none is named" in said, f"collection.py says its default: {said}")
     with open(os.path.join(TOP, "packages", "debian", "golly_canon_collection.1"), encoding="utf-8") as it:
@@ -224,18 +227,22 @@ def of_script(program):
     if lua is None:
         print("skipped: the script for Golly, since Lua isn't installed")
         return
-    key = processes.run([program, "keys", "--form", "turned", "-"], GLIDER).output[:64].decode()
     names = [*NAMES, *ODD]
-    with open("keys", "wb") as it:
-        for name in names:
-            plain = name.replace(b"\\", b"\\\\").replace(b"\n", b"\\n").replace(b"\r", b"\\r")
-            it.write(b"\\" * (plain != name) + key.encode() + b"  " + plain + b"\n")
     with open("golly.lua", "w", encoding="ascii") as it:
         it.write(GOLLY.replace("= ...", f"= {GLIDER.decode()!r}, {os.getcwd() + '/'!r}", 1))
-    settings = {**os.environ, "GOLLY_CANON": program, "GOLLY_CANON_KEYS": os.path.abspath("keys"), "GOLLY_CANON_FORM": "turned"}
-    found = processes.run([lua, "golly.lua", os.path.join(EXAMPLES, "golly_canon_key.lua")], env=settings)
-    wanted = f"This is the pattern (turned) of {', '.join(map(collection.text_of, names))}".encode()
-    check(found.output == wanted, f"the script for Golly: {found} and not {wanted}")
+    settings = {**os.environ, "GOLLY_CANON": program, "GOLLY_CANON_KEYS": os.path.abspath("keys")}
+    # The pattern of the table, its form, what more is set, and whether it is the open pattern.
+    for given, form, more, is_same in ((GLIDER, "turned", {}, True), (LATER, "turned", {}, False), (LATER, "phases", {}, True),
+                                       (LATER, "phases", {"GOLLY_CANON_WITHIN": "4"}, True), (LATER, "phases", {"GOLLY_CANON_WITHIN": "3"}, False)):
+        within = [word for most in more.values() for word in ("--within", most)]
+        key = processes.run([program, "keys", "--form", form, *within, "-"], given).output[:64].decode()
+        with open("keys", "wb") as it:
+            for name in names:
+                plain = name.replace(b"\\", b"\\\\").replace(b"\n", b"\\n").replace(b"\r", b"\\r")
+                it.write(b"\\" * (plain != name) + key.encode() + b"  " + plain + b"\n")
+        found = processes.run([lua, "golly.lua", os.path.join(EXAMPLES, "golly_canon_key.lua")], env={**settings, "GOLLY_CANON_FORM": form, **more})
+        wanted = f"This is the pattern ({form}) of {', '.join(map(collection.text_of, names))}" if is_same else f"No file of {os.path.abspath('keys')} is "
+        check(found.output.startswith(wanted.encode()) and is_same == (found.output == wanted.encode()), f"the script for Golly: {found} and not {wanted}")
 
 
 def of_new_patterns():
