@@ -1,6 +1,6 @@
 #!/usr/bin/env python3
-"""Times the command `keys` on many small files, beside `sha256sum` of the same files, beside a process for each file, and beside the Python module
-where out/library is built.
+"""Times the command `keys` in each form on many small files, beside `sha256sum` of the same files, beside a process for each file, and beside the Python
+module where out/library is built.
 
 usage: bench/keys.py PROGRAM FOLDER [FILES]    (100,000 files, if no number is named)
 
@@ -98,7 +98,7 @@ def main(words):
     taken(["xargs", "-0", "cat"], folder, all_names)  # reads each file once
     print(f"| {count:,} small files | time | processor time | files in a second | processor time for a file |\n|---|---|---|---|---|")
     keys = {}
-    for form in ("placed", "moved", "turned"):
+    for form in ("placed", "moved", "turned", "phases"):
         keys[form] = row(f"`keys --form {form}`", [program, "keys", "--zero", "--form", form, "--from", "-"], folder, all_names, files=count)
     row("`sha256sum` of the files' bytes, by `xargs`", ["xargs", "-0", "sha256sum", "--zero"], folder, all_names, files=count)
     few = min(count, FEW)
@@ -106,7 +106,7 @@ def main(words):
     library = os.path.join(TOP, "out", "library", "libgolly_canon.so")
     if os.path.exists(library):
         where = {**os.environ, "PYTHONPATH": os.path.join(TOP, "python"), "GOLLY_CANON_LIBRARY": library}
-        for form in ("placed", "turned"):
+        for form in ("placed", "turned", "phases"):
             found = row(f"the Python module, {form}", [sys.executable, "-c", MODULE, all_names, form], folder, all_names, files=count, env=where)
             if found != keys[form]:
                 sys.exit(f"the module comes to other keys ({form})")

@@ -2,7 +2,7 @@
 
 _golly_canon() {
     local commands="canon convert same show step keys duplicates help"
-    local formats="rle mc" forms="placed moved turned"
+    local formats="rle mc" forms="placed moved turned phases"
     local word=${COMP_WORDS[COMP_CWORD]} previous=${COMP_WORDS[COMP_CWORD - 1]} front= at
     COMPREPLY=()
     if [ "$COMP_CWORD" -eq 1 ]; then
@@ -34,9 +34,9 @@ _golly_canon() {
             case ${COMP_WORDS[1]} in
                 convert) COMPREPLY=($(compgen -W "--to --explain --help -h" -- "$word")) ;;
                 step) COMPREPLY=($(compgen -W "--table --generations --explain --help -h" -- "$word")) ;;
-                canon | same) COMPREPLY=($(compgen -W "--form --explain --help -h" -- "$word")) ;;
-                keys) COMPREPLY=($(compgen -W "--form --ignore-generation --zero --json --from --stream --recursive -r --help -h" -- "$word")) ;;
-                duplicates) COMPREPLY=($(compgen -W "--form --ignore-generation --zero --from --recursive -r --help -h" -- "$word")) ;;
+                canon | same) COMPREPLY=($(compgen -W "--form --within --explain --help -h" -- "$word")) ;;
+                keys) COMPREPLY=($(compgen -W "--form --within --ignore-generation --zero --json --from --stream --recursive -r --help -h" -- "$word")) ;;
+                duplicates) COMPREPLY=($(compgen -W "--form --within --ignore-generation --zero --from --recursive -r --help -h" -- "$word")) ;;
                 show) COMPREPLY=($(compgen -W "--period --explain --help -h" -- "$word")) ;;
             esac
             [ ${#COMPREPLY[@]} -eq 0 ] || return
