@@ -8,7 +8,9 @@ import { PATIENCE, filesOfTransfer, pathOf, sourcesOf, wantsList } from "./archi
 
 const $ = id => document.getElementById(id);
 /** What counts as one pattern: the words of each form. */
-const FORMS = { placed: "As placed", moved: "Moved", turned: "Moved, turned or reflected" };
+const FORMS = { placed: "As placed", moved: "Moved", turned: "Moved, turned or reflected", phases: "Moved, turned or reflected, in any phase" };
+/** The greatest period that the library seeks for the form phases. */
+const MOST_PERIOD = 128;
 /** The columns of the list. */
 const COLUMNS = ["Group", "File", "Rule", "Generation", "Cells", "Box"];
 /** The most rows of the list, and the most bytes of a text, that are shown. */
@@ -154,6 +156,9 @@ async function takeNow(source, mine) {
       }
     }
     await readAll(given, mine);
+    if (isChosen && form === "phases") {
+      await keyPhases(mine);
+    }
   } catch (why) {
     if (!(why instanceof Stopped)) {
       say(`That did not work: ${why.message.replace(/\.+$/, "")}.`);
@@ -357,8 +362,67 @@ function groupsIn(which) {
   return [...groups.values()].filter(it => it.length > 1);
 }
 
+/** The forms that can be chosen: those in which a file has a key, and phases, whose keys are computed when that is chosen. */
 function formsThere() {
-  return Object.keys(FORMS).filter(it => files.some(file => file.keys?.[it] !== undefined));
+  return Object.keys(FORMS).filter(it => files.some(file => file.keys?.[it] !== undefined || (it === "phases" && file.keys !== undefined)));
+}
+
+/** Whether the key of a file in the form phases was computed, or refused; and whether that is still to be done. */
+const isPhased = ({ keys, lacking }) => keys?.phases !== undefined || lacking?.phases !== undefined;
+const lacksPhases = file => file.keys !== undefined && !isPhased(file);
+
+/** Has the keys in the form phases computed of the files that lack them. */
+async function keyPhases(mine) {
+  const unkeyed = files.filter(lacksPhases);
+  for (const [index, file] of unkeyed.entries()) {
+    if (mine !== turn) {
+      return;
+    }
+    const count = unkeyed.length > 1 ? ` (${grouped(index + 1)} of ${grouped(unkeyed.length)})` : "";
+    working(`Seeking the period of ${shownName(file.name)}${count}`, index / unkeyed.length);
+    try {
+      const { keys, lacking } = await jobs.ask("phases", { source: sourceOf(file) });
+      Object.assign(file.keys, keys);
+      file.lacking = { ...file.lacking, ...lacking };
+    } catch (why) {
+      if (!(why instanceof Failed)) {
+        throw why;
+      }
+      file.lacking = { ...file.lacking, phases: why.message };
+    }
+    if (file === shown?.file) {
+      showSummary();
+    }
+  }
+}
+
+/** Compares the files in a form. Where that is phases, the keys that are lacking are computed first, after the files that are being taken. */
+function compareIn(which) {
+  const choose = () => {
+    [form, isChosen] = [which, true];
+    showCompared();
+  };
+  if (which !== "phases" || !files.some(lacksPhases)) {
+    choose();
+    return;
+  }
+  const mine = turn;
+  taken = taken.then(async () => {
+    try {
+      await keyPhases(mine);
+      if (mine === turn) {
+        choose();
+      }
+    } catch (why) {
+      if (!(why instanceof Stopped)) {
+        say(`That did not work: ${why.message.replace(/\.+$/, "")}.`);
+      }
+    } finally {
+      if (mine === turn) {
+        notWorking();
+      }
+    }
+  });
 }
 
 function showCompared() {
@@ -375,10 +439,8 @@ function showCompared() {
   $("answer").textContent = answerOf(groups);
   $("why").textContent = [whyOf(groups), warned()].filter(it => it !== "").join(" ");
   $("forms").replaceChildren(...forms.map(it => {
-    const choice = button(`${FORMS[it]} (${counted(groupsIn(it).length, "group", "groups")})`, () => {
-      [form, isChosen] = [it, true];
-      showCompared();
-    });
+    const count = it === "phases" && files.some(lacksPhases) ? "" : ` (${counted(groupsIn(it).length, "group", "groups")})`;
+    const choice = button(`${FORMS[it]}${count}`, () => compareIn(it));
     choice.ariaPressed = String(it === form);
     return choice;
   }));
@@ -386,8 +448,9 @@ function showCompared() {
 }
 
 /** What is added to a sentence on files that are one pattern in a form, and on those that are compared in it. */
-const HOW = { placed: "", moved: ", at different places", turned: ", turned or reflected" };
-const WHATEVER = { placed: "", moved: ", wherever they are", turned: ", wherever they are and however they are turned" };
+const HOW = { placed: "", moved: ", at different places", turned: ", turned or reflected", phases: ", in different phases or generations" };
+const WHATEVER = { placed: "", moved: ", wherever they are", turned: ", wherever they are and however they are turned",
+  phases: ", wherever they are, however they are turned, and in any phase" };
 
 /** The first form in which the files of a group are one pattern. */
 const formOf = group => Object.keys(FORMS).find(it => group.every(file => file.keys[it] === group[0].keys[it]));
@@ -429,6 +492,9 @@ function whyOf(groups) {
     return said.filter(it => it !== "").join(" ");
   }
   const [one, other] = files.map(it => it.summary);
+  if (groups.length === 0 && form === "phases" && one.rule === other.rule) {
+    return `They have the same rule, but the one isn't a phase of the other. Periods up to ${MOST_PERIOD} generations are sought.`;
+  }
   if (groups.length === 0) {
     const names = { rule: "rules", generation: "generations", population: "numbers of cells" };
     const differing = Object.keys(names).find(it => one[it] !== other[it]);
@@ -451,7 +517,8 @@ function whyOf(groups) {
     const said = ways.map(([by, unit, units, there, back]) => `${counted(by > 0n ? by : -by, unit, units)} to the ${by > 0n ? there : back}`);
     return `The second one is ${said.join(" and ")} of the first.`;
   }
-  return "They name the same rule and the same generation.";
+  return found === "phases" ? "They name the same rule. Their phases and their generations don't count here."
+    : "They name the same rule and the same generation.";
 }
 
 /** A colour for a group, apart from those of the groups before it. */
@@ -507,8 +574,17 @@ function rowOf(file, group) {
 /** Why a file has no key in a form, in words. */
 function whyNoKey(file, which) {
   const kind = file.lacking?.[which];
-  return kind === undefined ? "The key isn't computed yet, or its computation was stopped." : kind === "Full"
-    ? `There is no key, because the moved pattern has more than ${powerOf(21)} different squares.` : `There is no key: ${kind}. ${sentenceOf(kind)}`;
+  if (kind === undefined) {
+    return "The key isn't computed yet, or its computation was stopped.";
+  }
+  if (which === "phases" && kind === "OutOfPlane") {
+    return "There is no key, because the pattern leaves the plane before its period is found.";
+  }
+  if (kind === "Full") {
+    const more = which === "phases" ? `, or seeking its period needs more than ${powerOf(26)}` : "";
+    return `There is no key, because the moved pattern has more than ${powerOf(21)} different squares${more}.`;
+  }
+  return `There is no key: ${kind}. ${sentenceOf(kind)}`.trim();
 }
 
 /** The list as a table with commas: a line for each file, those of one pattern with one number, and its key in the form that is shown. */
@@ -605,7 +681,7 @@ function showSummary() {
     ["Squares in the text", grouped(summary.nodes)]];
   if (isOfFile()) {
     rows.push(["Key", file.keys.placed]);
-    for (const it of ["moved", "turned"]) {
+    for (const it of isPhased(file) ? ["moved", "turned", "phases"] : ["moved", "turned"]) {
       rows.push(file.keys[it] === undefined ? [`No key, ${it}`, whyNoKey(file, it)] : [`Key, ${it}`, file.keys[it]]);
     }
   }

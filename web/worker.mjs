@@ -1,21 +1,23 @@
 /** The worker: it answers one request after another, so that the page never waits for the library. */
 
-import { FORMS, Refused, load } from "./golly_canon.mjs";
+import { Refused, load } from "./golly_canon.mjs";
 import { sha256 } from "./sha256.mjs";
 import { Unreadable, checkSource, chunksOfSource, lineOf } from "./source.mjs";
 import { treeOf } from "./tree.mjs";
 
 /** The most different squares: a store of so many takes some 2.5 GB. */
 const LIMIT = 2 ** 26;
+/** The other forms in which each file that is read gets a key. */
+const OTHERS = ["moved", "turned"];
 let golly = null;
 
 /** The text of the file that was read last, where its other keys are lacking. */
 let last = null;
 
-/** The keys of a pattern in the other forms, and of those that it has not the kind of fault that says why. */
-function otherKeys(text) {
+/** The keys of a pattern in these forms, and of those that it has not the kind of fault that says why. */
+function keysIn(forms, text) {
   const [keys, lacking] = [{}, {}];
-  for (const form of FORMS.slice(1)) {
+  for (const form of forms) {
     try {
       keys[form] = sha256(golly.canon(text, { form, limit: LIMIT }));
     } catch (why) {
@@ -68,14 +70,19 @@ const acts = {
     const { text, warning } = read;
     const found = isShown ? opened(text) : { summary: golly.show(text, { limit: LIMIT }) };
     last = isShown ? text.slice() : null;
-    const others = isShown ? { keys: {}, lacking: {} } : otherKeys(text);
+    const others = isShown ? { keys: {}, lacking: {} } : keysIn(OTHERS, text);
     const keys = { placed: sha256(text), ...others.keys };
     return { ...found, keys, lacking: others.lacking, warning, lacksKeys: last !== null };
   },
 
   /** The other keys of the file that was read last, so that it is shown before they are there. */
   async keys() {
-    return otherKeys(last);
+    return keysIn(OTHERS, last);
+  },
+
+  /** The key of a file in the form phases. It has an act of its own, since many generations may have to be computed for it. */
+  async phases({ source }, tell) {
+    return keysIn(["phases"], (await textOf(source, tell)).text);
   },
 
   async rle({ text }) {

@@ -24,6 +24,7 @@ GLIDER = b"x = 3, y = 3\nbo$2bo$3o!\n"
 MOVED = b"#CXRLE Pos=-70,5\nx = 3, y = 3\nbo$2bo$3o!\n"
 SPELLED = b"[M2] (golly 4.2)\n#R s23/b3\n.*$..*$***$\n4 0 0 0 1\n"
 TURNED = b"x = 3, y = 3\nbo$o$3o!\n"
+LATER = b"#CXRLE Gen=1\nx = 3, y = 3\nobo$b2o$bo!\n"  # the glider, one generation later
 REFUSED = b"x = 3, y = 3\nbo$2bo$\n3oz!\n"
 # A macrocell file that lost its line ends: it is one line, and so the blank pattern.
 LOST = b"[M2] (golly 4.2)\r#R B3/S23\r$$..*$...*$.***$\r"
@@ -79,6 +80,16 @@ class Page:
         found = self.browser.run("return [...document.querySelectorAll('#summary > *')].map(it => it.textContent);")
         words = [it.replace("\u202f", "") for it in found]
         return dict(zip(words[::2], words[1::2]))
+
+    def compare_in(self, index):
+        """Chooses the form with this number, and waits until the files are compared in it."""
+        self.browser.run("document.querySelectorAll('#forms button')[given[0]].click();", index)
+        self.until(f"document.querySelectorAll('#forms button')[{index}].ariaPressed === 'true'")
+        self.rests()
+
+    def forms(self):
+        """The forms that can be chosen."""
+        return self.browser.run("return [...document.querySelectorAll('#forms button')].map(it => it.textContent.replaceAll('\u202f', ''));")
 
     def list(self):
         """The rows of the list."""
@@ -539,12 +550,12 @@ def table(page):
 
 def saving(page, folder, answers):
     """The saved table has the keys of the form that is shown, as the program writes them."""
-    paths = put(folder, one_rle=GLIDER, two_rle=MOVED, three_rle=TURNED, large_mc=large())
+    paths = put(folder, one_rle=GLIDER, two_rle=MOVED, three_rle=TURNED, four_rle=LATER, large_mc=large())
     page.dropped(paths[:2])
     holds("the form of two files at different places", {it["form"] for it in table(page).values()} == {"moved"}, table(page))
     page.dropped(paths)
-    for index, form in enumerate(("placed", "moved", "turned")):
-        page.browser.run("document.querySelectorAll('#forms button')[given[0]].click();", index)
+    for index, form in enumerate(("placed", "moved", "turned", "phases")):
+        page.compare_in(index)
         rows = table(page)
         keys = {os.path.basename(path): answers.of("keys", path, "--form", form)[:64] for path in paths}
         found = {name: row["key"] for name, row in rows.items()}
@@ -554,6 +565,43 @@ def saving(page, folder, answers):
         in_groups = {name: [other for other in groups if groups[name] and groups[other] == groups[name]] or shared[name][:1] for name in groups}
         problems = differing({"keys": found, "form": named, "groups": in_groups}, {"keys": keys, "form": {form}, "groups": shared})
         counting.row(f"the table of files that are compared as {form}", problems)
+
+
+IN_ANY_PHASE = "Moved, turned or reflected, in any phase"
+
+
+def phasing(page, folder, answers):
+    """The keys in the form phases are computed when that is chosen, and then of each file that comes; a file without one has a reason."""
+    one, later, turned, wide, block = put(folder, one_rle=GLIDER, later_rle=LATER, turned_rle=TURNED, wide_rle=fixtures.WIDE, block_rle=b"x=2,y=2\n2o$2o!\n")
+    page.dropped([one, later])
+    counting.row("two phases of one pattern", differing(
+        {"answer": page.text("answer"), "why": page.text("why"), "last": page.forms()[-1], "keys": sorted(it for it in page.summary() if "Key" in it)},
+        {"answer": "The files are two patterns.", "why": "They have different generations: 0 and 1.", "last": IN_ANY_PHASE,
+         "keys": ["Key", "Key, moved", "Key, turned"]}))
+    page.compare_in(3)
+    key = answers.of("keys", one, "--form", "phases")[:64]
+    counting.row("two phases that are compared as such", differing(
+        {"answer": page.text("answer"), "why": page.text("why"), "last": page.forms()[-1], "key": page.summary().get("Key, phases")},
+        {"answer": "Both files are one pattern, in different phases or generations.",
+         "why": "They name the same rule. Their phases and their generations don't count here.", "last": f"{IN_ANY_PHASE} (1 group)", "key": key}))
+    page.browser.drop([turned, wide])
+    page.until("document.querySelectorAll('#list tbody tr').length === 4")
+    page.rests()
+    rows = table(page)
+    counting.row("more files that are compared as phases", differing(
+        {"answer": page.text("answer"), "why": page.text("why"), "keys": {name: row["key"] for name, row in rows.items()}, "wide": rows["wide.rle"]["note"]},
+        {"answer": "3 of 4 files are the same pattern as another file, wherever they are, however they are turned, and in any phase: 1 group.",
+         "why": "1 file has no key for this form, and can't be compared.",
+         "keys": {"one.rle": key, "later.rle": key, "turned.rle": key, "wide.rle": ""},
+         "wide": "There is no key, because the pattern leaves the plane before its period is found."}))
+    page.dropped([one, block])
+    page.compare_in(3)
+    counting.row("two patterns that are compared as phases", differing(
+        {"answer": page.text("answer"), "why": page.text("why")},
+        {"answer": "The files are two patterns, wherever they are, however they are turned, and in any phase.",
+         "why": "They have the same rule, but the one isn't a phase of the other. Periods up to 128 generations are sought."}))
+    page.dropped([one, later])
+    counting.row("the next files are compared as before", differing({"last": page.forms()[-1]}, {"last": IN_ANY_PHASE}))
 
 
 def warning(page, folder):
@@ -1154,6 +1202,7 @@ def working(browser, folder, work, answers, server):
     tars(page, os.path.join(work, "tars"))
     speaking(page, os.path.join(work, "speaking"))
     saving(page, os.path.join(work, "saving"), answers)
+    phasing(page, os.path.join(work, "phasing"), answers)
     warning(page, os.path.join(work, "warning"))
     many(page, os.path.join(work, "many"))
     stepping(page, os.path.join(work, "stepping"), answers)
