@@ -600,8 +600,18 @@ def phasing(page, folder, answers):
         {"answer": page.text("answer"), "why": page.text("why")},
         {"answer": "The files are two patterns, wherever they are, however they are turned, and in any phase.",
          "why": "They have the same rule, but the one isn't a phase of the other. Periods up to 128 generations are sought."}))
-    page.dropped([one, later])
+    page.dropped(put(folder, soup_rle=soup_of(500), other_rle=soup_of(499)))
     counting.row("the next files are compared as before", differing({"last": page.forms()[-1]}, {"last": IN_ANY_PHASE}))
+    page.browser.run("document.querySelectorAll('#forms button')[3].click();")
+    page.until("!document.getElementById('working').hidden")
+    doing = page.text("doing")
+    page.click("stop")
+    page.until("document.getElementById('said').textContent === 'Stopped.'")
+    pressed = page.browser.run("return document.querySelector('#forms [aria-pressed=true]').textContent;")
+    counting.row("the search for periods is stopped", differing(
+        {"doing": doing, "answer": page.text("answer"), "forms": [pressed, page.forms()[-1]], "rests": page.hides("working")},
+        {"doing": "Seeking the period of soup.rle (1 of 2)", "answer": "The files are two patterns.", "forms": ["As placed (0 groups)", IN_ANY_PHASE],
+         "rests": True}))
 
 
 def warning(page, folder):
