@@ -40,7 +40,8 @@ const chunked = (golly, gives, data) => {
 const answersOf = (golly, it) => {
   const [pattern, other, table] = [it.pattern, it.other, it.table].map(text => text === null ? null : bytes(text));
   const found = { canon: answer(() => golly.canon(pattern)), show: answer(() => lines(golly.show(pattern))), rle: answer(() => golly.toRle(pattern)),
-    step: answer(() => golly.step(pattern)), same: answer(() => golly.same(pattern, other)), chunks: answer(() => chunked(golly, "canon", pattern)) };
+    step: answer(() => golly.step(pattern)), same: answer(() => golly.same(pattern, other)), chunks: answer(() => chunked(golly, "canon", pattern)),
+    phases: answer(() => golly.canon(pattern, { form: "phases" })), alike: answer(() => golly.same(pattern, other, { form: "phases", within: 3 })) };
   if (table !== null) found.table = answer(() => golly.step(pattern, { table }));
   return found;
 };
@@ -63,7 +64,8 @@ def wanted_of(program, case):
     program.put("pattern", case.pattern)
     program.put("other", case.other)
     runs = {"canon": ["canon", "pattern"], "show": ["show", "pattern"], "rle": ["convert", "pattern", "--to", "rle"], "step": ["step", "pattern"],
-            "same": ["same", "pattern", "other"], "chunks": ["canon", "pattern"]}
+            "same": ["same", "pattern", "other"], "chunks": ["canon", "pattern"], "phases": ["canon", "pattern", "--form", "phases"],
+            "alike": ["same", "pattern", "other", "--form", "phases", "--within", "3"]}
     if case.table is not None:
         program.put("table", case.table)
         runs["table"] = ["step", "pattern", "--table", "table"]
