@@ -9,6 +9,7 @@ from .generations import MOST_CELLS, later_by_rule, step_by_rule, step_by_table
 from .lines import Fault
 from .patterns import canonical_text, listed, read
 from .periods import period_line
+from .phases import MOST, are_phases, text_of_phases
 from .rle import rle_text
 from .squares import FIRST, Squares, box_of, cells_of
 from .tables import read_table
@@ -71,7 +72,10 @@ def answer_of(call):
     return Answer(2, fault=outcome.text()) if isinstance(outcome, Fault) else Answer(*outcome)
 
 
-def canon(file, form="placed"):
+def canon(file, form="placed", most=MOST):
+    """The canonical text in a form. `most` is the greatest period that the form `phases` seeks."""
+    if form == "phases":
+        return answer_of(lambda: (0, text_of_phases(file.squares, file.pattern, most)))
     return answer_of(lambda: (0, file.text if form == "placed" else text_in(file.squares, file.pattern, form)))
 
 
@@ -83,8 +87,8 @@ def convert_to_rle(file):
     return answer_of(lambda: (0, rle_of(file.pattern)))
 
 
-def same(first, second, form="placed"):
-    return answer_of(lambda: (0, b"same\n") if is_same(first, second, form) else (1, b"different\n"))
+def same(first, second, form="placed", most=MOST):
+    return answer_of(lambda: (0, b"same\n") if is_same(first, second, form, most) else (1, b"different\n"))
 
 
 def show(file, most=None):
@@ -103,9 +107,11 @@ def rle_of(pattern):
     return rle_text(pattern.rule, pattern.generation, cells)
 
 
-def is_same(first, second, form):
+def is_same(first, second, form, most):
     """Whether two files say one rule, one generation and one state of each cell, in a form. The first file is looked at, and refused, first."""
     one, other = first.pattern, second.pattern
+    if form == "phases":
+        return are_phases(one, other, most)
     if form != "placed":
         return is_same_in(one, other, form)
     return one.rule == other.rule and one.generation == other.generation and has_same_cells(one.plane, other.plane, set())

@@ -190,6 +190,11 @@ def wanted_answers(case):
             if not has_slow_form(other):
                 form = "moved" if len(case.pattern) % 2 else "turned"
                 yield ["same", name, "other", "--form", form], commands.same(file, other, form)
+            for number in generations_of(case, file)[:1]:
+                within = ["--within", str(number + 1), "--form", "phases"]
+                yield ["canon", name, *within], commands.canon(file, "phases", number + 1)
+                if not has_slow_form(other):
+                    yield ["same", name, "other", *within], commands.same(file, other, "phases", number + 1)
 
 
 def escaped(data):

@@ -18,8 +18,8 @@ import tempfile
 sys.dont_write_bytecode = True  # nothing is left in tests/
 sys.path.insert(0, os.path.dirname(os.path.dirname(os.path.abspath(__file__))))
 
-from keys import (ABSENT, AT_START, CLOCK, DEVICES_LEFT_OUT, FOLDER, LATER, MISUSED, NAMES, NO_NAME, NO_TEXT, ODD, ORDER, SMALL, Place, escaped,  # noqa: E402
-                  listed, outcome_at_start, outcome_of, problems_of, random_outcomes, warned)
+from keys import (ABSENT, AT_START, CLOCK, DEVICES_LEFT_OUT, FOLDER, FORMS, LATER, MISUSED, NAMES, NO_NAME, NO_TEXT, ODD, ORDER, PHASE, RANDOM_FORMS,  # noqa: E402
+                  SMALL, Place, escaped, listed, outcome_at_start, outcome_of, problems_of, random_outcomes, warned, words_of)
 from shared import counting, processes  # noqa: E402
 from shared.processes import Answer  # noqa: E402
 
@@ -71,6 +71,10 @@ WORKED = [
     ("what Golly writes, as it lies", ["golly.mc", "golly.rle", "--form", "placed"], 1, []),
     ("a shift", ["glider", "shifted", "turned"], 0, [[b"glider", b"shifted"]]),
     ("a turn", ["glider", "shifted", "turned", "--form=turned"], 0, [[b"glider", b"shifted", b"turned"]]),
+    ("another phase, turned", ["glider", "phase", "shifted", "turned", "--form=turned"], 0, [[b"glider", b"shifted", b"turned"]]),
+    ("another phase", ["glider", "phase", "shifted", "turned", "--form=phases"], 0, [[b"glider", b"phase", b"shifted", b"turned"]]),
+    ("another phase, of a period that isn't sought", ["glider", "phase", "--form=phases", "--within", "3"], 1, []),
+    ("another phase, of one that is", ["glider", "phase", "--form=phases", "--within", "4"], 0, [[b"glider", b"phase"]]),
     ("the order of groups and names", ["blank", "pair.mc", "glider", "pair.rle", "shifted", "blank"], 0,
      [[b"blank", b"blank"], [b"pair.mc", b"pair.rle"], [b"glider", b"shifted"]]),
     ("a file in between that is alone", ["pair.mc", "named.rle", "pair.rle"], 0, [[b"pair.mc", b"pair.rle"]]),
@@ -81,7 +85,7 @@ def worked_rows(place):
     for name, words, status, groups in WORKED:
         place.row(f"by hand: {name}", words, Answer(status, text_of(groups)))
         place.row(f"by hand, ended by NULs: {name}", [*words, "--zero"], Answer(status, text_of(groups, is_zero=True)))
-    for form in ("placed", "moved", "turned"):
+    for form in FORMS:
         place.row(f"the files in their order, {form}", [*ORDER, "--form", form], place.wanted(ORDER, form))
         place.row(f"the same, ended by NULs, {form}", ["--zero", *ORDER, f"--form={form}"], place.wanted(ORDER, form, is_zero=True))
     place.row("no form", ORDER, place.wanted(ORDER))
@@ -94,9 +98,9 @@ def generation_rows(place):
     for name in names:
         place.put(name, {**SMALL, **LATER}[name])
     pairs = [name for name in names if name != b"glider"]
-    for form in ("placed", "moved", "turned"):
+    for form in FORMS:
         words = [*names, "--form", form]
-        place.row(f"by hand: generations, {form}", words, Answer(0, text_of([[b"pair.rle", b"none.mc"]])))
+        place.row(f"by hand: generations, {form}", words, Answer(0, text_of([pairs if form == "phases" else [b"pair.rle", b"none.mc"]])))
         place.row(f"by hand: generations that are ignored, {form}", [AT_START, *words], Answer(0, text_of([pairs])))
         place.row(f"the same, ended by NULs, {form}", ["--zero", *words, AT_START], Answer(0, text_of([pairs], is_zero=True)))
         place.row(f"files in their order without their generations, {form}", [AT_START, *ORDER, *words],
@@ -111,7 +115,7 @@ def refused_rows(place):
     place.row("a folder without -r", [".", "glider"], Answer(3, b"", b".: is a folder\n"))
     place.row("standard input", ["-", "glider"], answer_of([(b"-", outcome_of(SMALL[b"shifted"], "moved")), (b"glider", outcome_of(SMALL[b"glider"], "moved"))]),
               SMALL[b"shifted"])
-    for words in ([], ["--form", "moved"], ["--zero"], ["-r"], ["--form", "still", "blank"], ["--from"], ["--from", "blank", "--from", "blank"],
+    for words in ([], ["--form", "moved"], ["--zero"], ["-r"], ["--form", "still", "blank"], ["--within", "9", "blank"], ["--form", "phases", "--within", "0", "blank"], ["--from"], ["--from", "blank", "--from", "blank"],
                   ["blank", "--to", "mc"], ["--zero=yes", "blank"]):
         place.row(f"a command line that isn't understood: {' '.join(words)}", words, MISUSED)
     place.row("standard input twice", ["-", "-"], Answer(5, b"", b"TwoInputs\n"))
@@ -198,12 +202,12 @@ def random_rows(place, seed, count):
     files = {b"%d.%s" % (number, b"mc" if data.startswith(b"[M2]") else b"rle"): (data, outcomes) for number, (data, outcomes) in enumerate(found)}
     for name, (data, _) in files.items():
         place.put(name, data)
-    for form in ("placed", "moved", "turned"):
+    for form in RANDOM_FORMS:
         named = [(name, outcomes[form]) for name, (_, outcomes) in files.items() if outcomes[form] is not None]
         told = [warned(name, files[name][0]) if status == 0 else b"%s: %s\n" % (name, said.encode()) for name, (status, said) in named]
         answer = answer_of(named)._replace(error=b"".join(told))
         groups = answer.output.count(b"\n\n") + 1
-        run = place.run(["--form", form, "--from", "-"], listed([name for name, _ in named]))
+        run = place.run([*words_of(form), "--from", "-"], listed([name for name, _ in named]))
         counting.row(f"{len(named)} random files, {form}: {groups} groups", problems_of(run, answer) + ([] if groups > 3 else ["too few groups"]))
 
 
@@ -236,7 +240,7 @@ def main():
             os.mkdir(os.path.join(folder, name))
             places.append(Here(program, os.path.join(folder, name)))
         small, odd, some = places
-        for name, data in (*SMALL.items(), *BY_GOLLY.items()):
+        for name, data in (*SMALL.items(), *BY_GOLLY.items(), (b"phase", PHASE)):
             small.put(name, data)
         worked_rows(small)
         generation_rows(small)

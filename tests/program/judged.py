@@ -2,13 +2,14 @@
 
 import ctypes
 
-from independent import commands, forms
+from independent import commands, forms, phases
 from shared import c_interface, processes
 from shared.c_interface import AMBIGUOUS, FULL, MEMORY, NO_ROOM, SQUARES, Stream
 
 # The statuses of the program.
 SAME, DIFFERENT, REFUSED, WANTS = 0, 1, 2, 4
-# What the name of a call ends in that takes the value of an option.
+# The number of the form `phases` without a greatest period, as include/golly_canon.h has it, and what the name of a call ends in that takes the value of an option.
+PHASES = 1 << 31
 MORE = {"--form": "_form", "--generations": "_generations"}
 CALLS = {"canon": "canon", "show": "show", "step": "step", "rle": "to_rle", "mc": "canon"}
 
@@ -45,7 +46,12 @@ def numbers_of(words):
     """The number of a form as a call in a form takes it, or that of generations, and nothing for a call with neither."""
     if words[-2] == "--generations":
         return [ctypes.c_uint64(int(words[-1]))]
-    return [ctypes.c_uint32(forms.FORMS.index(words[-1]))] if words[-2] == "--form" else []
+    if words[-2] != "--form":
+        return []
+    if words[-1] == "phases":
+        most = int(words[words.index("--within") + 1]) if "--within" in words else phases.MOST
+        return [ctypes.c_uint32(PHASES + most)]
+    return [ctypes.c_uint32(forms.FORMS.index(words[-1]))]
 
 
 class Library:

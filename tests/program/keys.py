@@ -50,6 +50,8 @@ NAMES, SECONDS, TIMES, LITTLE = 100_000, 20, 6, 6_000_000
 # turns, because what else the machine does costs the one or the other more. (It takes 0.42 of that time on a quiet machine. With four other processes beside,
 # 0.51 was seen.)
 STREAM_SHARE, STREAM_MEMORY, TURNS = 0.6, 12_000_000, 5
+# The forms, each of which the independent reader has too. Those of random files have a greatest period that the reader seeks quickly, also of patterns that grow.
+FORMS, RANDOM_FORMS = (*forms.FORMS, "phases"), (*forms.FORMS, "phases 6")
 # Why a file has no key though the program was not let read it.
 ABSENT, LOCKED, FOLDER, OTHER = "no such file", "permission denied", "is a folder", "can't be opened"
 # The same of a name that isn't UTF-8 text, and what the end of a run over folders says of such names.
@@ -120,12 +122,19 @@ def key_of(text):
     return hashlib.sha256(text).hexdigest()
 
 
+def words_of(form):
+    """The words for a form, which may have a greatest period after its name."""
+    name, *most = form.split()
+    return ["--form", name, *(["--within", *most] if most else [])]
+
+
 @functools.cache
 def outcome_of(data, form):
     """The status of a file alone, and its key, or why it has none. A text in place of the bytes says why it can't be read."""
     if isinstance(data, str):
         return 3, data
-    answer = commands.canon(commands.File(data), form)
+    name, *most = form.split()
+    answer = commands.canon(commands.File(data), name, *map(int, most))
     if answer.status == 0:
         return 0, key_of(answer.output)
     *line, kind = answer.fault.split()
@@ -269,6 +278,8 @@ SMALL = {
     b"turned": b"#CXRLE Pos=-70,5\nx = 3, y = 3\n3o$o$bo!\n",
     b"shifted": b"#CXRLE Pos=-7,1000\r\nx = 3, y = 3, rule = 23/3\r\nbo$2bo$3o!\r\n",
 }
+# A phase of the glider.
+PHASE = b"#CXRLE Pos=-70,5 Gen=1\nx = 3, y = 3\nbo$b2o$obo!\n"
 ORDER = b"pair.rle empty pair.mc absent child.mc glider pair.rle long blank turned shifted bad.rle".split()
 GLIDER = LIFE + b"$$$$.....*$......*$....***$$\n"
 WORKED = [
@@ -278,6 +289,9 @@ WORKED = [
     ("turned", b"pair.mc", LIFE + b"*$$$$$$$$\n4 1 0 1 0\n5 0 0 0 2\n"),
     ("placed", b"blank", LIFE),
     ("turned", b"blank", LIFE),
+    ("phases", b"blank", LIFE),
+    ("phases", b"glider", LIFE + b"$$$$....*$....*.*$....**$$\n"),
+    ("phases", b"turned", LIFE + b"$$$$....*$....*.*$....**$$\n"),
     ("placed", b"named.rle", canonical(b"Life") + b"1 0 0 0 1\n"),
     ("placed", b"glider", GLIDER),
     ("moved", b"shifted", GLIDER),
@@ -304,14 +318,18 @@ def form_rows(place):
     for form, name, text in WORKED:
         place.row(f"{name.decode()}, {form}, by hand", ["--form", form, name], Answer(0, key_line(key_of(text), name)))
     place.row("no form", ORDER, place.wanted(ORDER))
-    for form in ("placed", "moved", "turned"):
+    for form in FORMS:
         answer = place.wanted(ORDER, form)
         place.row(f"the files in their order, {form}", [*ORDER, "--form", form], answer)
         place.row(f"the same, with the form behind a =, {form}", [f"--form={form}", *ORDER], answer)
         place.row(f"the same, ended by NULs, {form}", ["--zero", *ORDER, "--form", form], place.wanted(ORDER, form, is_zero=True))
-    for form, count in (("placed", 3), ("moved", 2), ("turned", 1)):
-        keys = {line[:64] for line in place.run(["--form", form, "glider", "shifted", "turned"]).output.splitlines()}
-        counting.row(f"keys of a glider, one that was moved, and one that was turned, {form}", [repr(keys)] if len(keys) != count else [])
+    place.put(b"phase", PHASE)
+    for form, count in (("placed", 4), ("moved", 3), ("turned", 2), ("phases", 1)):
+        keys = {line[:64] for line in place.run(["--form", form, "glider", "shifted", "turned", "phase"]).output.splitlines()}
+        counting.row(f"keys of a glider, one that was moved, one that was turned, and a phase, {form}", [repr(keys)] if len(keys) != count else [])
+    for most, count in ((3, 2), (4, 1), (2**64 - 1, 1)):
+        keys = {line[:64] for line in place.run(["--within", str(most), "--form", "phases", "glider", "phase"]).output.splitlines()}
+        counting.row(f"keys of two phases of a glider, up to {most}", [repr(keys)] if len(keys) != count else [])
 
 
 # Files that give a generation, of a pattern that is above without one.
@@ -341,7 +359,7 @@ def generation_rows(place):
         answer = Answer(0, key_line(key_of(text), name), warned(name, place.files[name]))
         place.row(f"{name.decode()} without its generation, {form}, by hand", [option, "--form", form, name], answer)
     names = [*ORDER, *LATER]
-    for form in ("placed", "moved", "turned"):
+    for form in FORMS:
         ignored = place.wanted(names, form, outcome=outcome_at_start)
         place.row(f"files without their generations, {form}", [*names, "--form", form, option], ignored)
         place.row(f"the same, of a list, {form}", [option, "--form", form, "--from", "-"], ignored, listed(names))
@@ -350,7 +368,7 @@ def generation_rows(place):
         place.row(f"the same with their generations, {form}", [*names, "--form", form], place.wanted(names, form))
         pairs = [b"pair.rle", b"pair.mc", b"later.rle", b"later.mc", b"last.rle", b"none.mc"]
         keys = [len({line[:64] for line in place.run([*pairs, "--form", form, *more]).output.splitlines()}) for more in ([], [option])]
-        counting.row(f"keys of a pattern in four generations, {form}", [] if keys == [4, 1] else [repr(keys)])
+        counting.row(f"keys of a pattern in four generations, {form}", [] if keys == [1 if form == "phases" else 4, 1] else [repr(keys)])
         found = place.run(["--json", option, "--form", form, *names])
         files = [(name, place.files.get(name, ABSENT)) for name in names]
         counting.row(f"the objects of files without their generations, {form}", object_problems(found, files, form, outcome_at_start))
@@ -442,7 +460,7 @@ def padded(data, length):
 def stream_rows(place):
     glider, pair = SMALL[b"glider"], SMALL[b"pair.mc"]
     pieces = [*SMALL.values(), b"", *LATER.values(), b"\x1f\x8bx", b"<html>", b"x = 2, y = 2\n2o$\n", glider + glider]
-    for form, more, last in itertools.product(("placed", "moved", "turned"), ([], [AT_START]), ([], [pair], [b"bad"])):
+    for form, more, last in itertools.product(FORMS, ([], [AT_START]), ([], [pair], [b"bad"])):
         outcome = outcome_at_start if more else outcome_of
         files = numbered(pieces + last)
         stream = listed(pieces, b"\0") + b"".join(last)
@@ -573,7 +591,7 @@ def object_rows(place):
     for name, status, text in OBJECTS:
         place.row(f"the object of {name[:20]!r}", ["--json", name], Answer(status, text))
     files = [(name, place.files.get(name, ABSENT)) for name in ORDER]
-    for form in ("placed", "moved", "turned"):
+    for form in FORMS:
         found = place.run(["--json", "--form", form, *ORDER])
         counting.row(f"the objects of the files in their order, {form}", object_problems(found, files, form))
     place.row("no object of no file", ["--json", "--from", "-"], Answer(0))
@@ -604,6 +622,7 @@ def odd_object_rows(place):
 
 MISUSES = [
     ("no file", []), ("no file, but a form", ["--form", "moved"]), ("no file, but NULs", ["--zero"]),
+    ("a greatest period of 0", ["--form", "phases", "--within", "0", "blank"]), ("a greatest period for another form", ["--within", "9", "blank"]),
     ("a form that isn't there", ["--form", "still", "blank"]), ("a form twice", ["--form", "moved", "--form", "moved", "blank"]),
     ("a list without its name", ["blank", "--from"]),
     ("a list twice", ["--from", "blank", "--from", "blank"]), ("an option of another command", ["blank", "--to", "mc"]),
@@ -764,9 +783,9 @@ def random_outcomes(given):
     """A random file, and its outcome in each form, or None where the reader would take long."""
     data = random_pattern(*given)
     is_slow = compare.has_slow_form(commands.File(data))
-    forms_of = {False: ("placed", "moved", "turned"), True: ("placed",)}[is_slow]
+    forms_of = {False: RANDOM_FORMS, True: ("placed",)}[is_slow]
     counted = {form: outcome_of(data, form) for form in forms_of}
-    return data, {**dict.fromkeys(("placed", "moved", "turned")), **counted, **{(form, AT_START): outcome_at_start(data, form) for form in forms_of}}
+    return data, {**dict.fromkeys(RANDOM_FORMS), **counted, **{(form, AT_START): outcome_at_start(data, form) for form in forms_of}}
 
 
 def answer_of_random(named, files):
@@ -785,10 +804,10 @@ def random_rows(place, seed, count):
     for name, (data, _) in files.items():
         place.put(name, data)
     counts = []
-    for form in ("placed", "moved", "turned"):
+    for form in RANDOM_FORMS:
         named = {name: outcomes[form] for name, (_, outcomes) in files.items() if outcomes[form] is not None}
         answer = answer_of_random(named, files)
-        run = place.run(["--form", form, "--from", "-"], listed(named))
+        run = place.run([*words_of(form), "--from", "-"], listed(named))
         keys, lines, their = answer.output.splitlines(), run.output.splitlines(), set(run.error.splitlines())
         wrong = [line for line in keys if line not in lines] + [line for line in answer.error.splitlines() if line not in their]
         different = len({line[:64] for line in keys})
@@ -797,20 +816,20 @@ def random_rows(place, seed, count):
         counts.append(different)
         counting.row(f"some of them are refused and some doubles, {form}", [] if different < len(keys) < len(named) else ["they are not"])
         double = [line for line in sorted(keys) if sum(other[:64] == line[:64] for other in keys) > 1]
-        found = place.shell(f'"$program" keys --form {form} --from - 2> told | sort | uniq -w 64 -D', listed(named))
+        found = place.shell(f'"$program" keys {" ".join(words_of(form))} --from - 2> told | sort | uniq -w 64 -D', listed(named))
         counting.row(f"their doubles by uniq, {form}", problems_of(found, Answer(0, b"".join(line + b"\n" for line in double))))
-    for form in ("placed", "moved", "turned"):
+    for form in RANDOM_FORMS:
         named = {name: outcomes[form, AT_START] for name, (_, outcomes) in files.items() if (form, AT_START) in outcomes}
         answer = answer_of_random(named, files)
         counting.row(f"{len(named)} random files without their generations, {form}",
-                     problems_of(place.run([AT_START, "--form", form, "--from", "-"], listed(named)), answer))
+                     problems_of(place.run([AT_START, *words_of(form), "--from", "-"], listed(named)), answer))
         pieces = {b"%d" % number: files[name] for number, name in enumerate((name for name in named if b"\0" not in files[name][0]), 1)}
         stream = listed([data for data, _ in pieces.values()], b"\0")
         for words, chosen in (([], form), ([AT_START], (form, AT_START))):
             answer = answer_of_random({number: outcomes[chosen] for number, (_, outcomes) in pieces.items()}, pieces)
             counting.row(f"{len(pieces)} random patterns of a stream, {' '.join([form, *words])}",
-                         problems_of(place.run([*words, "--form", form, "--stream", "-"], stream), answer))
-    counting.row("some of them are moved and some turned", [] if counts[0] > counts[1] > counts[2] else [repr(counts)])
+                         problems_of(place.run([*words, *words_of(form), "--stream", "-"], stream), answer))
+    counting.row("some of them are moved, some turned, and some alike but for that", [] if counts[0] > counts[1] > counts[2] >= counts[3] else [repr(counts)])
 
 
 # ---- many names

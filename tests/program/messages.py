@@ -179,9 +179,11 @@ def argument_rows(place):
 # ---- streams of patterns that are misused, or can't be opened
 
 KEYS_CALL = "golly_canon keys [OPTIONS] [FILE]..."
-# The man page: `--stream` can't be combined with files, `--from` or `-r`, and a form has one of three names.
+# The man page: `--stream` can't be combined with files, `--from` or `-r`, a form has one of four names, and `--within` is for one of them.
 NOT_ALONE = "--stream can't be used with a FILE, with --from or with -r"
-NO_FORM = "the value of --form is placed, moved or turned"
+NO_FORM = "the value of --form is placed, moved, turned or phases"
+NO_MOST = "the value of --within is a number from 1 to 2^64 - 1"
+NOT_WITHIN = "--within is for --form phases alone"
 NO_FILES = "a FILE, --from LIST or --stream STREAM has to be given"
 
 
@@ -199,6 +201,8 @@ MISUSED_STREAMS = [
         ["-r", "--stream", "-", "tree", "--from", "list", "--json", "--zero"], ["--stream", "-", "--", "-r"])),
     *((["--stream", "-", "--form", form], usage(NO_FORM)) for form in ("mirrored", "PLACED", "place", "")),
     (["--form", "shifted", "--ignore-generation", "--stream", "absent"], usage(NO_FORM)),
+    *((["--stream", "-", "--form", "phases", "--within", most], usage(NO_MOST)) for most in ("0", "", "x", "1e3", "18446744073709551616")),
+    *((["--stream", "-", "--within", "9", *form], usage(NOT_WITHIN)) for form in ([], ["--form", "placed"], ["--form", "turned"])),
     (["--stream", "-", "-", "--from", "-"], b"TwoInputs\n"), (["-", "--stream", "stream", "-"], b"TwoInputs\n"),
     ([], usage(NO_FILES)), (["--json", "--zero", "-r"], usage(NO_FILES)),
     (["--stream"], usage("a value is required for '--stream <STREAM>' but none was supplied", None)),
@@ -355,6 +359,8 @@ IN_INPUT = ("standard input, line 4", None, LOST)
 IN_EITHER = ("one of the two files, line 4", None, LOST)
 # Three cells in a column at each side of the plane: lying, they are too wide for it.
 WIDE = b"#CXRLE Pos=-2305843009213693952,0\nx = 1, y = 3\no4611686018427387902bo$o4611686018427387902bo$o4611686018427387902bo!\n"
+GROWS_OUT = "Before it is the same again, the pattern grows out of the plane, which goes from -2^61 to 2^61 - 1."
+TURN_INSTEAD = "Take --form turned, or a smaller number after --within."
 # Other commands, what they read from standard input, the status, the fault's own line, and what is said of it.
 OTHERS = [
     (["convert", "--to", "rle", "child.mc"], b"", 2, "line 4: BadChild", IN_PAIR),
@@ -392,7 +398,14 @@ OTHERS = [
     (["show", "--period", "9", "named.rle"], b"", 2, "NeedsTable",
      ("named.rle", None, "Leave --period out.", "The rule is a name, and a period is sought under a B/S rule alone.")),
     (["show", "--period", "9", "-"], WIDE, 2, "OutOfPlane",
-     ("standard input", None, None, "Before it is the same again, the pattern grows out of the plane, which goes from -2^61 to 2^61 - 1.")),
+     ("standard input", None, None, GROWS_OUT)),
+    (["canon", "--form", "phases", "child.mc"], b"", 2, "line 4: BadChild", IN_PAIR),
+    (["canon", "--form", "phases", "-"], WIDE, 2, "OutOfPlane", ("standard input", None, TURN_INSTEAD, GROWS_OUT)),
+    (["canon", "--form", "phases", "--within", "1", "-"], WIDE, 2, "OutOfPlane", ("standard input", None, TURN_INSTEAD, GROWS_OUT)),
+    (["canon", "--form", "phases", "wide.rle"], b"", 2, "OutOfPlane", ("wide.rle", None, TURN_INSTEAD, GROWS_OUT)),
+    (["same", "--form", "phases", "pair", "-"], WIDE, 2, "OutOfPlane", ("standard input", None, TURN_INSTEAD, GROWS_OUT)),
+    (["same", "--form", "phases", "wide.rle", "pair"], b"", 2, "OutOfPlane", ("wide.rle", None, TURN_INSTEAD, GROWS_OUT)),
+    (["same", "--form", "phases", "wide.rle", "child.mc"], b"", 2, "line 4: BadChild", IN_PAIR),
     (["step", "--table", "packed.gz", "spread.rle"], b"", 2, "table line 1: NoRuleLine",
      ("packed.gz, line 1", None, "This is a gzip file: unpack it first, with gunzip.")),
     (["step", "--table", "named.cells", "spread.rle"], b"", 2, "table line 1: NoRuleLine",
@@ -440,6 +453,7 @@ def from_stream(place, words, given, **how):
 def explanation_rows(place):
     for name, data in EXPLAINED.items():
         place.put(name, data)
+    place.put(b"wide.rle", WIDE)
     place.put(b"locked", PAIR_TEXT)
     os.chmod(place.path(b"locked"), 0)
     for name, fault, *said in ALONE:
@@ -563,7 +577,7 @@ def warning_rows(place):
 ODD_FILES = [(b"lost", RETURN), (b"squareless", SQUARES), (b"commented.mc", COMMENT), (b"dead.rle", CELLS), (b"cut.rle", CUT), (b"joined.rle", JOINED),
              (b"pair", None), (b"od\x1bd\n\\", SQUARES)]
 # The commands over one file, and over two, with what they answer and what is said, in its order.
-SINGLE = [["canon"], ["canon", "--form", "turned"], ["convert", "--to", "rle"], ["convert", "--to", "mc"], ["show"], ["show", "--period", "9"], ["step"],
+SINGLE = [["canon"], ["canon", "--form", "turned"], ["canon", "--form", "phases", "--within", "9"], ["convert", "--to", "rle"], ["convert", "--to", "mc"], ["show"], ["show", "--period", "9"], ["step"],
           ["step", "--generations", "3"]]
 DOUBLE = [
     (["same", "lost", "dead.rle"], Answer(0, b"same\n"), [(b"lost", RETURN), (b"dead.rle", CELLS)]),

@@ -150,6 +150,11 @@ def in_form(form, glider, states, many):
 
 
 FLIPPED, LATER = b"x = 3, y = 3\nbo$o$3o!\n", b"#CXRLE Gen=1\nx = 3, y = 3\nbo$2bo$3o!\n"
+# Two phases of a glider that aren't turns of each other, and of three cells in a row. Their one text is that of the phase above, and of a column, since $ is less
+# than *. And three cells in a column at each side of the plane: lying, they are too wide for it.
+NEXT, LINE_PHASES = b"#CXRLE Pos=-7,1000 Gen=77\nx = 3, y = 3\nobo$b2o$bo!\n", LIFE + b"$$$$....*$....*$....*$$\n"
+WIDE = b"#CXRLE Pos=-2305843009213693952,0\nx = 1, y = 3\no4611686018427387902bo$o4611686018427387902bo$o4611686018427387902bo!\n"
+PHASES, PHASES_OF = ["canon", "--form", "phases"], ["same", "--form", "phases"]
 FORMS = [
     *of_one(["canon", "--form", "moved"], [(EAST_GLIDER, MOVED_GLIDER), (GLIDER, MOVED_GLIDER)]),
     *of_one(["canon", "--form", "turned"], [(image, TURNED_GLIDER) for image in IMAGES]),
@@ -165,6 +170,18 @@ FORMS = [
     (["same", "--form", "turned"], [GLIDER, LATER], DIFFERENT),
     (["same", "--form", "turned"], [TWINS, GLIDER], DIFFERENT),
     (["same", "--form", "moved"], [MOST, MOST], SAME),
+    *of_one(PHASES, [*((it, TURNED_GLIDER) for it in (*IMAGES, NEXT, LATER, GLIDER, SOUTH_EAST)), (LINE, LINE_PHASES), (FILES["last.rle"], LINE_PHASES),
+                     (FILES["edge.rle"], LINE_PHASES), (BLANK, LIFE), (BLANK_WIRES, canonical(b"WireWorld")), (STATES, TURNED_STATES.replace(b"#G 7\n", b""))]),
+    *of_one([*PHASES, "--within", "3"], [(EAST_GLIDER, TURNED_GLIDER), (LATER, TURNED_GLIDER)]),
+    *of_one([*PHASES, "--within=18446744073709551615"], [(NEXT, TURNED_GLIDER), (FILES["last.rle"], LINE_PHASES)]),
+    *refusing(PHASES, [(NONE, b"line 1: NoHeader"), (WIDE, b"OutOfPlane")]),
+    *refusing(PHASES_OF, [([WIDE, LINE], b"OutOfPlane"), ([LINE, WIDE], b"OutOfPlane"), ([WIDE, BAD], b"line 2: StateRange")]),
+    (PHASES_OF, [NEXT, SOUTH_EAST], SAME),
+    ([*PHASES_OF, "--within", "4"], [NEXT, SOUTH_EAST], SAME),
+    ([*PHASES_OF, "--within", "3"], [NEXT, SOUTH_EAST], DIFFERENT),
+    (PHASES_OF, [GLIDER, LATER], SAME),
+    (PHASES_OF, [GLIDER, LINE], DIFFERENT),
+    (PHASES_OF, [WIRES, WIRES.replace(b"Gen=7", b"Gen=8")], SAME),
 ]
 
 # A line that is too long is said to be the table's where it is the table's.
