@@ -9,7 +9,8 @@ Of each random pattern file, about half of which are refused:
 - it is refused at the line and as the kind that `pattern_of` says, and where that says a pattern, it is read;
 - what `canon` and `convert` write of it is a file of the same pattern, and exactly the text that `IsTextOfPattern` or `IsRleOfPattern` allows, and `show`
   writes the five lines;
-- what `canon` writes of it in a form is exactly the text that `IsTextOfForm` allows, and `same` finds that text and the file the same in the form;
+- what `canon` writes of it in a form is exactly the text that `IsTextOfForm` allows, and `same` finds that text and the file the same in the form; in the
+  form `phases` a pattern may also be refused, as `LacksClaimedForm` says;
 - `same` tells whether it and another file are the same;
 - `step` writes a file of the next pattern, or names a reason why there is none, and so it does by a table, which is refused as `table_of` says.
 
@@ -30,7 +31,7 @@ sys.path.insert(0, os.path.dirname(os.path.dirname(os.path.abspath(__file__))))
 
 import compare  # noqa: E402
 from independent.fuzz import edge_files, random_files  # noqa: E402
-from independent.transcribed import canonical, counting, files, forms, generation, rle, rle_text, shown, table  # noqa: E402
+from independent.transcribed import canonical, counting, files, forms, generation, phases, rle, rle_text, shown, table  # noqa: E402
 from independent.transcribed.pattern import EDGE, is_coordinate  # noqa: E402
 from independent.transcribed.planes import Planes  # noqa: E402
 from independent.transcribed.rules import Counting, Named  # noqa: E402
@@ -43,6 +44,8 @@ MOST_STEPPED = 2**11
 LONGEST_READ = 2**16
 # The share of files whose text in a form is compared, beside those of wide patterns, and the most cells of a pattern of which eight images are made.
 SHARE_IN_FORM, MOST_TURNED = 0.3, 2**8
+# The greatest period that is sought.
+MOST_PERIOD = 6
 # The greatest level of a square whose canonical text is worked out as the definitions are written, too.
 MOST_LEVELS = 4
 # The cells of each pattern that are compared one by one: those of a window, and some others.
@@ -53,7 +56,7 @@ STEPPED = b"x = 3, y = 3, rule = Foo\nA.B$2A$B!\n"
 # A run of so many random cases has to be refused as each kind, and to have each answer.
 ENOUGH = 1600
 ANSWERS = ["read", "shown", "same", "different", "written as RLE", "stepped", "changed by a table", "no longer than a rival"]
-ANSWERS += ["canonical as written", "moved", "turned", "moved and wide", "turned and wide"]
+ANSWERS += ["canonical as written", "moved", "turned", "moved and wide", "turned and wide", "phases", "phases and wide", "several phases", "no phases"]
 ANSWERS += [f"stepped by {word.decode()} of {neighbours}" for neighbours in (4, 8) for word in table.symmetries_of(neighbours)]
 
 
@@ -159,6 +162,11 @@ def text_of_form(planes, read, form):
         return canonical_text(planes, read.pattern, drawn(planes, cells))
 
     return {"moved": forms.moved_text, "turned": forms.turned_text}[form](dict(planes.cells(read.root)), text_of)
+
+
+def text_of_phases(planes, read, found):
+    """The text of `IsTextOfForm` in the form `phases`, where these are the phases."""
+    return phases.phases_text(found, lambda cells: canonical_text(planes, read.pattern._replace(generation=0), drawn(planes, cells)))
 
 
 def text_as_written(planes, read):
@@ -411,9 +419,48 @@ class Judge:
         return box is not None and EDGE <= max(box[2] - box[0], box[3] - box[1])
 
     def in_forms(self):
-        """A wide pattern in both forms, and another one in one of them."""
-        for form in ["moved", "turned"] if self.is_wide() else [self.source.choice(["moved", "turned"])]:
-            self.in_form(form)
+        """A wide pattern in all forms, and another one in one of them."""
+        for form in ["moved", "turned", "phases"] if self.is_wide() else [self.source.choice(["moved", "turned", "phases"])]:
+            if form == "phases":
+                self.in_phases()
+            else:
+                self.in_form(form)
+
+    def phases_of(self, read, most):
+        """The phases of a file that is read; or None where it has none since it leaves the plane."""
+        return phases.phases(read.pattern.rule, most, dict(self.planes.cells(read.root)))
+
+    def in_phases(self):
+        """The text for all phases, and two comparisons of them, with a random greatest period."""
+        most = self.source.randint(1, MOST_PERIOD)
+        within, faults = ["--within", str(most), "--form", "phases"], {line_of(self.read.fault)} if self.read.fault else set()
+        if not faults and self.planes.population(self.read.root) > MOST_TURNED:
+            return
+        found = None if faults else self.phases_of(self.read, most)
+        if not faults and found is None:
+            self.answers["no phases"] += 1
+            faults = {"OutOfPlane\n"}
+        words = ["canon", self.name, *within]
+        text = self.taken(words, faults)
+        if text is None:
+            return
+        self.answers["phases and wide" if self.is_wide() else "phases"] += 1
+        self.answers["several phases"] += len(found) > 1
+        self.note(words, exact_problems(text_of_phases(self.planes, self.read, found), text.output))
+        self.same_in_phases(found, within, most, reading(self.planes, text.output), "written")
+        if self.other.fault is None and self.planes.population(self.other.root) <= MOST_TURNED:
+            self.same_in_phases(found, within, most, self.other, "other")
+
+    def same_in_phases(self, found, within, most, other, name):
+        """Compares the file, whose phases these are, with another one, whatever their generations are."""
+        self.judged.put(name, other.data)
+        words = ["same", self.name, name, *within]
+        got = self.accepted(words, {"OutOfPlane\n"} if self.phases_of(other, most) is None else set())
+        if got is not None:
+            is_same = self.read.pattern.rule == other.pattern.rule and phases.is_phase(found, dict(self.planes.cells(other.root)))
+            wanted = (0, b"same\n") if is_same else (1, b"different\n")
+            if (got.status, got.output, got.fault) != (*wanted, ""):
+                self.note(words, [f"the definitions say {wanted[1]}, the program {got}"])
 
     def in_form(self, form):
         words = ["canon", self.name, "--form", form]

@@ -825,6 +825,46 @@ FEW_LINES = [
 ]
 
 
+# ---- phases
+
+
+def in_phases(name, text, least, words="canon input --form phases", **more):
+    """The text for all phases of a pattern that never repeats, or not within so many generations: that of its turned form, of which `least` is the beginning."""
+    return Case(f"phases of {name}", words, output=re.compile(rb"\A%s" % re.escape(least)), files={"input": text}, **{"start": 20, "seconds": 60, "each": 0,
+                "little": 200 * MEGABYTE, "times": 0, **more})
+
+
+def soup_of(seed, side, rule):
+    """A square of random cells in RLE."""
+    source = random.Random(seed)
+    rows = "$\n".join("".join(source.choice("bo") for _ in range(side)) for _ in range(side))
+    return f"x = {side}, y = {side}, rule = {rule}\n{rows}!\n".encode()
+
+
+GUN = b"x = 36, y = 9\n24bo$22bobo$12b2o6b2o12b2o$11bo3bo4b2o12b2o$2o8bo5bo3b2o$2o8bo3bob2o4bobo$10bo5bo7bo$11bo3bo$12b2o!\n"
+# Three cells in a column at each side of the plane: lying, they are too wide for it.
+WIDE_COLUMNS = b"#CXRLE Pos=-2305843009213693952,0\nx = 1, y = 3\n" + b"$".join([b"o4611686018427387902bo"] * 3) + b"!\n"
+# Two cells that become ever more.
+SEEDS = b"x = 2, y = 1, rule = B2/S\n2o!\n"
+SOUP, GROWING_SOUP, WIDE_SOUP = soup_of(1, 64, "B3/S23"), soup_of(2, 64, "B34/S34"), soup_of(3, 700, "B3/S23")
+PHASES = [
+    in_phases("a gun", GUN, LIFE),
+    in_phases("a methuselah", b"x = 7, y = 3\nbo$3bo$2o2b3o!\n", LIFE),
+    in_phases("a soup of 64 x 64 cells", SOUP, LIFE),
+    in_phases("a soup that grows", GROWING_SOUP, canonical(b"B34/S34")),
+    in_phases("two cells of Seeds", SEEDS, canonical(b"B2/S")),
+    in_phases("a soup of 700 x 700 cells, up to 8", WIDE_SOUP, LIFE, "canon input --form phases --within 8"),
+    in_phases("2^11 single cells anywhere, up to 2^63, which die", rle_of(loners), LIFE, "canon input --form phases --within 9223372036854775808", times=500),
+    in_phases("a soup beside itself", SOUP, b"same\n", "same input input --form phases"),
+    in_phases("a line of 2^20 cells", [HEADER, b"1048576o!\n"], LIFE),
+    Case("phases of a pattern that leaves the plane", "canon input --form phases", 2, "OutOfPlane", files={"input": WIDE_COLUMNS}),
+    Case("phases of a blinker, up to 2^64 - 1", "canon input --form phases --within 18446744073709551615", output=LIFE + b"$$$$....*$....*$....*$$\n",
+         files={"input": b"x = 3, y = 1\n3o!\n"}),
+    Case("phases of a soup that grows, in 200 MB", "canon input --form phases --within 1099511627776", 4, "Memory", files={"input": GROWING_SOUP}, seconds=120, start=60,
+         by='ulimit -v 200000; exec "$@"', little=220 * MEGABYTE),
+]
+
+
 # ---- forms of many squares
 
 
@@ -1362,7 +1402,7 @@ TABLES = [
 
 CASES = [
     *FIRST_CASES, *LONG_LINES, *MANY_LINES, *RLE, *DEEP_SQUARES, *DEVICES, *JOBS, *STEPS, *SINKS, *SOURCES, *LONG_TEXTS, *CHANGES, *MISUSED, *DASHES, *ASKED,
-    *LISTS, *LARGE_RLE, *FEW_LINES, *FORMS, *CHOSEN_KEYS, *TABLES, *LONGEST_INPUTS,
+    *LISTS, *LARGE_RLE, *FEW_LINES, *PHASES, *FORMS, *CHOSEN_KEYS, *TABLES, *LONGEST_INPUTS,
 ]
 
 

@@ -289,12 +289,12 @@ WORKED = [
     ("turned", b"pair.mc", LIFE + b"*$$$$$$$$\n4 1 0 1 0\n5 0 0 0 2\n"),
     ("placed", b"blank", LIFE),
     ("turned", b"blank", LIFE),
-    ("phases", b"blank", LIFE),
-    ("phases", b"glider", LIFE + b"$$$$....*$....*.*$....**$$\n"),
-    ("phases", b"turned", LIFE + b"$$$$....*$....*.*$....**$$\n"),
     ("placed", b"named.rle", canonical(b"Life") + b"1 0 0 0 1\n"),
     ("placed", b"glider", GLIDER),
     ("moved", b"shifted", GLIDER),
+    ("phases", b"blank", LIFE),
+    ("phases", b"glider", LIFE + b"$$$$....*$....*.*$....**$$\n"),
+    ("phases", b"turned", LIFE + b"$$$$....*$....*.*$....**$$\n"),
 ]
 # What a fault is told as, also worked out by hand.
 REFUSED = [
