@@ -65,8 +65,8 @@ if command -v bash > /dev/null; then
     # bash takes `=` for a word of its own, unless COMP_WORDBREAKS is set to something else.
     same_words "bash completes formats behind =" "$(completed golly_canon convert --to =; completed golly_canon convert --to = r)" "rle mc"
     same_words "bash completes formats in one word" "$(completed golly_canon convert --to=)" "--to=rle --to=mc"
-    same_words "bash completes forms" "$(completed golly_canon canon --form ''; completed golly_canon same --form = t)" "placed moved turned turned"
-    same_words "bash completes forms of keys" "$(completed golly_canon keys a b --form '')" "placed moved turned"
+    same_words "bash completes forms" "$(completed golly_canon canon --form ''; completed golly_canon same --form = t)" "placed moved turned phases turned"
+    same_words "bash completes forms of keys" "$(completed golly_canon keys a b --form '')" "placed moved turned phases"
     same_words "bash completes a list behind =" "$(completed golly_canon keys --from = examples/Wire)" "examples/WireWorld.rule"
     same_words "bash completes further files" "$(completed golly_canon keys a examples/wi)" "examples/wire.rle"
     mkdir "$folder/dashes" && touch "$folder/dashes/-x.mc" "$folder/dashes/-other.mc" "$folder/dashes/plain.mc"
@@ -102,19 +102,19 @@ for shell in zsh fish; do
     done
 done
 # In zsh a `=` behind the name of an option lets its value stand behind a `=` too; fish always does.
-for option in form to table generations period from; do
+for option in form within to table generations period from; do
     verdict "zsh takes --$option=" "$(grep -q -e "'--$option=\[" completions/_golly_canon || echo " it doesn't")"
 done
 for file in completions/_golly_canon completions/golly_canon.fish; do
     verdict "$file has the formats" "$(grep -q 'rle mc' $file || echo " no 'rle mc'")"
-    verdict "$file has the forms" "$(grep -q 'placed moved turned' $file || echo " no 'placed moved turned'")"
+    verdict "$file has the forms" "$(grep -q 'placed moved turned phases' $file || echo " no 'placed moved turned phases'")"
 done
 
 # The formats and the forms are those that the program takes.
 for format in rle mc; do
     verdict "convert writes $format" "$(printf '[M2]\n' | "$program" convert - --to $format > /dev/null 2>&1 || echo " it doesn't")"
 done
-for form in placed moved turned; do
+for form in placed moved turned phases; do
     for command in canon keys; do
         verdict "$command takes $form" "$(printf '[M2]\n' | "$program" $command - --form $form > /dev/null 2>&1 || echo " it doesn't")"
     done
