@@ -156,6 +156,20 @@ patterns/shifted.rle"
     equal "standard error" "$(sort "$folder/err")" "$refused"
     verdict "duplicates of a folder, in $shell" "$problems"
 
+    # All phases of the glider are one pattern, also the one of another generation.
+    printf '#CXRLE Pos=-3,-2\nx = 3, y = 3\nobo$b2o$bo!\n' > patterns/phase.rle
+    recipe phases 2
+    wrote "patterns/a folder/\$(other) 'name'.mc
+patterns/a folder/of two\\nlines.rle
+patterns/glider.mc
+patterns/glider.rle
+patterns/later.mc
+patterns/phase.rle
+patterns/shifted.rle"
+    equal "standard error" "$(sort "$folder/err")" "$refused"
+    rm patterns/phase.rle
+    verdict "all phases in a folder, in $shell" "$problems"
+
     # The first file of the group stays, and another file of one of the names that go is there already.
     mkdir sorted sorted/aside && cp -r patterns sorted && echo "kept" > sorted/aside/glider.mc && cd sorted || exit 1
     recipe aside

@@ -224,9 +224,9 @@ MERGING = [
     ("four cells in a row that become a beehive", "B3/S23", "4o!", "b2o$o2bo$b2o!", 2),
     ("an r-pentomino and its next generation", "B3/S23", "b2o$2o$bo!", "2o$o$3o!", 1),
     ("a cell that dies", "B3/S23", "o!", "!", 1),
-    ("five cells in a row that become four blinkers", "B3/S23", "5o!", "4b3o3$o7bo$o7bo$o7bo3$4b3o!", 6),
+    ("five cells in a row that become four blinkers", "B3/S23", "5o!", "2b3o2$o5bo$o5bo$o5bo2$2b3o!", 6),
     ("a blinker and a cell that dies beside it", "B3/S23", "3o5bo!", "o$o$o!", 1),
-    ("a domino of Seeds, and what becomes of it", "B2/S", "2o!", "2o3$2o!", 1),
+    ("a domino of Seeds, and what becomes of it", "B2/S", "2o!", "2o2$2o!", 1),
 ]
 # Patterns that aren't their own mirror images, in any phase or in this one.
 CHIRAL = [
