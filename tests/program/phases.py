@@ -4,10 +4,11 @@
 usage: tests/program/phases.py PROGRAM [--folder FOLDER] [--cases N] [--seed SEED]
 
 FOLDER has Golly's Patterns; where none is named, it is share/golly beside the folder of bgolly. The rows are: still lifes, oscillators and spaceships that
-everybody knows, in all their phases, in each of the eight ways in which they can lie, at random places, with the greatest period that is sought at their period
-and one below; the oscillators and spaceships in Golly's collections of them, in the same way; patterns that become the same later, which are different ones; mirror
-images; N random patterns, whose texts are compared with those of the reader; a folder of Golly's small patterns with altered copies of them, and its groups;
-rules that are names, and rules that are refused; the edge of the plane; comparisons; streams; and generations. The last line counts the checks."""
+everybody knows, in all their phases, in each of the eight ways in which they can lie, at random places, with the greatest period that is sought at their
+period and one below; the oscillators and spaceships in Golly's collections of them, in the same way; patterns that become the same later, which are
+different ones; mirror images; N random patterns, whose texts are compared with those of the reader; a folder of Golly's small patterns with altered copies of
+them, and its groups; rules that are names, and rules that are refused; the edge of the plane; comparisons; streams; and generations. The last line counts
+the checks."""
 
 import argparse
 import collections
@@ -42,7 +43,7 @@ COLLECTIONS = {
     "honey-farm-hasslers.rle": 2, "low-period.rle": 2, "orthogonal.rle": 2, "period-52-glider-gun.rle": 2, "short-thin.rle": 2,
     "smallest-low-period.rle": 2, "spaceship-types.rle": 2, "unique-high-period.rle": 2, "corderships.rle": 24, "queen-bee-turn.rle": None,
 }
-# The least number of oscillators and spaceships of these files, the most cells of one that isn't a file, and of how many phases each is taken in all eight ways.
+# The least number of oscillators and spaceships of these files, the most cells of one that isn't a file, and how many phases of each are taken in all ways.
 OBJECTS, MOST_OF_OBJECT, ALL_WAYS = 200, 400, 12
 # Of how many cells in all its phases a pattern may be whose text the reader makes too.
 MOST_READ = 1500
@@ -170,7 +171,10 @@ def groups_of(cells, reach):
         found = set(todo)
         while todo:
             x, y = todo.pop()
-            near = {(x + a, y + b) for a, b in around} & left if len(around) < len(left) else {it for it in left if max(abs(it[0] - x), abs(it[1] - y)) <= reach}
+            if len(around) < len(left):
+                near = {(x + a, y + b) for a, b in around} & left
+            else:
+                near = {it for it in left if max(abs(it[0] - x), abs(it[1] - y)) <= reach}
             left -= near
             found |= near
             todo.extend(near)
@@ -211,7 +215,7 @@ def of_golly(path, patterns, pool, seed):
         lengths[period] += 1
         keys.setdefault(kind, set()).add(key)
     shown = ", ".join(f"{count} of {period}" for period, count in sorted(lengths.items()))
-    counting.row(f"{len(objects)} oscillators and spaceships in Golly's collections, by their periods: {shown}", [] if len(objects) >= OBJECTS else ["too few"])
+    counting.row(f"{len(objects)} oscillators and spaceships of Golly, by their periods: {shown}", [] if len(objects) >= OBJECTS else ["too few"])
     different = len(set().union(*keys.values()))
     counting.row(f"{len(keys)} of them are different, and so are their keys", [] if different == len(keys) else [f"{different} keys"])
 
@@ -252,7 +256,8 @@ def of_pairs(program, seed):
         mirrored = {(-x, y) for x, y in cells}
         files = [placed(source, it, rule, source.choice(WAYS)) for it in (cells, mirrored)]
         keys = program.keys(files)
-        counting.row(f"{name} and its mirror image: one pattern", [] if len(keys) == 2 and keys[0] == keys[1] == key_of(read_text(files[0])) else [repr(keys)])
+        is_right = len(keys) == 2 and keys[0] == keys[1] == key_of(read_text(files[0]))
+        counting.row(f"{name} and its mirror image: one pattern", [] if is_right else [repr(keys)])
 
 
 # ---- random patterns
@@ -288,7 +293,8 @@ def at_random(path, pool, seed, cases):
         wrong += problems
         counting.check(not problems, "; ".join(problems))
     shown = ", ".join(f"{count} {kind}" for kind, count in sorted(counts.items()))
-    counting.row(f"{cases} random patterns, {runs} texts: {shown}", wrong[:1] + ([] if len(counts) == 4 and min(counts.values()) > cases // 40 else ["too few of a kind"]))
+    is_mixed = len(counts) == 4 and min(counts.values()) > cases // 40
+    counting.row(f"{cases} random patterns, {runs} texts: {shown}", wrong[:1] + ([] if is_mixed else ["too few of a kind"]))
 
 
 # ---- a folder
@@ -336,7 +342,8 @@ def of_folder(program, patterns, pool, seed):
         groups.setdefault(key, []).append(f"folder/{name}\n")
     wanted = "\n".join("".join(group) for group in groups.values() if len(group) > 1).encode()
     found = program.run(["duplicates", "-r", "folder", *FORM])
-    problems = [] if (found.status, found.output) == (0, wanted) else [f"status {found.status}: {found.output[:300]!r} and not {wanted[:300]!r} {found.error[:300]!r}"]
+    right = (found.status, found.output) == (0, wanted)
+    problems = [] if right else [f"status {found.status}: {found.output[:300]!r} and not {wanted[:300]!r} {found.error[:300]!r}"]
     several, count = sum(len(it[1]) > 1 for _, _, it in small), sum(len(group) > 1 for group in groups.values())
     counting.row(f"{len(small)} of Golly's patterns, of which {several} have several phases, and {COPIES} altered copies: {count} groups", problems)
 
@@ -412,9 +419,10 @@ def at_edge(program, seed):
 
 def compared(program, seed):
     """`same`: patterns that are one but for phase, place and orientation, and others."""
-    pairs = [("two phases of a glider", GLIDER, NEXT_GLIDER, 4), ("two phases of a blinker", b"x = 3, y = 1\n3o!\n", b"#CXRLE Pos=5,5 Gen=9\nx = 1, y = 3\no$o$o!\n", 1),
+    block, blinker, later_blinker = b"x = 2, y = 2\n2o$2o!\n", b"x = 3, y = 1\n3o!\n", b"#CXRLE Pos=5,5 Gen=9\nx = 1, y = 3\no$o$o!\n"
+    pairs = [("two phases of a glider", GLIDER, NEXT_GLIDER, 4), ("two phases of a blinker", blinker, later_blinker, 1),
              ("a glider and its opposite", GLIDER, b"x = 3, y = 3\n3o$o$bo!\n", 1), ("two rules", GLIDER, b"x = 3, y = 3, rule = B36/S23\nbo$2bo$3o!\n", None),
-             ("a glider and a block", GLIDER, b"x = 2, y = 2\n2o$2o!\n", None), ("three cells and a block", b"x = 2, y = 2\n2o$o!\n", b"x = 2, y = 2\n2o$2o!\n", None),
+             ("a glider and a block", GLIDER, block, None), ("three cells and a block", b"x = 2, y = 2\n2o$o!\n", block, None),
              ("two patterns under a name", WIRES, OTHER_WIRES, 1), ("a pattern under a name and a glider", WIRES, GLIDER, None)]
     for name, one, other, least in pairs:
         for most in (1, 3, 4, None):
@@ -424,7 +432,8 @@ def compared(program, seed):
                 found = program.run(["same", "first", "-", *FORM, *within(most)], second)
                 reader = commands.same(commands.File(first), commands.File(second), "phases", most or MOST)
                 right = (0, b"same\n") if wanted else (1, b"different\n")
-                counting.row(f"same: {name}, up to {most}", [] if (found.status, found.output) == right == reader[:2] and not found.error else [f"{found} {reader}"])
+                is_right = (found.status, found.output) == right == reader[:2] and not found.error
+                counting.row(f"same: {name}, up to {most}", [] if is_right else [f"{found} {reader}"])
     source, wrong, counts = random.Random(f"same {seed}"), [], collections.Counter()
     for number in range(200):
         rule, cells = periods.random_pattern(source, number)
@@ -455,14 +464,15 @@ def of_streams(program):
     found = program.run(["keys", "--stream", "-", "--json", *FORM], b"\0".join(pieces))
     objects = [json.loads(line) for line in found.output.splitlines()]
     kinds = [re.sub(rb"^line \d+: ", b"", text).strip().decode() for text in said if not text.startswith(b"[M2]")]
-    right = [it["key"] for it in objects if "key" in it] == [line[:64].decode() for line in wanted.splitlines()] and [it["kind"] for it in objects if "kind" in it] == kinds
+    keys = [it["key"] for it in objects if "key" in it], [it["kind"] for it in objects if "kind" in it]
+    right = keys == ([line[:64].decode() for line in wanted.splitlines()], kinds)
     counting.row("the objects of a stream", [] if right and found.status == 2 else [repr(found)])
 
 
 def of_generations(program):
     """The generation of a file doesn't count, and the text has none."""
-    for name, file in (("a glider", GLIDER), ("a pattern without a period", b"x = 3, y = 3\nb2o$2o$bo!\n"), ("a name", b"x = 2, y = 1, rule = WireWorld\nAB!\n"),
-                       ("no cell", b"x = 0, y = 0\n!\n")):
+    for name, file in (("a glider", GLIDER), ("a pattern without a period", b"x = 3, y = 3\nb2o$2o$bo!\n"),
+                       ("a name", b"x = 2, y = 1, rule = WireWorld\nAB!\n"), ("no cell", b"x = 0, y = 0\n!\n")):
         texts = {program.text((b"#CXRLE Gen=%d\n" % generation if generation else b"") + file) for generation in (0, 1, 77, 2**64 - 1)}
         counting.row(f"one text in four generations: {name}", [] if texts == {read_text(file)} and b"#G" not in read_text(file) else [repr(texts)])
         text = texts.pop()
@@ -472,9 +482,9 @@ def of_generations(program):
 
 def words_of(program):
     """The arguments that are refused, with status 5, and nothing on standard output."""
-    for words, said in (([*FORM, "--within", "0"], "the value of --within is a number from 1 to 2^64 - 1"), ([*FORM, "--within", "x"], "the value of --within is"),
-                        ([*FORM, "--within", str(2**64)], "the value of --within is"), (["--within", "9"], "--within is for --form phases alone"),
-                        (["--form", "turned", "--within", "9"], "--within is for --form phases alone"),
+    no_number, not_alone = "the value of --within is a number from 1 to 2^64 - 1", "--within is for --form phases alone"
+    for words, said in (([*FORM, "--within", "0"], no_number), ([*FORM, "--within", "x"], no_number), ([*FORM, "--within", str(2**64)], no_number),
+                        (["--within", "9"], not_alone), (["--form", "turned", "--within", "9"], not_alone),
                         (["--form", "phase"], "the value of --form is placed, moved, turned or phases")):
         for command in (["canon", "glider.rle"], ["same", "glider.rle", "next.rle"], ["keys", "glider.rle"], ["keys", "--stream", "glider.rle"],
                         ["duplicates", "glider.rle"]):
