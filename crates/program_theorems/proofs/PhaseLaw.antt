@@ -114,7 +114,8 @@ module _ (most : ℕ) (p q : Pattern) (u v : Universe) (one : IsRule u.rule) (tw
       in_one_claimed_phase (turned_to (claimed_begun p) (claimed_begun q) (begun u) (begun v) (begun-says p u a one) (begun-says q v b two) s)
   course-to (in_two_phases life period h n s) =
       in_two_claimed_phases _ _ _ period (phases-to p u a one most life period h) n
-      (turned_to (phase_of p u a one life h.under n) (claimed_begun q) (phase life n u) (begun v) (phase-says p u a one life h.under n) (begun-says q v b two) s)
+      (turned_to (phase_of p u a one life h.under n) (claimed_begun q) (phase life n u) (begun v) (phase-says p u a one life h.under n)
+      (begun-says q v b two) s)
 
   -- the first pattern has this least period under a rule, and so many generations later a turn and a shift take it to the second
   abbrev Comes : Period → ℕ → ℕ → List ℕ → List ℕ → Type 0
