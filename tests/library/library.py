@@ -469,8 +469,6 @@ def check_forms():
         if name in WORKED:
             found = first_limit(in_form(library.golly_canon_canon_form, "turned"), file, formed(file, "turned"))
             check(found == WORKED[name][1].read, f"each limit: turned text of {name}: {found}")
-            found = first_limit(in_form(library.golly_canon_canon_form, "phases up to 0"), file, formed(file, "phases up to 0"))
-            check(found == WORKED[name][1].read, f"each limit: text of {name} where no period is sought: {found}")
 
 
 def same_in_form(first, second, form):
