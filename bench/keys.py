@@ -6,7 +6,8 @@ usage: bench/keys.py PROGRAM FOLDER [FILES]    (100,000 files, if no number is n
 
 The files are made in FOLDER where they are not there, the same bytes each time (bench/small_files.py says what is in them). Each way takes three
 turns, and the least time by the clock and the least processor time (user and system, of all its processes) count. All files are read once before, so
-that none comes from the disk. A process for each file is started for 2,000 of them, and its times are scaled. The keys of the program and of the
+that none comes from the disk. A process for each file is started for 2,000 of them, and its times are scaled. So are those of the form phases, which takes many
+times as long as the others. The keys of the program and of the
 module are compared. What is printed are the rows of a table in Markdown.
 """
 import os
@@ -98,15 +99,17 @@ def main(words):
     taken(["xargs", "-0", "cat"], folder, all_names)  # reads each file once
     print(f"| {count:,} small files | time | processor time | files in a second | processor time for a file |\n|---|---|---|---|---|")
     keys = {}
-    for form in ("placed", "moved", "turned", "phases"):
+    for form in ("placed", "moved", "turned"):
         keys[form] = row(f"`keys --form {form}`", [program, "keys", "--zero", "--form", form, "--from", "-"], folder, all_names, files=count)
-    row("`sha256sum` of the files' bytes, by `xargs`", ["xargs", "-0", "sha256sum", "--zero"], folder, all_names, files=count)
     few = min(count, FEW)
+    phases = [program, "keys", "--zero", "--form", "phases", "--from", "-"]
+    row(f"`keys --form phases` ({few:,} of them, scaled)", phases, folder, few_names, count / few, count)
+    row("`sha256sum` of the files' bytes, by `xargs`", ["xargs", "-0", "sha256sum", "--zero"], folder, all_names, files=count)
     row(f"a process for each file ({few:,} of them, scaled)", ["xargs", "-0", "-n", "1", program, "keys"], folder, few_names, count / few, count)
     library = os.path.join(TOP, "out", "library", "libgolly_canon.so")
     if os.path.exists(library):
         where = {**os.environ, "PYTHONPATH": os.path.join(TOP, "python"), "GOLLY_CANON_LIBRARY": library}
-        for form in ("placed", "turned", "phases"):
+        for form in ("placed", "turned"):
             found = row(f"the Python module, {form}", [sys.executable, "-c", MODULE, all_names, form], folder, all_names, files=count, env=where)
             if found != keys[form]:
                 sys.exit(f"the module comes to other keys ({form})")
