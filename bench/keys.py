@@ -4,11 +4,10 @@ module where out/library is built.
 
 usage: bench/keys.py PROGRAM FOLDER [FILES]    (100,000 files, if no number is named)
 
-The files are made in FOLDER where they are not there, the same bytes each time (bench/small_files.py says what is in them). Each way takes three
-turns, and the least time by the clock and the least processor time (user and system, of all its processes) count. All files are read once before, so
-that none comes from the disk. A process for each file is started for 2,000 of them, and its times are scaled. So are those of the form phases, which takes many
-times as long as the others. The keys of the program and of the
-module are compared. What is printed are the rows of a table in Markdown.
+The files are made in FOLDER where they are not there, the same bytes each time (bench/small_files.py says what is in them). Each way takes three turns,
+and the least time by the clock and the least processor time (user and system, of all its processes) count. All files are read once before, so that none
+comes from the disk. A process for each file is started for 2,000 of them, and its times are scaled. So are those of the form phases, which takes many
+times as long as the others. The keys of the program and of the module are compared. What is printed are the rows of a table in Markdown.
 """
 import os
 import random
