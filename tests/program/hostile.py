@@ -830,8 +830,8 @@ FEW_LINES = [
 
 def in_phases(name, text, least, words="canon input --form phases", **more):
     """The text for all phases of a pattern that never repeats, or not within so many generations: that of its turned form, of which `least` is the beginning."""
-    return Case(f"phases of {name}", words, output=re.compile(rb"\A%s" % re.escape(least)), files={"input": text}, **{"start": 20, "seconds": 60, "each": 0,
-                "little": 200 * MEGABYTE, "times": 0, **more})
+    return Case(f"phases of {name}", words, output=re.compile(rb"\A%s" % re.escape(least)), files={"input": text}, **{"start": 2, "seconds": 20, "each": 0,
+                "little": 30 * MEGABYTE, "times": 0, **more})
 
 
 def soup_of(seed, side, rule):
@@ -853,14 +853,16 @@ PHASES = [
     in_phases("a soup of 64 x 64 cells", SOUP, LIFE),
     in_phases("a soup that grows", GROWING_SOUP, canonical(b"B34/S34")),
     in_phases("two cells of Seeds", SEEDS, canonical(b"B2/S")),
+    in_phases("a soup of 700 x 700 cells", WIDE_SOUP, LIFE, seconds=60, start=15, little=250 * MEGABYTE),
     in_phases("a soup of 700 x 700 cells, up to 8", WIDE_SOUP, LIFE, "canon input --form phases --within 8"),
-    in_phases("2^11 single cells anywhere, up to 2^63, which die", rle_of(loners), LIFE, "canon input --form phases --within 9223372036854775808", times=500),
+    in_phases("2^11 single cells anywhere, up to 2^63, which die", rle_of(loners), LIFE, "canon input --form phases --within 9223372036854775808", start=5,
+              little=100 * MEGABYTE),
     in_phases("a soup beside itself", SOUP, b"same\n", "same input input --form phases"),
     in_phases("a line of 2^20 cells", [HEADER, b"1048576o!\n"], LIFE),
     Case("phases of a pattern that leaves the plane", "canon input --form phases", 2, "OutOfPlane", files={"input": WIDE_COLUMNS}),
     Case("phases of a blinker, up to 2^64 - 1", "canon input --form phases --within 18446744073709551615", output=LIFE + b"$$$$....*$....*$....*$$\n",
          files={"input": b"x = 3, y = 1\n3o!\n"}),
-    Case("phases of a soup that grows, in 200 MB", "canon input --form phases --within 1099511627776", 4, "Memory", files={"input": GROWING_SOUP}, seconds=120, start=60,
+    Case("phases of a soup that grows, in 200 MB", "canon input --form phases --within 1099511627776", 4, "Memory", files={"input": GROWING_SOUP}, seconds=60, start=20,
          by='ulimit -v 200000; exec "$@"', little=220 * MEGABYTE),
 ]
 
