@@ -47,8 +47,8 @@ COLLECTIONS = {
 OBJECTS, MOST_OF_OBJECT, ALL_WAYS = 200, 400, 12
 # Of how many cells in all its phases a pattern may be whose text the reader makes too.
 MOST_READ = 1500
-# The most cells of a pattern of the folder, and how many altered copies are beside these.
-MOST_OF_FOLDER, COPIES = 250, 500
+# The most cells of a pattern of the folder, how many oscillators and spaceships are in it at least, and how many altered copies are beside these.
+MOST_OF_FOLDER, SEVERAL, COPIES = 250, 60, 500
 PLACES = 1 << 60  # a random place has smaller coordinates
 
 
@@ -218,6 +218,7 @@ def of_golly(path, patterns, pool, seed):
     counting.row(f"{len(objects)} oscillators and spaceships of Golly, by their periods: {shown}", [] if len(objects) >= OBJECTS else ["too few"])
     different = len(set().union(*keys.values()))
     counting.row(f"{len(keys)} of them are different, and so are their keys", [] if different == len(keys) else [f"{different} keys"])
+    return objects
 
 
 # ---- pairs of patterns
@@ -300,6 +301,15 @@ def at_random(path, pool, seed, cases):
 # ---- a folder
 
 
+def small_object(given):
+    """The same of an oscillator or a spaceship, with its name and a file of it."""
+    name, rule, phases = given
+    data = file_of(phases[0], rule)
+    file = commands.File(data)
+    key = key_of(commands.canon(file, "phases").output)
+    return name, data, (file.pattern.rule, [[(x, y, 1) for x, y in sorted(it)] for it in phases], key)
+
+
 def small_pattern(data):
     """The rule, the cells with their states, and the phases of a small pattern, with its key by the reader; or nothing where it is refused or large."""
     file = commands.File(data)
@@ -326,10 +336,11 @@ def altered(source, program, small):
     return respelled(source, file) if source.random() < 0.7 else file
 
 
-def of_folder(program, patterns, pool, seed):
+def of_folder(program, patterns, objects, pool, seed):
     """Golly's small patterns, and altered copies of them: the groups of `duplicates` are those of the reader."""
     source, names = random.Random(f"folder {seed}"), {}
     small = [(name, data, it) for (name, _, data), it in zip(patterns, pool.map(small_pattern, [data for _, _, data in patterns], 4)) if it]
+    small += pool.map(small_object, [it for it in objects[::3] if sum(map(len, it[2])) <= MOST_READ], 4)
     os.mkdir(os.path.join(program.folder, "folder"))
     for number, (name, data, it) in enumerate(small):
         names[f"{number:03}-{name.removesuffix('.gz')}"] = data, it[2]
@@ -342,9 +353,9 @@ def of_folder(program, patterns, pool, seed):
         groups.setdefault(key, []).append(f"folder/{name}\n")
     wanted = "\n".join("".join(group) for group in groups.values() if len(group) > 1).encode()
     found = program.run(["duplicates", "-r", "folder", *FORM])
-    right = (found.status, found.output) == (0, wanted)
-    problems = [] if right else [f"status {found.status}: {found.output[:300]!r} and not {wanted[:300]!r} {found.error[:300]!r}"]
-    several, count = sum(len(it[1]) > 1 for _, _, it in small), sum(len(group) > 1 for group in groups.values())
+    right, several = (found.status, found.output) == (0, wanted), sum(len(it[1]) > 1 for _, _, it in small)
+    problems = [] if right and several >= SEVERAL else [f"status {found.status}: {found.output[:300]!r} and not {wanted[:300]!r} {found.error[:300]!r}"]
+    count = sum(len(group) > 1 for group in groups.values())
     counting.row(f"{len(small)} of Golly's patterns, of which {several} have several phases, and {COPIES} altered copies: {count} groups", problems)
 
 
@@ -518,9 +529,9 @@ def main():
         of_streams(program)
         of_generations(program)
         words_of(program)
-        of_golly(path, patterns, pool, given.seed)
+        objects = of_golly(path, patterns, pool, given.seed)
         at_random(path, pool, given.seed, given.cases)
-        of_folder(program, patterns, pool, given.seed)
+        of_folder(program, patterns, objects, pool, given.seed)
     return counting.ended()
 
 
