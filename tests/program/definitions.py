@@ -546,8 +546,13 @@ def random_case(seed, number):
 
 
 def edge_cases():
-    """The files of tests/independent/fuzz/edge_files.py, each with the one before it."""
+    """Wide patterns with phases, of which the first leaves the plane; and the files of tests/independent/fuzz/edge_files.py. Each has the one before it as the
+    other file."""
     other = b"x=1,y=1\no!"
+    for columns in (1 << 62, (1 << 62) - 2, (1 << 61) + 2, (1 << 61) + 9, (1 << 61) + 100):
+        data = b"#CXRLE Pos=-%d,0 Gen=%d\nx=1,y=1\n" % (columns // 2, columns % 7) + b"$".join([b"o%dbo" % (columns - 2)] * 3) + b"!"
+        yield compare.Case(f"two columns, {columns} columns wide", data, other)
+        other = data
     for number, data in enumerate(edge_files.pattern_files()):
         yield compare.Case(f"pattern file {number} at a limit", data, other)
         other = data
