@@ -19,8 +19,8 @@ sentence_of kinds.BadItem = codes "The data contain something that isn't a count
 sentence_of kinds.ZeroCount = codes "A count is 0."
 sentence_of kinds.StateRange = codes "A state is above 1 under a B/S rule, or above 255 in a macrocell file."
 sentence_of kinds.OutOfPlane =
-    codes "A position, a run or a row of RLE is outside the plane, which goes from -2^61 to 2^61 - 1. In a "
-    ++ codes "step, where no line is named, a cell outside the plane wouldn't stay 0."
+    codes "A position, a run or a row of RLE is outside the plane, which goes from -2^61 to 2^61 - 1. "
+    ++ codes "Where no line is named, a cell outside the plane wouldn't stay 0 in a later generation."
 sentence_of kinds.LateHeader =
     codes "A line #CXRLE comes between the header and the ! of RLE, or a line #R or #G after a square of a "
     ++ codes "macrocell file."

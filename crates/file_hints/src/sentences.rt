@@ -31,8 +31,8 @@ pub fn sentence(kind: Kind) -> &'static str
             "A state is above 1 under a B/S rule, or above 255 in a macrocell file."
         }
         Kind::OutOfPlane => concat!(
-            "A position, a run or a row of RLE is outside the plane, which goes from -2^61 to 2^61 - 1. In a ",
-            "step, where no line is named, a cell outside the plane wouldn't stay 0.",
+            "A position, a run or a row of RLE is outside the plane, which goes from -2^61 to 2^61 - 1. ",
+            "Where no line is named, a cell outside the plane wouldn't stay 0 in a later generation.",
         ),
         Kind::LateHeader => concat!(
             "A line #CXRLE comes between the header and the ! of RLE, or a line #R or #G after a square of a ",
