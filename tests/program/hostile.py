@@ -524,9 +524,9 @@ def longest(name, text, error, **more):
     return Case(name, "canon -", 2, error, source=Piped(text), times=0, **more)
 
 
-def endless(pipe):
+def endless():
     while True:
-        pipe.write(b"x\n" * 500_000)
+        yield b"x\n" * 500_000
 
 
 TOO_LONG = [(b"x" * LONGEST, 1024), b"x"]
@@ -537,7 +537,7 @@ LONGEST_INPUTS = [
     # A billion lines, by the 30 million a second.
     longest("2^30 + 1 line feeds", [(b"\n" * LONGEST, 1024), b"\n"], "InputTooLong", seconds=240),
     # An input without end is left when it is too long.
-    Case("an input without end", "canon -", 2, "InputTooLong", source=Piped([], endless)),
+    longest("an input without end", [endless], "InputTooLong"),
     # That the second input is too long is told before what is wrong with the first.
     Case("2^30 + 1 bytes that are shown", "show too_long", 2, "InputTooLong", files={"too_long": TOO_LONG}, times=2),
     Case("2^30 + 1 bytes behind a refused file", "same empty too_long", 2, "InputTooLong", files={"empty": b"", "too_long": TOO_LONG}, times=2),
