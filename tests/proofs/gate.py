@@ -95,6 +95,22 @@ sys.exit(gate.main(sys.argv[2:]))
 """
 LOSES_AN_EDIT = "edits_of = gate.Gate.edits_of; gate.Gate.edits_of = lambda self, crate: edits_of(self, crate)[1:]"
 LOSES_A_CRATE = "crates_of = gate.rt.crates_of; gate.rt.crates_of = lambda *given: crates_of(*given)[:1]"
+# Changes a comment of a crate when the crate has just been checked, before its edits are tried.
+CHANGES_A_FILE = """
+checked = gate.Gate.check_again
+
+def changed(self, crate, *given):
+    found = checked(self, crate, *given)
+    path = f"{crate.folder}/src/lib.rt"
+    if crate.name == "small":
+        with open(path, encoding="utf-8") as it:
+            text = it.read()
+        with open(path, "w", encoding="utf-8") as it:
+            it.write(text.replace("/// Ten.", "/// Ten, and no other number."))
+    return found
+
+gate.Gate.check_again = changed
+"""
 # An `rt` that has none of the parts that the gate calls.
 OTHER_RT = "#!/usr/bin/env python3\nimport sys\n\nif __name__ == '__main__':\n    print('this is rt', *sys.argv[1:])\n"
 REFUSES_ALL = """
@@ -166,6 +182,10 @@ def main():
             found = run(folder, GATE, "changed")
             row(f"{name} changed", found, 0, r"^small is proved over kept work, in ", r"^small: 5 of 5 edits refused in ", r"^\d+ passed, 0 failed$")
             counting.row(f"{name} changed: the crate above it", [] if ("hello is proved over kept work" in found[1]) == is_seen else [found[1][-900:]])
+        with open(changed, "w", encoding="utf-8") as it:
+            it.write(SMALL)
+        row("a file that changes after its proof", run(folder, "-c", BROKEN, CHANGES_A_FILE, "changed"), 0, r"^small: 5 of 5 edits refused in ", r"^\d+ passed, 0 failed$")
+        row("it is proved by the next run", run(folder, GATE, "changed"), 0, r"^small is proved over kept work, in ", r"^\d+ passed, 0 failed$")
         with open(changed, "w", encoding="utf-8") as it:
             it.write(f"{SMALL}\n#[cfg(test)]\nmod tests;\n")
         row("a file of tests is missing", run(folder, GATE, "changed"), 1, r"^FAILED  small isn't proved any more: ", r"^\d+ passed, [1-9]\d* failed$")
