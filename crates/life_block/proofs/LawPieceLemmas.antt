@@ -18,7 +18,7 @@ use Rattle.life_pieces.specs.declared.grid.Three.{Three}
 use Rattle.life_block.specs.Laws.{IsPieceBy, IsNextAt, IsAnswerBy, RemembersBy}
 use Rattle.life_block.specs.Needed.{HasClearEdge}
 use Rattle.life_pieces.specs.Pieces.{Nine, IsPiece, IsOfLevel, InThree, InNine, AreThree, AreNine, step_back, step_ahead, ids_of_nine}
-use Rattle.life_pieces.proofs.PieceLemmas.{IsAt-kept, zero-of_blank, twice}
+use Rattle.life_pieces.proofs.PieceLemmas.{IsAt-kept, zero-of_blank}
 use Rattle.life_pieces.proofs.RootLemmas.{cell-outside, corner, piece-of_root}
 use Rattle.life_block.proofs.RootLemmas.{outer}
 

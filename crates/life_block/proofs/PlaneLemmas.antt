@@ -15,7 +15,7 @@ use Rattle.life_block.specs.Needed.{HasClearEdge, SomeOfNext, of_plane, next_pla
 use Rattle.life_pieces.specs.Pieces.{square_from, step_ahead}
 use Rattle.life_block.proofs.GenerationLemmas.{on-plane}
 use Rattle.life_pieces.proofs.NeedLemmas.{depth-square, square-piece, full-square}
-use Rattle.life_pieces.proofs.RootLemmas.{cells-of_piece, corner}
+use Rattle.life_pieces.proofs.RootLemmas.{cells-of_piece}
 use Rattle.life_block.proofs.RootLemmas.{next-outside}
 use Rattle.life_base.proofs.Basics.{double}
 

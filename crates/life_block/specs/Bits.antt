@@ -1,5 +1,5 @@
 -- Cells as words of 64 bits.
-use Rattle.std.specs.Prelude.{ℕ, ◌-◌, ℤ}
+use Rattle.std.specs.Prelude.{ℕ, ℤ}
 use Rattle.life_pieces.specs.declared.grid.Four.{Four}
 use Rattle.life_pieces.specs.declared.grid.Three.{Three}
 use Rattle.life_base.specs.Tree.{Tree, quad}

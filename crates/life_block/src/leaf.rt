@@ -1,62 +1,12 @@
 //! The next states of squares of level 3 amid others, and of a square of level 2 or 3 alone, by words of their cells.
 ghost use Rattle.std.specs.Prelude.{◌≡◌, ◌+◌, ◌*◌, ℕ, ℤ, ◌<◌, ◌≤◌, IfOk, IfErr, OnErr};
-ghost use Rattle.life_block.specs.Words.{point, tree_cell, depth, SomePart, two, four, eight, next_life, next_square, HasRows, AreFourRows, leaf_of_cells, square_of_leaves, SomeOfSixteen, IsPiece, IsBinary, IsWhereBinary, IsOfLevel, InFour, InSixteen, AreFour, AreSixteen, AddsOnly, KeepsStore, IsShortageIn};
+ghost use Rattle.life_block.specs.Words.{tree_cell, depth, SomePart, next_life, next_square, HasRows, AreFourRows, leaf_of_cells, square_of_leaves, SomeOfSixteen, IsPiece, IsBinary, IsOfLevel, InFour, InSixteen, AreFour, AreSixteen, AddsOnly, KeepsStore, IsShortageIn};
 
 use crate::leaf_words::{next_leaves, next_of_eight, next_of_four};
 use life_base::{Kind, LifeRule};
 use life_lanes::by_rows;
-use life_pieces::{Four, Sixteen};
-use life_quad::{Id, Quarters, Squares, divide};
-
-// The state of a cell that is 0 or 1.
-fn one_cell<S: Squares>(squares: &S, id: Id) -> u16
-    requires { IsOfLevel (S.knows squares.now) (S.content squares.now) 0 id }
-    ensures small { result < 2 }
-    ensures square { IsWhereBinary (S.content squares.now id) (point result) }
-{
-    match squares.state(id) {
-        Some(state) => u16::from(state) % 2,
-        None => unreachable!(),
-    }
-}
-
-// The cells of a square of level 1, the north-western one the highest bit.
-fn two_by_two<S: Squares>(squares: &S, id: Id) -> u16
-    requires { IsOfLevel (S.knows squares.now) (S.content squares.now) 1 id }
-    ensures small { result < 16 }
-    ensures square { IsWhereBinary (S.content squares.now id) (two result) }
-{
-    let Quarters { nw, ne, sw, se } = divide(squares, id);
-    one_cell(squares, nw) * 8
-        + one_cell(squares, ne) * 4
-        + one_cell(squares, sw) * 2
-        + one_cell(squares, se)
-}
-
-// The cells of a square of level 2 without a short cut of the store. It is never inlined, so that the way by one stays short.
-#[inline(never)]
-fn four_by_four<S: Squares>(squares: &S, id: Id) -> u16
-    requires { IsOfLevel (S.knows squares.now) (S.content squares.now) 2 id }
-    ensures { IsWhereBinary (S.content squares.now id) (four result) }
-{
-    let Quarters { nw, ne, sw, se } = divide(squares, id);
-    two_by_two(squares, nw) * 4096
-        + two_by_two(squares, ne) * 256
-        + two_by_two(squares, sw) * 16
-        + two_by_two(squares, se)
-}
-
-// The cells of a square of level 2, as `Squares::small_cells` takes them.
-fn cells_in<S: Squares>(squares: &S, id: Id) -> u64
-    requires { IsOfLevel (S.knows squares.now) (S.content squares.now) 2 id }
-    ensures small { result < 65536 }
-    ensures square { IsWhereBinary (S.content squares.now id) (four result) }
-{
-    match squares.small_cells(id) {
-        Some(cells) => u64::from(cells),
-        None => u64::from(four_by_four(squares, id)),
-    }
-}
+use life_pieces::{Four, Sixteen, cells_of_leaf, cells_of_small};
+use life_quad::{Id, Squares};
 
 // The cells of four squares of level 2 as `Squares::leaf` takes them.
 fn leaf_number(cells: &Four<u16>) -> u64
@@ -100,38 +50,13 @@ fn square_of_leaves<S: Squares>(squares: &mut S, leaves: &Four<Four<u16>>) -> Re
     squares.join(nw, ne, sw, se)
 }
 
-// The cells of a square of level 3 without a short cut of the store. It is never inlined, so that the way by one stays short.
-#[inline(never)]
-fn eight_by_eight<S: Squares>(squares: &S, id: Id) -> u64
-    requires { IsOfLevel (S.knows squares.now) (S.content squares.now) 3 id }
-    ensures { IsWhereBinary (S.content squares.now id) (eight result) }
-{
-    let Quarters { nw, ne, sw, se } = divide(squares, id);
-    let a = cells_in(squares, nw);
-    let b = cells_in(squares, ne);
-    let c = cells_in(squares, sw);
-    let d = cells_in(squares, se);
-    ((a * 65_536 + b) * 65_536 + c) * 65_536 + d
-}
-
-// The cells of a square of level 3, as `Squares::leaf_cells` takes them.
-fn leaf_in<S: Squares>(squares: &S, id: Id) -> u64
-    requires { IsOfLevel (S.knows squares.now) (S.content squares.now) 3 id }
-    ensures { IsWhereBinary (S.content squares.now id) (eight result) }
-{
-    match squares.leaf_cells(id) {
-        Some(cells) => cells,
-        None => eight_by_eight(squares, id),
-    }
-}
-
 // The eight rows of cells of a square of level 3.
 fn rows_of<S: Squares>(squares: &S, id: Id) -> u64
     requires { IsOfLevel (S.knows squares.now) (S.content squares.now) 3 id }
     ensures { (cells : ℤ → ℤ → ℕ) (x y : ℤ) → IsBinary cells
         → IsPiece cells x y (S.content squares.now id) → HasRows cells x y result }
 {
-    by_rows(leaf_in(squares, id))
+    by_rows(cells_of_leaf(squares, id))
 }
 
 // The same of four squares.
@@ -199,9 +124,9 @@ pub(crate) fn next_of_small<S: Squares>(
         squares.new }
 {
     if squares.level(id) == 2 {
-        let cells = cells_in(squares, id);
+        let cells = cells_of_small(squares, id);
         return leaf_of_cells(squares, &next_of_four(cells, rule));
     }
-    let cells = leaf_in(squares, id);
+    let cells = cells_of_leaf(squares, id);
     square_of_leaves(squares, &next_of_eight(cells, rule))
 }

@@ -1,13 +1,13 @@
 //! Sixteen rows of sixteen cells as four words of 64 bits, and their next generations. Each word has four rows, and its highest bit is the north-western cell.
 ghost use Rattle.std.specs.Prelude.{◌≡◌, ℕ, ℤ, ◌+◌, ◌-◌, ◌*◌, ◌/◌, ◌%◌, ◌^◌, ◌<◌, ◌≤◌, IfOk, IfErr};
-ghost use Rattle.life_leap.specs.Words.{after, bit_at, four, eight, place_in, point, two, next_life, HasSquareBits, HasBandWithin, AreBandsWithin, AreFourSquares, IsMiddleAfter, InRow, IsBinary, IsOfLevel, IsPiece, IsWhereBinary, leap_length, quad, KeepsStore, IsShortageIn, step_ahead};
+ghost use Rattle.life_leap.specs.Words.{after, bit_at, eight, four, place_in, next_life, HasSquareBits, HasBandWithin, AreBandsWithin, AreFourSquares, IsMiddleAfter, InRow, IsBinary, IsOfLevel, IsPiece, leap_length, quad, KeepsStore, IsShortageIn, step_ahead};
 
 use crate::grid::{Row, sixteenths};
 use life_base::{Kind, LifeRule};
 use life_lanes::exchange;
 use life_next::{NineWords, next_word};
-use life_pieces::Three;
-use life_quad::{Id, Quarters, Squares, divide};
+use life_pieces::{Three, cells_of_small};
+use life_quad::{Id, Squares};
 
 /// Four rows of sixteen cells, from the cells of four squares of level 2 side by side. The squares are in the order of `Squares::small_cells`, and the western
 /// one has the highest sixteen bits.
@@ -40,56 +40,6 @@ pub(crate) struct Bands {
     pub(crate) fourth: u64,
 }
 
-/// The state of a square of level 0. Its only cell is 0 or 1, because the rule has two states.
-fn one_cell<S: Squares>(squares: &S, id: Id) -> u16
-    requires { IsOfLevel (S.knows squares.now) (S.content squares.now) 0 id }
-    ensures small { result < 2 }
-    ensures square { IsWhereBinary (S.content squares.now id) (point result) }
-{
-    match squares.state(id) {
-        Some(state) => u16::from(state) % 2,
-        None => unreachable!(),
-    }
-}
-
-/// The cells of a square of level 1. The north-western cell is the highest bit.
-fn two_by_two<S: Squares>(squares: &S, id: Id) -> u16
-    requires { IsOfLevel (S.knows squares.now) (S.content squares.now) 1 id }
-    ensures small { result < 16 }
-    ensures square { IsWhereBinary (S.content squares.now id) (two result) }
-{
-    let Quarters { nw, ne, sw, se } = divide(squares, id);
-    one_cell(squares, nw) * 8
-        + one_cell(squares, ne) * 4
-        + one_cell(squares, sw) * 2
-        + one_cell(squares, se)
-}
-
-/// The cells of a square of level 2, read one by one. It is never inlined, so that the usual path through `Squares::small_cells` stays short.
-#[inline(never)]
-fn four_by_four<S: Squares>(squares: &S, id: Id) -> u16
-    requires { IsOfLevel (S.knows squares.now) (S.content squares.now) 2 id }
-    ensures { IsWhereBinary (S.content squares.now id) (four result) }
-{
-    let Quarters { nw, ne, sw, se } = divide(squares, id);
-    two_by_two(squares, nw) * 4096
-        + two_by_two(squares, ne) * 256
-        + two_by_two(squares, sw) * 16
-        + two_by_two(squares, se)
-}
-
-/// The cells of a square of level 2, in the order of `Squares::small_cells`.
-fn cells_in<S: Squares>(squares: &S, id: Id) -> u64
-    requires { IsOfLevel (S.knows squares.now) (S.content squares.now) 2 id }
-    ensures small { result < 65536 }
-    ensures square { IsWhereBinary (S.content squares.now id) (four result) }
-{
-    match squares.small_cells(id) {
-        Some(cells) => u64::from(cells),
-        None => u64::from(four_by_four(squares, id)),
-    }
-}
-
 /// The four rows of sixteen cells of four squares of level 2 side by side.
 fn band_of<S: Squares>(squares: &S, row: &Row<Id>) -> u64
     requires { InRow (IsOfLevel (S.knows squares.now) (S.content squares.now) 2) row.now }
@@ -98,10 +48,10 @@ fn band_of<S: Squares>(squares: &S, row: &Row<Id>) -> u64
         → (r i : ℕ) → r < 4 → i < 16
         → bit_at result (63 - (16 * r + i)) ≡ cells (step_ahead x i) (step_ahead y r) }
 {
-    let a = cells_in(squares, row.first);
-    let b = cells_in(squares, row.second);
-    let c = cells_in(squares, row.third);
-    let d = cells_in(squares, row.fourth);
+    let a = cells_of_small(squares, row.first);
+    let b = cells_of_small(squares, row.second);
+    let c = cells_of_small(squares, row.third);
+    let d = cells_of_small(squares, row.fourth);
     rows_of_squares(((a * 65_536 + b) * 65_536 + c) * 65_536 + d)
 }
 

@@ -7,7 +7,8 @@
 //!
 //! 1. [`Three`] and [`Four`] are values side by side. A [`Nine`] is a square amid its eight neighbours, and a [`Sixteen`] four rows of four squares.
 //! 2. [`Three::quarters`] of a `Nine` returns the four quarters of the square in the middle, and the twelve around them.
-//! 3. `specs/Pieces.antt` says when a square is a piece of a plane (`IsPiece`), which square of a level begins at a place (`square_from`), and that squares
+//! 3. [`cells_of_leaf`] and [`cells_of_small`] return the cells of a square of level 3 or 2 as the bits of a word.
+//! 4. `specs/Pieces.antt` says when a square is a piece of a plane (`IsPiece`), which square of a level begins at a place (`square_from`), and that squares
 //!    side by side are pieces (`AreNine`, `AreSixteen`). `specs/Bits.antt` says the same of the bits of words.
 //!
 //! It doesn't know files, rules or next generations. It uses `life_quad`, `life_lanes` and `life_base`. Above it, `life_next` and `life_block` step cells
@@ -15,5 +16,7 @@
 #![tactic(auto)]
 
 mod grid;
+mod leaf;
 
 pub use grid::{Four, Nine, Sixteen, Three};
+pub use leaf::{cells_of_leaf, cells_of_small};

@@ -5,7 +5,7 @@ use Rattle.life_quad.proofs.KeepingLemmas.{keeps-then, adds-as}
 use Rattle.life_next.specs.Generation.{next_life}
 use Rattle.life_pieces.proofs.NeedLemmas.{adds-more, AreParts, is-piece, joined-is, parts-of_pieces, own-part, still-needs}
 use Rattle.life_block.specs.Needed.{SomeOfSixteen}
-use Rattle.life_pieces.specs.Pieces.{IsBinary, AreSixteen, western, eastern}
+use Rattle.life_pieces.specs.Pieces.{IsBinary, AreSixteen}
 use Rattle.life_block.proofs.NeedLemmas.{of_north_west, of_north_east, of_south_west, of_south_east, of_quarters}
 use Rattle.life_pieces.proofs.PieceLemmas.{AreSixteen-kept, first-of_four, last-of_four, western-nine, eastern-nine}
 use Rattle.life_block.proofs.BlankLemmas.{next-of_blank}

@@ -2,7 +2,7 @@ use Rattle.std.proofs.Common.{◌≡◌, ◌+◌, ◌-◌, ◌^◌, refl, sym, �
 use Rattle.std.proofs.lemmas.Result.{IfOk-weaker}
 use Rattle.life_quad.proofs.KeepingLemmas.{keeps-then}
 use Rattle.life_block.specs.Laws.{IsNextAt, IsPieceBy}
-use Rattle.life_pieces.specs.Pieces.{IsOfLevel, AreNine, step_ahead, western, eastern}
+use Rattle.life_pieces.specs.Pieces.{IsOfLevel, AreNine, step_ahead}
 use Rattle.life_block.proofs.LawPieceLemmas.{if-some, joined-pieces, next-of_blanks, piece-by, remembers-by, RemembersBy-kept, RemembersBy-more}
 use Rattle.life_pieces.proofs.PieceLemmas.{first-of_four, last-of_four, western-nine, eastern-nine}
 use Rattle.life_block.proofs.law_squares.+law.Goals as goal

@@ -15,7 +15,7 @@ four-next : (g : Over) (c : goal.After-leaf_of_cells g) → leaf_of_cells c.next
 four-next g c =
     let t = g.S.Squares.content c.args.squares.now c.args.id in
     let piece = piece-of_root t (g.met.S.Squares.full _ _ c.requires.known) (omega (arith, c.requires.high)) in
-    let is = c.cells_in-cells.ensures.square (tree_cell t) (corner t) (corner t) c.requires.states piece in
+    let is = c.cells_of_small-cells.ensures.square (tree_cell t) (corner t) (corner t) c.requires.states piece in
     c.next_of_four.ensures ∙ ap (next_square c.args.rule.now) (sym is)
 
 eight-next : (g : Over) (c : goal.After-square_of_leaves g) → square_of_leaves c.next_of_eight.result
@@ -23,7 +23,7 @@ eight-next : (g : Over) (c : goal.After-square_of_leaves g) → square_of_leaves
 eight-next g c =
     let t = g.S.Squares.content c.args.squares.now c.args.id in
     let piece = piece-of_root t (g.met.S.Squares.full _ _ c.requires.known) (omega (arith, c.requires.high)) in
-    let is = c.leaf_in-cells.ensures (tree_cell t) (corner t) (corner t) c.requires.states piece in
+    let is = c.cells_of_leaf-cells.ensures (tree_cell t) (corner t) (corner t) c.requires.states piece in
     c.next_of_eight.ensures ∙ ap (next_square c.args.rule.now) (sym is)
 
 pub returns-then-level-eq2-clause-square : goal.returns-then-level-eq2-clause-square

@@ -3,7 +3,6 @@ use Rattle.life_pieces.specs.Bits.{HasRows}
 use Rattle.life_block.specs.Bits.{square_of_leaves}
 use Rattle.life_pieces.proofs.NeedLemmas.{joined-is}
 use Rattle.life_pieces.proofs.PieceLemmas.{first-of_four, last-of_four, western-rows, eastern-rows}
-use Rattle.life_pieces.specs.Pieces.{western, eastern}
 use Rattle.life_block.proofs.leaf_words.next_leaves.Goals as goal
 
 pub returns : goal.returns
