@@ -20,8 +20,8 @@
 //!
 //! The westernmost cell of a row is the highest bit of its byte, so `..*` is 32. The last square is the root.
 //!
-//! It doesn't know the other format, and no stores: its squares are numbers of lines. It uses `life_base` alone. Above it is `life_canon`, which reads files of
-//! both formats and writes the canonical one.
+//! It doesn't know the other format, and no stores: its squares are numbers of lines. It uses `life_base` alone. Above it are
+//! `life_reader`, which reads files of both formats, and `life_writer`, which writes the canonical one.
 //!
 //! Read first: `specs/Grammar.antt` and `specs/Macrocell.antt` (the format), `src/line.rt`, and `src/lines.rt`.
 #![tactic(auto)]

@@ -22,8 +22,8 @@
 //!
 //! [`Plain`] is another store, which doesn't look for equal squares: there the last call returns a new Id.
 //!
-//! It doesn't know files, rules or generations. It uses `life_base` alone. Above it, `life_strip` fills a store row by row, and `life_canon` makes a pattern of
-//! a file in it.
+//! It doesn't know files, rules or generations. It uses `life_base` alone. Above it, `life_strip` fills a store row by row, `life_reader` makes a pattern of a
+//! file in it, and `life_writer` writes the text of one.
 //!
 //! Read first: `specs/Store.antt` (what a store promises), `src/squares.rt` (the trait), and `src/shared.rt`.
 #![tactic(auto)]

@@ -25,7 +25,7 @@
 //! bo$2bo$3o!
 //! ```
 //!
-//! It doesn't know the other format, and no stores. It uses `life_base` alone. Above it is `life_canon`, which reads files of both formats.
+//! It doesn't know the other format, and no stores. It uses `life_base` alone. Above it is `life_reader`, which reads files of both formats.
 //!
 //! Read first: `specs/PlainFile.antt` (the whole format on a page), `specs/Pattern.antt` (the cells of a file), and `src/lines.rt`.
 #![tactic(auto)]

@@ -3,3 +3,4 @@ pub mod PutLemmas
 pub mod RowWordLemmas
 mod AroundLemmas
 mod ThreeRowsLemmas
+mod NeededLemmas

@@ -1,3 +1,4 @@
+pub mod Needed
 pub mod RowCells
 pub mod Stepping
 pub mod Words

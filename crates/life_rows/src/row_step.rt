@@ -1,6 +1,6 @@
 //! The next generation of a pattern whose runs come row by row.
 ghost use Rattle.std.specs.Prelude.{◌≡◌, ℤ, ◌++◌, ◌^◌, ◌≤◌, [], IsTrue, IfSome};
-ghost use Rattle.life_rows.specs.Words.{depth, tree_cell, AreNext, IsStepping, KeepsStore, next_life, run_cells, state_by};
+ghost use Rattle.life_rows.specs.Words.{depth, tree_cell, AddsOnly, AreNext, IsStepping, KeepsStore, next_life, run_cells, SomeNextAbove, SomeNextOfRuns, state_by};
 
 use crate::three_rows::ThreeRows;
 use life_base::{LifeRule, MAX_LEVEL, Run};
@@ -38,11 +38,15 @@ impl RowStep {
     }
 
     /// Takes further runs, and says whether the step goes on. It stops at a state above 1, at more than 2^20 cells, at a cell near the edge of the plane, and
-    /// where the store is full or memory is refused. After that it is only to be dropped. The store keeps every square that it had.
+    /// where the store is full or memory is refused. After that it is only to be dropped. The store keeps every square that it had, and gets only squares of
+    /// the next generation.
     pub fn add_runs<S: Squares>(&mut self, squares: &mut S, runs: &[Run]) -> bool
         requires stepping { IsStepping (S.knows squares.old) (S.content squares.old) self.old }
         requires next { AreNext self.old.runs runs.now }
         ensures keeps { KeepsStore S.Squares squares.old squares.new }
+        ensures adds { AddsOnly S.stored
+            (λ P. SomeNextOfRuns P self.old.rule (self.old.runs ++ runs.now)) squares.old
+            squares.new }
         ensures stepping { IsTrue result
             → IsStepping (S.knows squares.new) (S.content squares.new) self.new }
         ensures rule { IsTrue result → self.new.rule ≡ self.old.rule }
@@ -56,10 +60,13 @@ impl RowStep {
         true
     }
 
-    /// The square of the whole plane with the cells of the next generation, unless the store is full or memory is refused.
+    /// The square of the whole plane with the cells of the next generation, unless the store is full or memory is refused. The store gets only parts of it.
     pub fn finish<S: Squares>(self, squares: &mut S) -> Option<Id>
         requires { IsStepping (S.knows squares.old) (S.content squares.old) self }
         ensures keeps { KeepsStore S.Squares squares.old squares.new }
+        ensures adds { AddsOnly S.stored
+            (λ P. SomeNextAbove P (2 ^ MAX_LEVEL) self.rule (state_by self.runs)) squares.old
+            squares.new }
         ensures known { IfSome result (S.knows squares.new) }
         ensures level { IfSome result (λ r. depth (S.content squares.new r) ≡ MAX_LEVEL) }
         ensures cells { IfSome result (λ r. (x y : ℤ) → tree_cell (S.content squares.new r) x y

@@ -1,6 +1,6 @@
 //! The last three rows of a pattern that comes row by row, and the rows of its next generation before them.
-ghost use Rattle.std.specs.Prelude.{◌≡◌, ℤ, ℕ, pos, [], ◌∷◌, ◌++◌, ◌==◌, ◌+◌, ◌-◌, ◌^◌, ◌<◌, ◌≤◌, ◌+ℤ◌, if◌then◌else◌, IsTrue, IfSome};
-ghost use Rattle.life_rows.specs.Words.{depth, tree_cell, AreInner, AreRowWords, cell_in_words, half_plane, IsBetweenRows, IsFilledAbove, IsNextRunStart, IsRunOnPlane, IsThreeRows, KeepsStore, next_life, run_cells, state_by, state_so_far};
+ghost use Rattle.std.specs.Prelude.{◌≡◌, ℤ, ℕ, pos, nat_abs, [], ◌∷◌, ◌++◌, ◌==◌, ◌+◌, ◌-◌, ◌^◌, ◌<◌, ◌≤◌, ◌+ℤ◌, if◌then◌else◌, IsTrue, IfSome};
+ghost use Rattle.life_rows.specs.Words.{depth, tree_cell, AddsOnly, AreInner, AreRowWords, cell_in_words, half_plane, IsBetweenRows, IsFilledAbove, IsNextRunStart, IsRunOnPlane, IsThreeRows, KeepsStore, next_life, run_cells, SomeNextAbove, SomeSquare, state_by, state_so_far};
 
 use crate::next_row::next_row;
 use crate::row_cells::push_cells;
@@ -55,6 +55,9 @@ fn give_row<S: Squares>(
     requires inside { row < 2 ^ MAX_LEVEL }
     requires words { AreRowWords words.now }
     ensures keeps { KeepsStore S.Squares squares.old squares.new }
+    ensures adds { AddsOnly S.stored
+        (λ P. SomeSquare P row (state_so_far (S.content squares.old) builder.old)) squares.old
+        squares.new }
     ensures filled { IsTrue result
         → IsFilledAbove (S.knows squares.new) (S.content squares.new) (row + 1) builder.new }
     ensures cells { IsTrue result → (i j : ℕ)
@@ -124,6 +127,8 @@ impl ThreeRows {
         requires rows { IsThreeRows (S.knows squares.old) (S.content squares.old) self.old }
         requires inside { self.old.north_row + 1 < 2 ^ MAX_LEVEL }
         ensures keeps { KeepsStore S.Squares squares.old squares.new }
+        ensures adds { AddsOnly S.stored (λ P. SomeNextAbove P (self.old.north_row + 1)
+            self.old.rule (state_by self.old.log.runs)) squares.old squares.new }
         ensures rows { IsTrue result
             → IsThreeRows (S.knows squares.new) (S.content squares.new) self.new }
         ensures row { IsTrue result → self.new.north_row ≡ self.old.north_row + 1 }
@@ -155,6 +160,8 @@ impl ThreeRows {
         requires rows { IsThreeRows (S.knows squares.old) (S.content squares.old) self.old }
         requires between { IsBetweenRows self.old }
         ensures keeps { KeepsStore S.Squares squares.old squares.new }
+        ensures adds { AddsOnly S.stored (λ P. SomeNextAbove P (row - 1) self.old.rule
+            (state_by self.old.log.runs)) squares.old squares.new }
         ensures rows { IsTrue result
             → IsThreeRows (S.knows squares.new) (S.content squares.new) self.new }
         ensures between { IsTrue result → IsBetweenRows self.new }
@@ -180,6 +187,8 @@ impl ThreeRows {
         requires rows { IsThreeRows (S.knows squares.old) (S.content squares.old) self.old }
         requires between { IsBetweenRows self.old }
         ensures keeps { KeepsStore S.Squares squares.old squares.new }
+        ensures adds { AddsOnly S.stored (λ P. SomeNextAbove P (row - 1) self.old.rule
+            (state_by self.old.log.runs)) squares.old squares.new }
         ensures rows { IsTrue result
             → IsThreeRows (S.knows squares.new) (S.content squares.new) self.new }
         ensures between { IsTrue result → IsBetweenRows self.new }
@@ -227,6 +236,9 @@ impl ThreeRows {
         requires inside { IsRunOnPlane run.x run.y run.len }
         requires next { IsNextRunStart self.old.log.runs run.x run.y }
         ensures keeps { KeepsStore S.Squares squares.old squares.new }
+        ensures adds { AddsOnly S.stored (λ P. SomeNextAbove P
+            (nat_abs (run.y +ℤ pos half_plane) - 1) self.old.rule (state_by self.old.log.runs))
+            squares.old squares.new }
         ensures rows { IsTrue result
             → IsThreeRows (S.knows squares.new) (S.content squares.new) self.new }
         ensures between { IsTrue result → IsBetweenRows self.new }
@@ -245,6 +257,9 @@ impl ThreeRows {
         requires rows { IsThreeRows (S.knows squares.old) (S.content squares.old) self }
         requires between { IsBetweenRows self }
         ensures keeps { KeepsStore S.Squares squares.old squares.new }
+        ensures adds { AddsOnly S.stored
+            (λ P. SomeNextAbove P (2 ^ MAX_LEVEL) self.rule (state_by self.log.runs)) squares.old
+            squares.new }
         ensures known { IfSome result (S.knows squares.new) }
         ensures level { IfSome result (λ r. depth (S.content squares.new r) ≡ MAX_LEVEL) }
         ensures cells { IfSome result (λ r. (x y : ℤ) → tree_cell (S.content squares.new r) x y

@@ -9,7 +9,8 @@ use Rattle.life_table.specs.declared.table.Table.{Table}
 use Rattle.life_sweep.specs.Refused.{SomeNext, above_cell, of_plane}
 use Rattle.life_block.specs.Needed.{SomeOfNext}
 use Rattle.life_block.specs.Needed as block
-use Rattle.life_canon.proofs.SpaceCount.{Found, found-as, find-part, find-square, find-trimmed}
+use Rattle.life_pattern.proofs.Found.{Found, found-as, find-part, find-trimmed}
+use Rattle.life_reader.proofs.SpaceCount.{find-square}
 use Rattle.life_step.specs.Refusals.{SomeOfRoot, SomeOfLife, of_generation, of_root, SomeOfTable, of_next, of_next_root, SomeByRule, SomeByTable}
 
 find-next : (P : Tree → Type 0) (answers : List ℕ → Answer → Type 0) (cells : ℤ → ℤ → ℕ) → SomeNext P answers cells → Found P (λ Q. SomeNext Q answers cells)

@@ -15,10 +15,10 @@ use Rattle.life_table.specs.declared.table.Table.{Table}
 use Rattle.life_next.specs.Generation.{next_life}
 use Rattle.life_sweep.specs.Generation.{states_at, AnswersAt, TableAnswers, TableAnswersAt}
 use Rattle.life_block.specs.Needed.{level_after}
-use Rattle.life_canon.specs.Files.{Reads}
-use Rattle.life_canon.specs.Store.{content, IsRead}
-use Rattle.life_canon.specs.Universe.{Universe, least_level, whole}
-use Rattle.life_canon.specs.declared.pattern.Pattern.{Pattern}
+use Rattle.life_pattern.specs.Files.{Reads}
+use Rattle.life_pattern.specs.Store.{content, IsRead}
+use Rattle.life_pattern.specs.Universe.{Universe, least_level, whole}
+use Rattle.life_pattern.specs.declared.pattern.Pattern.{Pattern}
 use Rattle.life_step.specs.Refusals.{SomeByRule, SomeByTable, of_root, of_next_root}
 
 -- what follows from a full store in a call follows from it in a call that hands the fault on

@@ -19,8 +19,8 @@ use Rattle.life_sweep.specs.Generation.{states_at}
 use Rattle.life_sweep.specs.Refused.{IfElse, HasStateFrom, fault_on, GenerationRefusal}
 use Rattle.life_sweep.specs.Sweep as sweep_words
 use Rattle.life_sweep.specs.Sweep.{IsLeft}
-use Rattle.life_canon.specs.Texts.{AreCellsOf}
-use Rattle.life_canon.specs.Universe.{Universe, IsBlankOutside, corner}
+use Rattle.life_writer.specs.Texts.{AreCellsOf}
+use Rattle.life_pattern.specs.Universe.{Universe, IsBlankOutside, corner}
 use Rattle.life_step.specs.Refusals.{PatternHasMoreCells, IsOfPlane, LeavesByRule, SomeAmbiguousCell, IsFirstAmbiguousCell, LeavesPlane}
 
 pub if-else : {C D A B P Q : Type 0} → (C → D) → (D → C) → (A → P) → (B → Q) → IfElse C A B → IfElse D P Q

@@ -1,26 +1,32 @@
 -- What a step row by row leaves is the next generation of the pattern of its file.
-use Rattle.std.proofs.Common.{◌≡◌, ◌≢◌, ℕ, ◌+◌, ◌-◌, ◌^◌, ◌<◌, ◌≤◌, inr, ℤ, List, Option, Some, None, Result, Ok, Err, IfOk, IfSome, refl, sym, ◌∙◌, ap, subst, arith}
+use Rattle.std.proofs.Common.{◌≡◌, ◌≢◌, ℕ, ◌+◌, ◌-◌, ◌^◌, ◌<◌, ◌≤◌, inr, ℤ, pos, ◌-ℤ◌, List, [], ◌∷◌, ◌++◌, append_assoc, Option, Some, None, Result, Ok, Err, IfOk, IfSome, OnOk, refl, sym, ◌∙◌, ap, subst, arith}
 use Rattle.std.specs.Result.{result_ok}
+use Rattle.std.proofs.lemmas.List.{map-append}
 use Rattle.life_base.specs.Sets.{OuterTotalistic}
-use Rattle.life_base.specs.Text.{lines_of}
+use Rattle.life_base.specs.Text.{lines_of, numbered_from}
 use Rattle.life_base.specs.Tree.{Tree, depth, tree_cell}
 use Rattle.life_base.specs.declared.cell.Run.{Run}
 use Rattle.life_base.specs.declared.cell.TheConstants.{MAX_LEVEL}
 use Rattle.life_base.specs.declared.rule.Rule.{Rule}
 use Rattle.life_base.specs.declared.rule.Rule.TheVariants.{Life}
+use Rattle.life_base.proofs.NumberedLines.{lines_around, numbered_texts, texts}
+use Rattle.life_quad.specs.Refused.{TrimmedTo}
 use Rattle.life_quad.specs.Store.{Nodes}
 use Rattle.life_quad.specs.declared.id.Id.{Id}
+use Rattle.life_quad.proofs.LawLemmas.{known_squares_are_full}
 use Rattle.life_rle.specs.File.{HasRuns}
 use Rattle.life_rle.specs.Grammar.{IsRle}
 use Rattle.life_rle.specs.Pattern.{Rle}
+use Rattle.life_rows.specs.Needed.{SomeNextAbove}
 use Rattle.life_rows.specs.Stepping.{run_cells}
-use Rattle.life_strip.specs.Given.{state_by}
+use Rattle.life_strip.specs.Given.{by_columns, half_plane, state_by}
+use Rattle.life_strip.proofs.NeededLemmas.{SomeSquare-within}
 use Rattle.life_next.specs.Generation.{next_life}
-use Rattle.life_canon.specs.Files.{Says, as_rle}
-use Rattle.life_canon.specs.Store.{IsKnown, content}
-use Rattle.life_canon.specs.Universe.{Universe, IsSame, rle_universe, square_universe}
-use Rattle.life_canon.proofs.PatternFacts.{file-cells}
-use Rattle.life_step.specs.ByRows.{IsNextOfFile}
+use Rattle.life_pattern.specs.Files.{Says, as_rle}
+use Rattle.life_pattern.specs.Store.{IsKnown, content}
+use Rattle.life_pattern.specs.Universe.{Universe, IsSame, least_level, rle_universe, square_universe}
+use Rattle.life_reader.proofs.PatternFacts.{file-cells}
+use Rattle.life_step.specs.ByRows.{HasHeaderRule, IsNextOfFile, SomeByRows, SomeNextOfLines, of_first_lines, of_next_plane, of_trimmed_plane}
 use Rattle.life_step.specs.Refusals.{LeavesByRule, LifeRefusal, PatternHasMoreCells, RuleRefusal}
 use Rattle.life_step.specs.Stepped.{IsStepped, IsTextWith}
 use Rattle.life_step.proofs.RefusalFacts.{blank-outside}
@@ -35,6 +41,13 @@ ok-of-some P x (Ok y) e h = subst P (by e) h
     by : Some x ≡ Some y → y ≡ x
     by e = cc
 ok-of-some P x (Err fault) e h = absurd (by e)
+  where
+    by : Some x ≡ None → ⊥
+    by e = cc
+
+pub on-some : {T E : Type 0} (P : Type 0) (x : T) (r : Result T E) → Some x ≡ result_ok r → OnOk r P → P
+on-some P x (Ok y) e h = h
+on-some P x (Err fault) e h = absurd (by e)
   where
     by : Some x ≡ None → ⊥
     by e = cc
@@ -88,3 +101,55 @@ stepped-by-rows bytes rule store generation after square text next later small h
       refusal,
       life-stepped rule u (Life rule) after t text next.rule_is (sym next.rule_is) (later ∙ ap (λ n. n + 1) (sym at)) next.cells h,
     )
+
+-- ---- which squares are stored
+
+-- the first lines of a file that are a file themselves
+pub header-of : (bytes : List ℕ) (read : List (List ℕ)) (before rest : List (ℕ × List ℕ)) (file : Rle) (rule : Rule) → read ≡ texts before
+    → before ++ rest ≡ numbered_from 1 (lines_of bytes) → IsRle MAX_LEVEL read file → rule ≡ file.rule → HasHeaderRule bytes rule
+header-of bytes read before rest file rule consumed all is same =
+    record {
+      lines = read;
+      after = texts rest;
+      whole = sym (numbered_texts (lines_of bytes) 1) ∙ ap texts (sym all) ∙ map-append (λ (p : ℕ × List ℕ). p.1) before rest
+          ∙ ap (λ (t : List (List ℕ)). t ++ texts rest) (sym consumed);
+      file = file;
+      is = is;
+      rule_is = sym same;
+    }
+
+-- a square of the next generation of the runs up to a line
+pub line-by_rows : (bytes : List ℕ) (old : List (List ℕ)) (before : List (ℕ × List ℕ)) (k : ℕ) (line : List ℕ) (rest : List (ℕ × List ℕ))
+    (rule other : OuterTotalistic) → old ≡ texts before → before ++ (k, line) ∷ rest ≡ numbered_from 1 (lines_of bytes) → other ≡ rule
+    → (P : Tree → Type 0) → SomeNextOfLines P other (old ++ line ∷ []) → SomeByRows P rule bytes
+line-by_rows bytes old before k line rest rule other consumed all e P s =
+    let whole : lines_of bytes ≡ (old ++ line ∷ []) ++ texts rest =
+    sym (lines_around (lines_of bytes) before k line rest all) ∙ ap (λ (t : List (List ℕ)). t ++ line ∷ texts rest) (sym consumed)
+    ∙ sym (append_assoc old (line ∷ []) (texts rest)) in
+    of_first_lines (old ++ line ∷ []) (texts rest) whole (subst (λ (r : OuterTotalistic). SomeNextOfLines P r (old ++ line ∷ [])) e s)
+
+-- a square of the next generation of all runs of a file
+pub plane-by_rows : (bytes : List ℕ) (lines : List (List ℕ)) (file : Rle) (runs : List Run) (rule other : OuterTotalistic) → lines ≡ lines_of bytes
+    → IsRle MAX_LEVEL lines file → HasRuns MAX_LEVEL lines runs → file.rule ≡ Life rule → other ≡ rule → (P : Tree → Type 0)
+    → SomeNextAbove P (2 ^ MAX_LEVEL) other (state_by runs) → SomeByRows P rule bytes
+plane-by_rows bytes lines file runs rule other all is are same e P s =
+    let u : Universe = rle_universe file in
+    let states : (x y : ℤ) → state_by runs x y ≡ u.cell x y = file-cells lines runs file are is in
+    of_next_plane u (subst (λ (ls : List (List ℕ)). Says MAX_LEVEL ls u) all (as_rle file is)) same
+    (SomeSquare-within (omega arith)
+    (λ i j li lj. (λ k. by_columns (next_life (e k) (state_by runs)) i j)
+    ∙ same-next rule (state_by runs) u.cell states (pos i -ℤ pos half_plane) (pos j -ℤ pos half_plane)) s)
+
+-- the square to which the plane of the next generation is trimmed
+pub trimmed-by_rows : (bytes : List ℕ) (life : OuterTotalistic) (store : Nodes) (generation : ℕ) (square : Id) (rule : Rule) → rule ≡ Life life
+    → IsNextOfFile bytes life store generation square → (P : Tree → Type 0) → TrimmedTo P (content store square) (least_level rule)
+    → SomeByRows P life bytes
+trimmed-by_rows bytes life store generation square rule is next P smaller =
+    of_trimmed_plane next.universe next.reads next.rule_is
+    (record {
+      square = content store square;
+      full = (known_squares_are_full store square next.known.0).0;
+      is = next.level;
+      cells = next.cells;
+      smaller = subst (λ (q : Rule). TrimmedTo P (content store square) (least_level q)) is smaller;
+    })

@@ -7,7 +7,7 @@ use Rattle.life_base.specs.declared.kind.Kind.TheVariants as kinds
 use Rattle.life_base.specs.declared.cell.TheConstants.{MAX_LEVEL}
 use Rattle.life_base.specs.declared.rule.Near.TheVariants.{Moore}
 use Rattle.life_base.specs.declared.rule.Rule.TheVariants.{Life, Named}
-use Rattle.life_canon.specs.Universe.{Universe, corner}
+use Rattle.life_pattern.specs.Universe.{Universe, corner}
 use Rattle.life_step.specs.Refusals.{LifeRefusal, IsOfPlane, LeavesByRule}
 use Rattle.life_step.specs.Stepped.{IsLifeStep}
 

@@ -24,13 +24,15 @@ use Rattle.life_table.specs.declared.table.Table.{Table}
 use Rattle.life_next.specs.Generation.{one_before, one_after, next_by_count, next_life}
 use Rattle.life_sweep.specs.Generation.{AnswersAt, LifeAnswersAt, TableAnswersAt, states_at, neighbours_among, LifeAnswers, TableAnswers}
 use Rattle.life_sweep.specs.Refused.{GenerationRefusal}
-use Rattle.life_canon.specs.Files.{Reads, Refuses, as_macrocell}
-use Rattle.life_canon.specs.Laws.{FilesAreOnPlane, PatternsFit, TextsAreFiles, TextsTellUniverses}
-use Rattle.life_canon.specs.Listing.{canonical_file, canon_text}
-use Rattle.life_canon.specs.Store.{IsKnown, content, IsRead, IsTrimmed, IsShortageOf, universe_in}
-use Rattle.life_canon.specs.Universe.{Universe, IsSame, IsOnPlane, least_level, square_universe, macrocell_universe}
-use Rattle.life_canon.specs.declared.pattern.Pattern.{Pattern}
-pub use Rattle.life_canon.proofs.Fits.{least-one, root-high}
+use Rattle.life_pattern.specs.Files.{Reads, Refuses, as_macrocell}
+use Rattle.life_pattern.specs.Laws.{FilesAreOnPlane, PatternsFit}
+use Rattle.life_writer.specs.Laws.{TextsAreFiles, TextsTellUniverses}
+use Rattle.life_writer.specs.Listing.{canonical_file, canon_text}
+use Rattle.life_pattern.specs.Store.{IsKnown, content, IsRead, IsTrimmed, IsShortageOf, universe_in}
+use Rattle.life_pattern.specs.Universe.{Universe, IsSame, IsOnPlane, least_level, square_universe, macrocell_universe}
+use Rattle.life_pattern.specs.declared.pattern.Pattern.{Pattern}
+pub use Rattle.life_pattern.proofs.Whole.{least-one}
+pub use Rattle.life_pattern.proofs.Fits.{root-high}
 use Rattle.life_step.specs.Refusals.{TableRefusal, LifeRefusal, RuleRefusal}
 use Rattle.life_step.specs.Stepped.{IsLifeStep, IsTableStep, IsTextWith}
 use Rattle.life_step.proofs.RefusalFacts.{refusal-at, life-refusal, blank-outside}

@@ -20,12 +20,13 @@ use Rattle.life_sweep.specs.Generation.{AnswersAt, TableAnswers}
 use Rattle.life_sweep.specs.Refused.{IfElse, HasStateFrom, fault_on, SomeNext}
 use Rattle.life_sweep.specs.Rows.{Precedes}
 use Rattle.life_block.specs.Needed.{SomeOfNext, level_after}
-use Rattle.life_canon.specs.Files.{Reads, Refuses}
-use Rattle.life_canon.specs.Needs.{IsNew, SomeOfFile}
-use Rattle.life_canon.specs.Store.{ForEachFile, IsShortageOf}
-use Rattle.life_canon.specs.declared.pattern.Pattern.{Pattern}
-use Rattle.life_canon.specs.Texts.{AreCellsOf}
-use Rattle.life_canon.specs.Universe.{Universe, IsWithin, least_level, whole}
+use Rattle.life_pattern.specs.Files.{Reads, Refuses}
+use Rattle.life_pattern.specs.Store.{IsNew}
+use Rattle.life_reader.specs.Needs.{SomeOfFile}
+use Rattle.life_pattern.specs.Store.{ForEachFile, IsShortageOf}
+use Rattle.life_pattern.specs.declared.pattern.Pattern.{Pattern}
+use Rattle.life_writer.specs.Texts.{AreCellsOf}
+use Rattle.life_pattern.specs.Universe.{Universe, IsWithin, least_level, whole}
 
 -- more cells than this aren't 0
 abbrev pub PatternHasMoreCells : ℕ → Universe → Type 0

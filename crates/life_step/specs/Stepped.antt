@@ -8,9 +8,9 @@ use Rattle.life_table.specs.Meaning.{Becomes}
 use Rattle.life_table.specs.declared.table.Table.{Table}
 use Rattle.life_next.specs.Generation.{next_life}
 use Rattle.life_sweep.specs.Generation.{AnswersAt}
-use Rattle.life_canon.specs.Files.{Reads}
-use Rattle.life_canon.specs.Listing.{canon_text}
-use Rattle.life_canon.specs.Universe.{Universe}
+use Rattle.life_pattern.specs.Files.{Reads}
+use Rattle.life_writer.specs.Listing.{canon_text}
+use Rattle.life_pattern.specs.Universe.{Universe}
 use Rattle.life_step.specs.Refusals.{LifeRefusal, TableRefusal}
 
 -- the next generation of a pattern under a B/S rule

@@ -1,7 +1,7 @@
 //! The step of a pattern in RLE, row by row.
 
 ghost use Rattle.std.specs.Prelude.{◌≡◌, ◌++◌, ◌∷◌, [], false, IfSome, IsTrue};
-ghost use Rattle.life_step.specs.Words.{IsNextOfFile, IsStepped, Keeps, KeepsRows};
+ghost use Rattle.life_step.specs.Words.{AddsOnly, HasHeaderRule, IsNextOfFile, IsStepped, Keeps, KeepsRows, SomeByRows, SomeNextOfLines, SomeOfFileByRows, stored_squares};
 
 use crate::steps::text_of_square;
 use life_base::{LifeRule, Rule, Run, begins_with, is_blank, lines};
@@ -14,7 +14,9 @@ use std::alloc::Global;
 const BYTES_OF_SQUARE: usize = 32;
 
 /// The rule in the header of a file in RLE.
-fn header_rule(alloc: Global, bytes: &[u8]) -> Option<Rule> {
+fn header_rule(alloc: Global, bytes: &[u8]) -> Option<Rule>
+    ensures { IfSome result (HasHeaderRule bytes.now) }
+{
     let mut reader = RleLines::new(alloc);
     let mut runs = Vec::new(alloc);
     for (_, line) in lines(bytes) {
@@ -41,6 +43,8 @@ fn take_line(
         ≡ record { lines = reader.old.lines ++ line.now ∷ []; refused = false } }
     ensures rule { IsTrue result → step.new.rule ≡ step.old.rule }
     ensures keeps { Keeps store.old store.new }
+    ensures adds { AddsOnly stored_squares (λ P. SomeNextOfLines P step.old.rule
+        (reader.old.lines ++ line.now ∷ [])) store.old store.new }
     ensures rows { IsTrue result → KeepsRows store.new reader.new.lines step.new }
 {
     runs.clear();
@@ -60,6 +64,8 @@ fn next_square(
     ensures next { IfSome result
         (λ found. IsNextOfFile bytes.now rule.now store.new found.0 found.1) }
     ensures keeps { Keeps store.old store.new }
+    ensures adds { AddsOnly stored_squares (λ P. SomeByRows P rule.now bytes.now) store.old
+        store.new }
 {
     let mut reader = RleLines::new(alloc);
     let mut step = RowStep::new(alloc, &*store, *rule);
@@ -81,10 +87,11 @@ fn next_square(
 /// and the store and memory suffice. `None` says nothing of the file: `step_life` steps it, or returns why it can't.
 ///
 /// The rows of the next generation are made straight from the runs of the file, so no square of the pattern itself is stored. The store keeps every square that
-/// it had, also where the result is `None`.
+/// it had, and gets only squares of the next generation, also where the result is `None`.
 pub fn next_by_rows(alloc: Global, store: &mut Shared, bytes: &[u8]) -> Option<Vec<u8>>
     ensures text { IfSome result (λ text. IsStepped bytes.now text.items) }
     ensures keeps { Keeps store.old store.new }
+    ensures adds { AddsOnly stored_squares (λ P. SomeOfFileByRows P bytes.now) store.old store.new }
 {
     let rule = header_rule(alloc, bytes)?;
     let Rule::Life(life) = &rule else {

@@ -24,8 +24,8 @@
 //! A step is refused for the first of these that holds: a fault of the file; the wrong kind of rule; the last generation that a file can name; more than 2^20
 //! cells that aren't 0; a state that the table lacks; a neighbourhood to which the table gives two states; a cell outside the plane that would not become 0.
 //!
-//! It doesn't know forms and the command line. It steps by `life_block` and `life_rows`, and reads and writes by `life_canon`. Above it, `life_generations`
-//! makes many generations, and `life_cli` and `library_calls` call it for the program and the library.
+//! It doesn't know forms and the command line. It steps by `life_block` and `life_rows`, reads by `life_reader` and writes by `life_writer`. Above it,
+//! `life_generations` makes many generations, and `life_cli` and `library_calls` call it for the program and the library.
 //!
 //! Read first: `specs/Refusals.antt` (their order), `specs/Stepped.antt` (the next generation), and `src/steps.rt`.
 #![tactic(auto)]

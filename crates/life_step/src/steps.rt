@@ -5,13 +5,16 @@ ghost use Rattle.life_step.specs.Words.{fault_of, IsRule, depth, tree_cell, Name
 
 use life_base::{Fault, Kind, MAX_LEVEL, Rule};
 use life_block::{next_law_generation, next_life_generation};
-use life_canon::laws::{files_are_on_plane, patterns_fit, texts_are_files, texts_tell_universes};
-use life_canon::{MOST_CELLS, Pattern, least_level, read, text_of};
+use life_pattern::laws::{files_are_on_plane, patterns_fit};
+use life_pattern::{Pattern, least_level};
 use life_quad::{Id, Shared, trim};
+use life_reader::read;
 use life_sweep::ByTable;
 use life_sweep::laws::{life_answers_at, table_answers_at};
 use life_table::Table;
 use life_table::laws::one_answer;
+use life_writer::laws::{texts_are_files, texts_tell_universes};
+use life_writer::{MOST_CELLS, text_of};
 use std::alloc::Global;
 
 /// Whether the rule is the table's name.

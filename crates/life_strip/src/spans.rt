@@ -277,7 +277,9 @@ fn covered(spans: &[Span]) -> u64
 }
 
 // How many spans come of two strips, as a rule: each span of the two adds one at most, and there are never more spans than columns.
-fn spans_of_pair(upper: &[Span], lower: &[Span]) -> usize {
+fn spans_of_pair(upper: &[Span], lower: &[Span]) -> usize
+    ensures { result ≤ length upper.now + length lower.now }
+{
     let columns = covered(upper).max(covered(lower)) / 2 + 1;
     (upper.len() + lower.len()).min(columns as usize)
 }

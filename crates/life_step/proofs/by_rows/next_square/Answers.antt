@@ -10,14 +10,14 @@ use Rattle.life_base.specs.Sets.{OuterTotalistic}
 use Rattle.life_base.specs.Tree.{Tree, tree_cell}
 use Rattle.life_base.specs.declared.rule.Rule.{Rule}
 use Rattle.life_base.specs.declared.rule.Rule.TheVariants.{Life}
-use Rattle.life_quad.proofs.KeepingLemmas.{keeps-same, keeps-then}
+use Rattle.life_quad.proofs.KeepingLemmas.{adds-none, adds-then, keeps-same, keeps-then}
 use Rattle.life_rle.specs.Grammar.{IsRle}
 use Rattle.life_rle.specs.Pattern.{Rle}
 use Rattle.life_rle.proofs.ReadInputs.{no_runs}
 use Rattle.life_strip.specs.Given.{state_by}
 use Rattle.life_next.specs.Generation.{next_life}
-use Rattle.life_canon.specs.Store.{content}
-use Rattle.life_step.proofs.RowFacts.{next-of-file, ok-of-some}
+use Rattle.life_pattern.specs.Store.{content}
+use Rattle.life_step.proofs.RowFacts.{line-by_rows, next-of-file, ok-of-some, plane-by_rows}
 use Rattle.life_step.proofs.by_rows.next_square.Goals as goal
 
 pub loop-line-init : goal.loop-line-init
@@ -30,6 +30,7 @@ loop-line-init c =
       fresh = ap (λ (v : LinesRead). v.refused) e;
       rule = c.new-step.ensures.rule;
       keeps = keeps-same _;
+      adds = adds-none _ _;
       rows = record {
         are = no_runs MAX_LEVEL c.new-reader.result.lines c.new-step.result.runs none c.new-step.ensures.runs;
         stepping = c.new-step.ensures.stepping;
@@ -56,6 +57,9 @@ loop-line-preserved c =
       fresh = ap (λ (v : LinesRead). v.refused) e;
       rule = c.take_line.ensures.rule went ∙ c.loop-line.invariant.rule;
       keeps = keeps-then c.loop-line.invariant.keeps c.take_line.ensures.keeps;
+      adds = adds-then _ c.loop-line.invariant.adds c.take_line.ensures.adds (λ P s. s)
+          (line-by_rows c.args.bytes.now old pairs c.in-Some.field-0-0 line rest c.args.rule.now c.loop-line.step.rule c.loop-line.invariant.consumed all
+          c.loop-line.invariant.rule);
       rows = c.take_line.ensures.rows went;
     }
 
@@ -82,3 +86,37 @@ returns-in_err-square-clause-keeps c = keeps-then c.loop-line.invariant.keeps c.
 
 pub returns-clause-keeps : goal.returns-clause-keeps
 returns-clause-keeps c = keeps-then c.loop-line.invariant.keeps c.in_ok-square.ensures.keeps
+
+pub returns-then-not-take_line-clause-adds : goal.returns-then-not-take_line-clause-adds
+returns-then-not-take_line-clause-adds c =
+    let loop = c.loop-line.invariant in
+    let pairs : List (ℕ × List ℕ) = map numbered c.loop-line.yielded in
+    let all : pairs ++ (c.in-Some.field-0-0, c.in-Some.line.now) ∷ c.next.new.self ≡ numbered_from 1 (lines_of c.args.bytes.now) =
+    ap (λ (t : List (ℕ × List ℕ)). pairs ++ t) (sym c.in-Some.ensures.steps) ∙ loop.all in
+    adds-then _ loop.adds c.take_line.ensures.adds (λ P s. s)
+    (line-by_rows c.args.bytes.now c.loop-line.reader.lines pairs c.in-Some.field-0-0 c.in-Some.line.now c.next.new.self c.args.rule.now
+    c.loop-line.step.rule loop.consumed all loop.rule)
+
+pub returns-in_err-square-clause-adds : goal.returns-in_err-square-clause-adds
+returns-in_err-square-clause-adds c =
+    let loop = c.loop-line.invariant in
+    let lines : List (List ℕ) = c.loop-line.reader.lines in
+    let whole = whole_read (lines_of c.args.bytes.now) lines c.loop-line.yielded _ loop.consumed loop.all c.in-None.ensures.steps.0 in
+    let P : Rule × ℕ → Type 0 = λ found. (file : Rle) × IsRle MAX_LEVEL lines file × (found.0 ≡ file.rule) × (found.1 ≡ file.position.generation) in
+    let reported : P (c.in_ok-found.found, c.in_ok-found.generation) = ok-of-some P _ c.end.result c.in_ok-found.ensures.value c.end.ensures.file in
+    let same : c.in_ok-found.found ≡ Life c.args.rule.now = c.same.ensures.0 c.if-not-same.false in
+    adds-then _ loop.adds c.in_err-square.ensures.adds (λ P s. s)
+    (plane-by_rows c.args.bytes.now lines reported.0 c.loop-line.step.runs c.args.rule.now c.loop-line.step.rule whole reported.1 loop.rows.are
+    (sym reported.2 ∙ same) loop.rule)
+
+pub returns-clause-adds : goal.returns-clause-adds
+returns-clause-adds c =
+    let loop = c.loop-line.invariant in
+    let lines : List (List ℕ) = c.loop-line.reader.lines in
+    let whole = whole_read (lines_of c.args.bytes.now) lines c.loop-line.yielded _ loop.consumed loop.all c.in-None.ensures.steps.0 in
+    let P : Rule × ℕ → Type 0 = λ found. (file : Rle) × IsRle MAX_LEVEL lines file × (found.0 ≡ file.rule) × (found.1 ≡ file.position.generation) in
+    let reported : P (c.in_ok-found.found, c.in_ok-found.generation) = ok-of-some P _ c.end.result c.in_ok-found.ensures.value c.end.ensures.file in
+    let same : c.in_ok-found.found ≡ Life c.args.rule.now = c.same.ensures.0 c.if-not-same.false in
+    adds-then _ loop.adds c.in_ok-square.ensures.adds (λ P s. s)
+    (plane-by_rows c.args.bytes.now lines reported.0 c.loop-line.step.runs c.args.rule.now c.loop-line.step.rule whole reported.1 loop.rows.are
+    (sym reported.2 ∙ same) loop.rule)

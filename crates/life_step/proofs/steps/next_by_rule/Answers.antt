@@ -7,10 +7,10 @@ use Rattle.life_quad.proofs.LawLemmas.{known_squares_are_full}
 use Rattle.life_sweep.specs.Refused.{GenerationRefusal}
 use Rattle.life_sweep.specs.Generation.{LifeAnswers}
 use Rattle.life_quad.proofs.KeepingLemmas.{keeps-then, adds-as, adds-then}
-use Rattle.life_canon.specs.Files.{Reads}
-use Rattle.life_canon.specs.Needs.{IsNew}
-use Rattle.life_canon.specs.Store.{content, IsRead}
-use Rattle.life_canon.specs.Universe.{Universe, least_level}
+use Rattle.life_pattern.specs.Files.{Reads}
+use Rattle.life_pattern.specs.Store.{IsNew}
+use Rattle.life_pattern.specs.Store.{content, IsRead}
+use Rattle.life_pattern.specs.Universe.{Universe, least_level}
 use Rattle.life_step.specs.Refusals.{LacksForLife, SomeByRule, of_generation, LifeRefusal}
 use Rattle.life_step.proofs.NeedFacts.{handed-on, root-by_rule}
 use Rattle.life_step.proofs.StepFacts.{next-small, needs-table, life-last, life-refused-read, life-stepped-read}

@@ -10,10 +10,10 @@ use Rattle.life_quad.proofs.LawLemmas.{known_squares_are_full}
 use Rattle.life_sweep.specs.Refused.{GenerationRefusal}
 use Rattle.life_sweep.specs.Generation.{TableAnswers, states_at}
 use Rattle.life_quad.proofs.KeepingLemmas.{keeps-then, adds-as, adds-then}
-use Rattle.life_canon.specs.Files.{Reads}
-use Rattle.life_canon.specs.Needs.{IsNew}
-use Rattle.life_canon.specs.Store.{content, IsRead}
-use Rattle.life_canon.specs.Universe.{Universe}
+use Rattle.life_pattern.specs.Files.{Reads}
+use Rattle.life_pattern.specs.Store.{IsNew}
+use Rattle.life_pattern.specs.Store.{content, IsRead}
+use Rattle.life_pattern.specs.Universe.{Universe}
 use Rattle.life_step.specs.Refusals.{SomeOfTable, of_next, TableRefusal}
 use Rattle.life_step.proofs.NeedFacts.{answered-by_table, handed-on, root-by_table}
 use Rattle.life_step.proofs.StateFacts.{cell-byte}

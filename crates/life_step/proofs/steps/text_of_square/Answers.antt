@@ -4,8 +4,8 @@ use Rattle.life_quad.specs.Moves.{trimmed_square}
 use Rattle.life_quad.specs.Refused.{TrimmedTo}
 use Rattle.life_quad.proofs.KeepingLemmas.{adds-as}
 use Rattle.life_quad.proofs.LawLemmas.{known_squares_are_full}
-use Rattle.life_canon.specs.Needs.{IsNew}
-use Rattle.life_canon.specs.Store.{content}
+use Rattle.life_pattern.specs.Store.{IsNew}
+use Rattle.life_pattern.specs.Store.{content}
 use Rattle.life_step.proofs.StepFacts.{trimmed-fits, text-of-square}
 use Rattle.life_step.proofs.steps.text_of_square.Goals as goal
 

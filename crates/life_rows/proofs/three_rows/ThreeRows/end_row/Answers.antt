@@ -1,7 +1,10 @@
 use Rattle.std.proofs.Common.{◌≡◌, ℕ, suc, ◌==◌, ◌+◌, if◌then◌else◌, List, ◌∙◌, refl, subst}
 use Rattle.life_base.specs.Sets.{OuterTotalistic}
 use Rattle.life_rows.specs.RowCells.{AreInner, next_in_row}
+use Rattle.life_quad.proofs.KeepingLemmas.{adds-as}
+use Rattle.life_rows.proofs.NeededLemmas.{row-needed}
 use Rattle.life_rows.proofs.ThreeRowsLemmas.{rows-end, rows-same}
+use Rattle.life_strip.specs.Needed.{SomeSquare}
 use Rattle.life_strip.specs.Plane.{state_so_far}
 use Rattle.life_strip.specs.RowWords.{cell_in_words}
 use Rattle.life_strip.specs.declared.row_builder.RowWord.{RowWord}
@@ -32,3 +35,19 @@ returns-clause-rows g c is =
     s.log.runs c.requires.rows (subst AreInner c.deref.ensures.value (c.if-not-are_inner.ensures refl)) c.requires.inside words.edge
     (next-as s.rule c.next_row.new.next.items c.deref-2.ensures.value c.deref-3.ensures.value c.deref-4.ensures.value words.cells) (gives.filled refl)
     (row-as (s.north_row + 1) (state_so_far C s.builder) (state_so_far C' c.give_row.new.builder) c.deref-5.ensures.value (gives.cells refl)))
+
+pub returns-clause-adds : goal.returns-clause-adds
+returns-clause-adds g c =
+    let C = g.S.Squares.content c.args.squares.now in
+    let s = c.args.self.now in
+    adds-as {A = λ P. SomeSquare P (s.north_row + 1) (state_so_far C s.builder)} _ c.give_row.ensures.adds
+    (row-needed (g.S.Squares.knows c.args.squares.now) C s.rule s.builder s.north.items s.here.items s.south.items s.north_row s.left s.log.runs
+    c.requires.rows c.requires.inside)
+
+pub returns-then-not-give_row-clause-adds : goal.returns-then-not-give_row-clause-adds
+returns-then-not-give_row-clause-adds g c =
+    let C = g.S.Squares.content c.args.squares.now in
+    let s = c.args.self.now in
+    adds-as {A = λ P. SomeSquare P (s.north_row + 1) (state_so_far C s.builder)} _ c.give_row.ensures.adds
+    (row-needed (g.S.Squares.knows c.args.squares.now) C s.rule s.builder s.north.items s.here.items s.south.items s.north_row s.left s.log.runs
+    c.requires.rows c.requires.inside)

@@ -1,4 +1,6 @@
-use Rattle.std.proofs.Common.{◌≡◌, ◌-◌, refl, arith}
+use Rattle.std.proofs.Common.{◌≡◌, ◌-◌, ◌∙◌, refl, arith}
+use Rattle.life_quad.proofs.KeepingLemmas.{adds-then, keeps-then}
+use Rattle.life_rows.proofs.NeededLemmas.{more-needed}
 use Rattle.life_rows.proofs.ThreeRowsLemmas.{rows-same, rows-skip}
 use Rattle.life_rows.proofs.three_rows.ThreeRows.go_to_row.Goals as goal
 use Rattle.life_rows.proofs.three_rows.ThreeRows.go_to_row.Goals.{then-loop-self-test+else-not-is_blank, else-loop-self-test}
@@ -18,3 +20,24 @@ returns-clause-rows g c is =
           (let same : c.args.row - 2 ≡ s.north_row = (let within = i.within in let over = w.loop-self-test.false in omega (arith, within, over)) in
           rows-same K C refl refl refl refl refl same refl refl i.rows)
     ]
+
+pub loop-self-preserved : goal.loop-self-preserved
+loop-self-preserved g c =
+    let i = c.loop-self.invariant in
+    let e = c.if-not-end_row.ensures in
+    let next = e.row refl in
+    let more = c.loop-self-test.true in
+    record {
+      keeps = keeps-then i.keeps e.keeps;
+      adds = adds-then _ i.adds e.adds (λ P s. s) (λ P. more-needed (omega (arith, more)) i.rule i.runs);
+      rows = e.rows refl;
+      within = omega (arith, next, more);
+      rule = e.rule refl ∙ i.rule;
+      runs = e.runs refl ∙ i.runs;
+    }
+
+pub returns-then-not-end_row-clause-adds : goal.returns-then-not-end_row-clause-adds
+returns-then-not-end_row-clause-adds g c =
+    let i = c.loop-self.invariant in
+    let more = c.loop-self-test.true in
+    adds-then _ i.adds c.end_row.ensures.adds (λ P s. s) (λ P. more-needed (omega (arith, more)) i.rule i.runs)
