@@ -2,8 +2,8 @@
 use Rattle.std.proofs.Common.{◌≡◌, inl, inr, ℕ, zero, suc, ◌+◌, ◌-◌, ◌<◌, ◌≤◌, refl, sym, ◌∙◌, ap, subst, ℤ, arith}
 use Rattle.life_base.specs.Sets.{OuterTotalistic}
 use Rattle.life_base.proofs.Basics.{le_or_lt}
-use Rattle.life_canon.specs.Universe.{Universe}
-use Rattle.life_canon.proofs.Sameness.{same-sym}
+use Rattle.life_pattern.specs.Universe.{Universe}
+use Rattle.life_pattern.proofs.Sameness.{same-sym}
 use Rattle.life_forms.specs.Forms.{IsShift, IsTurnedShift}
 use Rattle.life_forms.specs.Turns.{Turn, image, turn_after, upright}
 use Rattle.life_forms.proofs.ShiftFacts.{same-refl, shift-sym, shift-trans, still}

@@ -9,10 +9,10 @@ use Rattle.life_base.specs.declared.kind.Kind.TheVariants as kinds
 use Rattle.life_base.specs.declared.rule.Rule.{Rule}
 use Rattle.life_base.specs.declared.rule.Rule.TheVariants.{Life}
 use Rattle.life_quad.specs.Store.{Nodes, content}
-use Rattle.life_canon.specs.Laws.{PatternsFit}
-use Rattle.life_canon.specs.Store.{IsRead, IsTrimmed, universe_in}
-use Rattle.life_canon.specs.Universe.{IsSame, square_universe}
-use Rattle.life_canon.specs.declared.pattern.Pattern.{Pattern}
+use Rattle.life_pattern.specs.Laws.{PatternsFit}
+use Rattle.life_pattern.specs.Store.{IsRead, IsTrimmed, universe_in}
+use Rattle.life_pattern.specs.Universe.{IsSame, square_universe}
+use Rattle.life_pattern.specs.declared.pattern.Pattern.{Pattern}
 use Rattle.life_forms.specs.Images.{IsTurnedText}
 use Rattle.life_phases.specs.Periods.{HasNoPeriodUpTo, IsLeastPeriod, IsPeriodFault, LeavesFromMiddle}
 use Rattle.life_phases.specs.declared.period.Period.{Period}

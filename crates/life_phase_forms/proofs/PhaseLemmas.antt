@@ -15,10 +15,10 @@ use Rattle.life_quad.specs.Moves.{trimmed_square}
 use Rattle.life_quad.specs.Store.{Nodes, content}
 use Rattle.life_quad.specs.declared.id.Id.{Id}
 use Rattle.life_quad.proofs.LawLemmas.{known_squares_are_full, trimmed_is_fixed, trimming_keeps_cells, trimming_stops}
-use Rattle.life_canon.specs.Laws.{SquaresAreCentred}
-use Rattle.life_canon.specs.Lesser.{IsLesserText}
-use Rattle.life_canon.specs.Store.{IsKnown, IsTrimmed}
-use Rattle.life_canon.specs.Universe.{centred_square, corner, square_universe}
+use Rattle.life_pattern.specs.Laws.{SquaresAreCentred}
+use Rattle.life_writer.specs.Lesser.{IsLesserText}
+use Rattle.life_pattern.specs.Store.{IsKnown, IsTrimmed}
+use Rattle.life_pattern.specs.Universe.{centred_square, corner, square_universe}
 use Rattle.life_forms.specs.Forms.{IsShift}
 use Rattle.life_forms.specs.Images.{IsTurnedText}
 use Rattle.life_forms.proofs.PatternFacts.{cell-up-to, square-up-to}
@@ -55,22 +55,6 @@ square-trimmed centre rule store root known low trimmed binary =
       trimmed = trimmed;
       states = subst (HasStatesUpTo 1) (centre t full (omega (arith, low))).0
           (square-up-to 1 (tree_cell t) (λ x y. below-two _ (binary x y)) (depth t) (corner (depth t)) (corner (depth t)));
-    }
-
--- what is known of a trimmed square
-pub record IsTrimmedTo (t u : Tree) : Type 0 where
-  pub low : 3 ≤ depth u
-  pub trimmed : trimmed_square u 3 ≡ u
-  pub cells : (x y : ℤ) → tree_cell u x y ≡ tree_cell t x y
-
-pub trimmed-to : (t u : Tree) → IsFull t → 3 ≤ depth t → u ≡ trimmed_square t 3 → IsTrimmedTo t u
-trimmed-to t u full low e =
-    let fixed = trimmed_is_fixed t 3 full (lit≤ tt) in
-    let stops = trimming_stops t 3 full (lit≤ tt) in
-    record {
-      low = subst (λ s. 3 ≤ depth s) (sym e) (stops.0 low);
-      trimmed = ap (λ s. trimmed_square s 3) e ∙ fixed.1 ∙ sym e;
-      cells = λ x y. ap (λ s. tree_cell s x y) e ∙ trimming_keeps_cells t 3 full (lit≤ tt) x y;
     }
 
 up-to-one : (n : ℕ) → n ≤ 1 → n < 2

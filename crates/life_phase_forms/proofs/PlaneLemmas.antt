@@ -8,8 +8,8 @@ use Rattle.life_base.specs.declared.cell.TheConstants.{MAX_LEVEL}
 use Rattle.life_base.proofs.Basics.{zero_unless}
 use Rattle.life_mc.specs.Macrocell.{largest_state}
 use Rattle.life_next.proofs.NextLemmas.{next-zero}
-use Rattle.life_canon.specs.Texts.{IsBoundingBox}
-use Rattle.life_canon.specs.Universe.{Universe, IsBlankOutside, IsOnPlane, IsWithin, corner}
+use Rattle.life_writer.specs.Texts.{IsBoundingBox}
+use Rattle.life_pattern.specs.Universe.{Universe, IsBlankOutside, IsOnPlane, IsWithin, corner}
 use Rattle.life_forms.specs.Forms.{IsShift}
 use Rattle.life_forms.proofs.ShiftFacts.{box-shifted, forth-and-back, has-box, moved_box, same-refl, shifted, still}
 use Rattle.life_leap.specs.After.{after}

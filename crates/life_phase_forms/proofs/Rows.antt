@@ -4,7 +4,7 @@ use Rattle.std.specs.Ordering.{int_eq}
 use Rattle.life_base.specs.Sets.{OuterTotalistic}
 use Rattle.life_base.specs.declared.rule.Near.TheVariants.{Moore}
 use Rattle.life_base.specs.declared.rule.Rule.TheVariants.{Life}
-use Rattle.life_canon.specs.Universe.{Universe}
+use Rattle.life_pattern.specs.Universe.{Universe}
 use Rattle.life_forms.specs.Turns.{image, transpose}
 use Rattle.life_leap.specs.After.{after}
 use Rattle.life_phase_forms.specs.Phases.{begun, phase}

@@ -2,9 +2,9 @@
 use Rattle.std.proofs.Common.{◌≡◌, ◌↔◌, ℕ, ◌+◌, ◌≤◌, List, refl, sym, ◌∙◌, subst}
 use Rattle.life_base.specs.Sets.{OuterTotalistic}
 use Rattle.life_base.specs.declared.rule.Rule.TheVariants.{Life}
-use Rattle.life_canon.specs.Lesser.{IsUpTo}
-use Rattle.life_canon.specs.Universe.{Universe}
-use Rattle.life_canon.proofs.OrderFacts.{up-to-both}
+use Rattle.life_writer.specs.Lesser.{IsUpTo}
+use Rattle.life_pattern.specs.Universe.{Universe}
+use Rattle.life_writer.proofs.OrderFacts.{up-to-both}
 use Rattle.life_forms.specs.Forms.{IsTurnedShift}
 use Rattle.life_forms.proofs.LeastFacts.{turned-shift-sym}
 use Rattle.life_phases.specs.declared.period.Period.{Period}

@@ -1,19 +1,24 @@
 -- What the texts tell, of patterns of the plane and of files.
-use Rattle.std.proofs.Common.{◌≡◌, ℕ, ◌+◌, ◌≤◌, List, refl, sym, ◌∙◌, subst, lit≤}
+use Rattle.std.proofs.Common.{◌≡◌, ℕ, ◌+◌, ◌≤◌, Bool, true, false, List, refl, sym, ◌∙◌, subst, lit≤}
 use Rattle.life_base.specs.Sets.{OuterTotalistic}
 use Rattle.life_base.specs.Text.{lines_of}
 use Rattle.life_base.specs.declared.cell.TheConstants.{MAX_LEVEL}
-use Rattle.life_canon.specs.Files.{Reads, as_macrocell}
-use Rattle.life_canon.specs.Laws.{FilesAreOnPlane, FilesAreUnique, TextsAreFiles, TextsTellUniverses}
-use Rattle.life_canon.specs.Listing.{canon_text, canonical_file}
-use Rattle.life_canon.specs.Universe.{Universe, IsOnPlane, macrocell_universe}
+use Rattle.life_base.specs.declared.fault.Fault.{Fault}
+use Rattle.life_quad.specs.Store.{Nodes}
+use Rattle.life_pattern.specs.Files.{Reads, as_macrocell}
+use Rattle.life_pattern.specs.Laws.{FilesAreOnPlane, FilesAreUnique}
+use Rattle.life_writer.specs.Laws.{TextsAreFiles, TextsTellUniverses}
+use Rattle.life_writer.specs.Listing.{canon_text, canonical_file}
+use Rattle.life_pattern.specs.Store.{ForEachFile}
+use Rattle.life_pattern.specs.Universe.{Universe, IsOnPlane, macrocell_universe}
+use Rattle.life_pattern.specs.declared.pattern.Pattern.{Pattern}
 use Rattle.life_forms.specs.Forms.{IsTurnedShift}
 use Rattle.life_forms.specs.Images.{IsTurnedText}
 use Rattle.life_forms.proofs.LeastFacts.{turned-on-plane, turned-shift-sym, turned-texts}
 use Rattle.life_forms.proofs.ShiftFacts.{same-refl, shift-trans, still}
 use Rattle.life_phases.specs.declared.period.Period.{Period}
 use Rattle.life_phase_forms.specs.Laws.{IsFileOfCourse, PhasesTextsAreFiles, PhasesTextsTellFiles}
-use Rattle.life_phase_forms.specs.OfFile.{FileLeavesUnderway, IsPhasesTextOf, SayOneCourse}
+use Rattle.life_phase_forms.specs.OfFile.{FileLeavesUnderway, IsPhasesTextOf, RefusesOneOfTwo, RefusesPhases, SayOneCourse}
 use Rattle.life_phase_forms.specs.Phases.{AreOfOneCourse, HasPhases, IsPhasesText, LeavesUnderway, begun, in_one_phase, in_two_phases, of_pattern, of_phases, phase}
 use Rattle.life_phase_forms.proofs.CourseLemmas.{comes-again, phase-adds, phase-turned, turned-of-shift, turned-trans}
 use Rattle.life_phase_forms.proofs.PlaneLemmas.{IsMovedToPlane, begun-on-plane, phase-on-plane}
@@ -154,3 +159,16 @@ module _ (tells : TextsTellUniverses MAX_LEVEL) where
 pub stays-of : FilesAreUnique MAX_LEVEL → (most : ℕ) (bytes text : List ℕ) → IsPhasesTextOf most bytes text → ¬ FileLeavesUnderway most bytes
 stays-of unique most bytes text is leave =
     is.stays (subst (λ (u : Universe). LeavesUnderway most u) (unique (lines_of bytes) leave.0 is.universe leave.1 is.reads) leave.2)
+
+-- two patterns aren't compared: the first has no text
+pub of-first : (most : ℕ) (store : Nodes) (first second : Pattern) (of_second : Bool) (fault : Fault) → of_second ≡ false
+    → RefusesPhases most store first fault → RefusesOneOfTwo most store first second of_second fault
+of-first most store first second of_second fault is refuses =
+    subst (λ (flag : Bool). RefusesOneOfTwo most store first second flag fault) (sym is) refuses
+
+-- or the second has none
+pub of-second : (most : ℕ) (store : Nodes) (first second : Pattern) (of_second : Bool) (fault : Fault) → of_second ≡ true
+    → ForEachFile store first (λ bytes. ¬ FileLeavesUnderway most bytes) → RefusesPhases most store second fault
+    → RefusesOneOfTwo most store first second of_second fault
+of-second most store first second of_second fault is stays refuses =
+    subst (λ (flag : Bool). RefusesOneOfTwo most store first second flag fault) (sym is) (stays, refuses)

@@ -4,11 +4,11 @@ use Rattle.std.specs.Cmp.Lexicographic.{slice_cmp}
 use Rattle.std.specs.Ordering.{is_lt}
 use Rattle.life_base.specs.Sets.{OuterTotalistic}
 use Rattle.life_base.proofs.Basics.{le_or_lt}
-use Rattle.life_canon.specs.Lesser.{IsLesserText, IsUpTo}
-use Rattle.life_canon.specs.Listing.{canon_text}
-use Rattle.life_canon.specs.Universe.{Universe}
-use Rattle.life_canon.proofs.OrderFacts.{old-is-lesser, up-to-itself, up-to-on}
-use Rattle.life_canon.proofs.Sameness.{same-sym}
+use Rattle.life_writer.specs.Lesser.{IsLesserText, IsUpTo}
+use Rattle.life_writer.specs.Listing.{canon_text}
+use Rattle.life_pattern.specs.Universe.{Universe}
+use Rattle.life_writer.proofs.OrderFacts.{old-is-lesser, up-to-itself, up-to-on}
+use Rattle.life_pattern.proofs.Sameness.{same-sym}
 use Rattle.life_forms.specs.Forms.{IsMoved, IsShift, IsTurnedShift}
 use Rattle.life_forms.specs.Images.{IsTurnedText}
 use Rattle.life_forms.specs.Turns.{Turn, image, inverse_turn, turn_after}

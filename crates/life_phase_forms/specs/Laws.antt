@@ -4,9 +4,9 @@ use Rattle.life_base.specs.Sets.{OuterTotalistic}
 use Rattle.life_base.specs.declared.cell.TheConstants.{MAX_LEVEL}
 use Rattle.life_leap.specs.After.{after}
 use Rattle.life_phases.specs.Periods.{HasPeriod}
-use Rattle.life_canon.specs.Files.{Reads}
-use Rattle.life_canon.specs.Listing.{canon_text}
-use Rattle.life_canon.specs.Universe.{Universe}
+use Rattle.life_pattern.specs.Files.{Reads}
+use Rattle.life_writer.specs.Listing.{canon_text}
+use Rattle.life_pattern.specs.Universe.{Universe}
 use Rattle.life_forms.specs.Forms.{IsTurnedShift}
 use Rattle.life_forms.specs.Turns.{Turn, turned_column, turned_row}
 use Rattle.life_phase_forms.specs.OfFile.{IsPhasesTextOf, SayOneCourse}

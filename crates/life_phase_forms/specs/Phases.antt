@@ -6,8 +6,8 @@ use Rattle.life_base.specs.declared.rule.Rule.TheVariants.{Life}
 use Rattle.life_leap.specs.After.{after}
 use Rattle.life_phases.specs.Periods.{HasNoPeriodUpTo, IsLeastPeriod, LeavesFromMiddle}
 use Rattle.life_phases.specs.declared.period.Period.{Period}
-use Rattle.life_canon.specs.Lesser.{IsUpTo}
-use Rattle.life_canon.specs.Universe.{Universe}
+use Rattle.life_writer.specs.Lesser.{IsUpTo}
+use Rattle.life_pattern.specs.Universe.{Universe}
 use Rattle.life_forms.specs.Forms.{IsTurnedShift}
 use Rattle.life_forms.specs.Images.{IsTurnedText}
 

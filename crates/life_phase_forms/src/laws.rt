@@ -1,9 +1,8 @@
 //! Laws of phases and of their texts. The contract of each function states a law. Calling it gives the law to the prover; at run time the call does nothing.
 ghost use Rattle.life_phase_forms.specs.Words.{CoursesKeepPeriods, GenerationsKeepTurns, PhasesTextsAreFiles, PhasesTextsTellFiles};
 
-use life_canon::laws::{
-    files_are_on_plane, files_are_unique, texts_are_files, texts_tell_universes,
-};
+use life_pattern::laws::{files_are_on_plane, files_are_unique};
+use life_writer::laws::{texts_are_files, texts_tell_universes};
 
 /// The generations of the image of a pattern are the images of its generations.
 pub fn generations_keep_turns()

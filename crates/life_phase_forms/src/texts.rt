@@ -4,16 +4,12 @@ ghost use Rattle.std.specs.Prelude.{◌≡◌, ℤ, ◌<◌, ◌≤◌, IfOk, If
 ghost use Rattle.life_phase_forms.specs.Words.{after, content, depth, ForEachFile, IsKnownInShared, IsLeastOfPhases, IsLeastPeriod, IsLesserText, IsOfFile, IsPhasesTextOf, IsTrimmed, IsTurnedText, IsMemoryOrFull, LeavesFromMiddle, LeavesWithin, RefusesPhases, square_universe, tree_cell};
 
 use life_base::{Fault, LifeRule, MAX_LEVEL, Rule};
-use life_canon::Pattern;
-use life_canon::laws::{files_are_on_plane, patterns_fit, squares_are_centred};
 use life_forms::turned_text;
-use life_later::later;
-use life_phases::{Period, in_middle, period_of, way_to_middle};
-use life_quad::{Id, Shared, SharedSquares, bounds, trim};
+use life_pattern::Pattern;
+use life_pattern::laws::{files_are_on_plane, patterns_fit, squares_are_centred};
+use life_phases::{Period, in_middle, next_phase, period_of, way_to_middle};
+use life_quad::{Id, Shared, SharedSquares, bounds};
 use std::alloc::Global;
-
-/// The least level of the square of a phase: that of a leaf under a B/S rule.
-const LEAST_LEVEL: u8 = 3;
 
 /// The lesser of two texts, byte by byte.
 fn lesser(first: Vec<u8>, second: Vec<u8>) -> Vec<u8>
@@ -41,8 +37,8 @@ fn turned_text_of(alloc: Global, store: &Shared, rule: Rule, root: Id) -> Result
     turned_text(alloc, store, &pattern)
 }
 
-/// The square of the next phase, without blank outer parts.
-fn next_phase(alloc: Global, course: &mut Shared, rule: &LifeRule, now: Id) -> Result<Id, Fault>
+/// The square of the next phase as the root of a pattern, which is trimmed.
+fn next_root(alloc: Global, course: &mut Shared, rule: &LifeRule, now: Id) -> Result<Id, Fault>
     requires known { IsKnownInShared course.old now }
     requires low { 3 ≤ depth (content course.old now) }
     requires states { (x y : ℤ) → tree_cell (content course.old now) x y < 2 }
@@ -54,9 +50,8 @@ fn next_phase(alloc: Global, course: &mut Shared, rule: &LifeRule, now: Id) -> R
     ensures refused { IfErr result IsMemoryOrFull }
 {
     squares_are_centred();
-    let next = later(alloc, course, rule, now, 1)?;
-    let trimmed = trim(course, next, LEAST_LEVEL)?;
-    Ok(trimmed)
+    let next = next_phase(alloc, course, rule, now)?;
+    Ok(next)
 }
 
 /// The least of the texts of a square's first `count` phases, of which `first` is that of the square itself.
@@ -82,7 +77,7 @@ fn least_text(
     let mut best = first;
     let mut done = 0;
     while done + 1 < count {
-        now = next_phase(alloc, course, rule, now)?;
+        now = next_root(alloc, course, rule, now)?;
         let text = turned_text_of(alloc, &*course, Rule::Life(*rule), now)?;
         best = lesser(best, text);
         done += 1;

@@ -13,7 +13,7 @@ use Rattle.life_pieces.proofs.RootLemmas.{cells-of_root, corner}
 use Rattle.life_later.specs.Margins.{IsBoxOnPlane}
 use Rattle.life_slide.specs.Pieces.{IsNearMiddle}
 use Rattle.life_slide.proofs.MovedLemmas.{piece-from}
-use Rattle.life_phases.specs.Middle.{IsInMiddle, IsMovedBy, IsMiddleSide, IsSquareInMiddle, IsMiddleWay}
+use Rattle.life_phases.specs.Middle.{AreAsLarge, IsAsLargeAs, IsInMiddle, IsMovedBy, IsMiddleSide, IsSquareInMiddle, IsMiddleWay, NoShift}
 use Rattle.life_phases.specs.declared.middle.Shift.{Shift}
 use Rattle.life_phases.proofs.ShiftLemmas.{from, moved-back}
 
@@ -28,14 +28,22 @@ side-stays low high low2 high2 a e f one two =
     let z = two.high_end in
     omega (arith, ints, e, f, u, v, w, z)
 
--- two patterns in the middle, of which one is the other one, moved, are the same
-module _ (f g : ℤ → ℤ → ℕ) (first : IsInMiddle f) (second : IsInMiddle g) (a b : ℤ) (moved : IsMovedBy a b f g) where
-  abbrev p : Bounds
-  p = first.box
+-- the box of the cells that aren't 0
+record IsBoxAround (cells : ℤ → ℤ → ℕ) (box : Bounds) : Type 0 where
+  inside : (x y : ℤ) → cells x y ≢ 0 → (box.left ≤ℤ x) × (x ≤ℤ box.right) × (box.top ≤ℤ y) × (y ≤ℤ box.bottom)
+  at_left : (y : ℤ) × (cells box.left y ≢ 0)
+  at_right : (y : ℤ) × (cells box.right y ≢ 0)
+  at_top : (x : ℤ) × (cells x box.top ≢ 0)
+  at_bottom : (x : ℤ) × (cells x box.bottom ≢ 0)
 
-  abbrev q : Bounds
-  q = second.box
+around-middle : (cells : ℤ → ℤ → ℕ) (h : IsInMiddle cells) → IsBoxAround cells h.box
+around-middle cells h = record { inside = h.inside; at_left = h.at_left; at_right = h.at_right; at_top = h.at_top; at_bottom = h.at_bottom }
 
+around-tree : (t : Tree) (box : Bounds) → IsBoundingBoxOfTree t box → IsBoxAround (tree_cell t) box
+around-tree t box h = record { inside = h.inside; at_left = h.at_left; at_right = h.at_right; at_top = h.at_top; at_bottom = h.at_bottom }
+
+-- the box of a pattern that is moved is moved as far
+module _ (f g : ℤ → ℤ → ℕ) (p q : Bounds) (first : IsBoxAround f p) (second : IsBoxAround g q) (a b : ℤ) (moved : IsMovedBy a b f g) where
   ahead : (x y : ℤ) → f x y ≢ 0 → (q.left ≤ℤ (x +ℤ a)) × ((x +ℤ a) ≤ℤ q.right) × (q.top ≤ℤ (y +ℤ b)) × ((y +ℤ b) ≤ℤ q.bottom)
   ahead x y some = second.inside _ _ (λ none. some (sym (moved.cells x y) ∙ none))
 
@@ -67,11 +75,46 @@ module _ (f g : ℤ → ℤ → ℕ) (first : IsInMiddle f) (second : IsInMiddle
       let v = (behind _ _ second.at_bottom.1).3 in
       omega (arith, ints, u, v)
 
+  as-large : AreAsLarge p q
+  as-large =
+      let l = left-moves in
+      let r = right-moves in
+      let t = top-moves in
+      let d = bottom-moves in
+      record { columns = omega (arith, ints, l, r); rows = omega (arith, ints, t, d) }
+
+pub moved-as-large : (s t : Tree) (box : Bounds) (a b : ℤ) → IsBoundingBoxOfTree s box → IsMovedBy a b (tree_cell s) (tree_cell t) → IsAsLargeAs box t
+moved-as-large s t box a b is moved other there =
+    as-large (tree_cell s) (tree_cell t) box other (around-tree s box is) (around-tree t other there) a b moved
+
+-- a square whose box isn't as large as that of the first one isn't the first one, moved
+pub other-size : (s t : Tree) (outline found : Bounds) → IsSquareInMiddle s → IsAsLargeAs outline s → IsBoundingBoxOfTree t found
+    → ¬ (AreAsLarge outline found) → NoShift (tree_cell s) (tree_cell t)
+other-size s t outline found first size is other a b moved =
+    let m = first.middle in
+    let o = size m.box (record { inside = m.inside; at_left = m.at_left; at_right = m.at_right; at_top = m.at_top; at_bottom = m.at_bottom }) in
+    let h = as-large (tree_cell s) (tree_cell t) m.box found (around-middle (tree_cell s) m) (around-tree t found is) a b moved in
+    let oc = o.columns in
+    let or = o.rows in
+    let hc = h.columns in
+    let hr = h.rows in
+    other (record { columns = omega (arith, ints, oc, hc); rows = omega (arith, ints, or, hr) })
+
+-- two patterns in the middle, of which one is the other one, moved, are the same
+module _ (f g : ℤ → ℤ → ℕ) (first : IsInMiddle f) (second : IsInMiddle g) (a b : ℤ) (moved : IsMovedBy a b f g) where
+  one : IsBoxAround f first.box
+  one = around-middle f first
+
+  two : IsBoxAround g second.box
+  two = around-middle g second
+
   columns-stay : a ≡ pos 0
-  columns-stay = side-stays _ _ _ _ a left-moves right-moves first.across second.across
+  columns-stay =
+      side-stays _ _ _ _ a (left-moves f g _ _ one two a b moved) (right-moves f g _ _ one two a b moved) first.across second.across
 
   rows-stay : b ≡ pos 0
-  rows-stay = side-stays _ _ _ _ b top-moves bottom-moves first.down second.down
+  rows-stay =
+      side-stays _ _ _ _ b (top-moves f g _ _ one two a b moved) (bottom-moves f g _ _ one two a b moved) first.down second.down
 
   pub same-pattern : (x y : ℤ) → g x y ≡ f x y
   same-pattern x y =

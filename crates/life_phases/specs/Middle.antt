@@ -2,6 +2,7 @@
 use Rattle.std.specs.Prelude.{◌≡◌, ◌≢◌, ℕ, ◌≤◌, ℤ, pos, negsuc, neg_ℤ, ◌+ℤ◌, ◌≤ℤ◌}
 use Rattle.life_base.specs.Tree.{Tree, depth, tree_cell}
 use Rattle.life_base.specs.declared.bounds.Bounds.{Bounds}
+use Rattle.life_quad.specs.Cells.{IsBoundingBoxOfTree}
 use Rattle.life_quad.specs.Moves.{trimmed_square}
 use Rattle.life_phases.specs.declared.middle.Shift.{Shift}
 
@@ -32,6 +33,15 @@ pub record IsInMiddle (cells : ℤ → ℤ → ℕ) : Type 0 where
   pub at_bottom : (x : ℤ) × (cells x box.bottom ≢ 0)
   pub across : IsMiddleSide box.left box.right
   pub down : IsMiddleSide box.top box.bottom
+
+-- the boxes have as many columns, and as many rows
+pub record AreAsLarge (p q : Bounds) : Type 0 where
+  pub columns : p.right +ℤ q.left ≡ q.right +ℤ p.left
+  pub rows : p.bottom +ℤ q.top ≡ q.bottom +ℤ p.top
+
+-- the box is as large as that of the square's cells
+abbrev pub IsAsLargeAs : Bounds → Tree → Type 0
+IsAsLargeAs outline t = (box : Bounds) → IsBoundingBoxOfTree t box → AreAsLarge outline box
 
 -- so far a box moves to the middle of the plane
 pub record IsMiddleWay (box : Bounds) (way : Shift) : Type 0 where

@@ -12,18 +12,21 @@
 //! An example: with the square of a glider, `period_of(alloc, &store, &rule, glider, 100)` returns 4 generations, 1 column and 1 row. With 3 in place of 100 it
 //! returns `None`.
 //!
-//! Inside, the pattern is moved to the middle of the plane, and stepped from there one generation after another. Each phase is moved to the middle in a store
-//! of its own, so that two phases are shifts of each other exactly if they have one Id. No cells and no texts are compared.
+//! Inside, the pattern is moved to the middle of the plane, and stepped from there one generation after another ([`next_phase`]). Each phase whose box is as
+//! large as that of the pattern is moved to the middle in a store of its own, so that two phases are shifts of each other exactly if they have one Id. No cells
+//! and no texts are compared.
 //!
-//! It doesn't know files, the generation that a pattern is in, what people call a pattern, or rules by tables. It steps by `life_later`, and moves by
-//! `life_slide`. Above it, `life_periods` finds the period of a file, and `life_phase_forms` writes one text for all phases of a pattern.
+//! It doesn't know files, the generation that a pattern is in, what people call a pattern, or rules by tables. It steps small squares by `life_block` and
+//! others by `life_later`, and moves them by `life_slide`. Above it, `life_periods` finds the period of a file, and `life_phase_forms` writes one text for all phases of a pattern.
 //!
 //! Read first: `specs/Periods.antt` (`HasPeriod` says what a period is), `specs/Laws.antt`, and `src/period.rt`.
 #![tactic(auto)]
 
 pub mod laws;
 mod middle;
+mod next;
 mod period;
 
 pub use middle::{Shift, in_middle, way_to_middle};
+pub use next::next_phase;
 pub use period::{Period, period_of};

@@ -1,6 +1,6 @@
 //! Patterns, moved to the middle of the plane.
-ghost use Rattle.std.specs.Prelude.{◌≡◌, ◌-◌, ◌≤◌, ◌^◌, pos, neg_ℤ, ◌+ℤ◌, ◌<ℤ◌, ◌≤ℤ◌, IfOk, IfErr};
-ghost use Rattle.life_phases.specs.Words.{depth, tree_cell, IsBoundingBoxOfTree, IsBoxOnPlane, IsMiddleSide, IsSquareInMiddle, IsMiddleWay, IsMovedBy, KeepsStore, IsShortageIn};
+ghost use Rattle.std.specs.Prelude.{◌≡◌, true, ◌-◌, ◌≤◌, ◌^◌, pos, neg_ℤ, ◌+ℤ◌, ◌<ℤ◌, ◌≤ℤ◌, IfOk, IfErr};
+ghost use Rattle.life_phases.specs.Words.{depth, tree_cell, IsBoundingBoxOfTree, IsBoxOnPlane, IsMiddleSide, IsSquareInMiddle, AreAsLarge, IsMiddleWay, IsMovedBy, KeepsStore, IsShortageIn};
 
 use life_base::{Bounds, Kind};
 use life_quad::laws::trimming_keeps_cells;
@@ -9,7 +9,7 @@ use life_slide::square_at;
 use std::alloc::Global;
 
 /// The least level to which a square in the middle is trimmed. The next generation requires this level or more.
-const LEAST_LEVEL: u8 = 3;
+pub(crate) const LEAST_LEVEL: u8 = 3;
 
 /// How far cells move: so many columns east and so many rows south.
 #[derive(Clone, Copy, Debug, PartialEq, Eq)]
@@ -40,6 +40,15 @@ pub fn way_to_middle(found: &Bounds) -> Shift
         columns: side_to_middle(found.left, found.right),
         rows: side_to_middle(found.top, found.bottom),
     }
+}
+
+/// Whether two boxes on the plane have as many columns, and as many rows.
+pub(crate) fn are_as_large(a: &Bounds, b: &Bounds) -> bool
+    requires a { IsBoxOnPlane a.now }
+    requires b { IsBoxOnPlane b.now }
+    ensures { AreAsLarge a.now b.now → result ≡ true }
+{
+    a.right - a.left == b.right - b.left && a.bottom - a.top == b.bottom - b.top
 }
 
 /// Half of the side of a square of this level.

@@ -1,10 +1,10 @@
 //! The period of a pattern: one generation after another, until a phase is a shift of the first one.
 ghost use Rattle.std.specs.Prelude.{◌≡◌, ◌≢◌, ℤ, ◌+◌, ◌<◌, ◌≤◌, true, false, Some, None, IfOk, IfErr, MatchOption};
-ghost use Rattle.life_phases.specs.Words.{content, depth, tree_cell, IsKnownInShared, IsSquareInMiddle, IsMovedBy, IsPeriodFault, IsPeriodUpTo, IsFirstFault, IsShortageKind, KeepsShared, LeavesFirst, LeavesFromMiddle, NoShift, still_life, stored_squares};
+ghost use Rattle.life_phases.specs.Words.{content, depth, tree_cell, IsAsLargeAs, IsBoxOnPlane, IsKnownInShared, IsSquareInMiddle, IsMovedBy, IsPeriodFault, IsPeriodUpTo, IsFirstFault, IsShortageKind, KeepsShared, LeavesFirst, LeavesFromMiddle, NoShift, still_life, stored_squares};
 
-use crate::middle::{Shift, in_middle, way_to_middle};
-use life_base::{Fault, Kind, LifeRule};
-use life_later::later;
+use crate::middle::{Shift, are_as_large, in_middle, way_to_middle};
+use crate::next::next_phase;
+use life_base::{Bounds, Fault, Kind, LifeRule};
 use life_quad::{Id, Shared, SharedSquares, bounds, is_blank};
 use std::alloc::Global;
 
@@ -24,16 +24,20 @@ fn is_same(a: Id, b: Id) -> bool
 }
 
 /// How far the cells of the first square are moved in the second one, if the second one has the same cells but for that. The first square is in the middle of
-/// the plane and has a cell. The second one is moved there too, in the store of the first one.
+/// the plane and has a cell, and its box is as large as the given one. If the second one's box is too, the second one is moved there, in the store of the first
+/// one.
 fn shift_to(
     alloc: Global,
     middles: &mut Shared,
     first: Id,
+    outline: &Bounds,
     course: &Shared,
     now: Id,
 ) -> Result<Option<Shift>, Kind>
     requires first { IsKnownInShared middles.old first }
     requires middle { IsSquareInMiddle (content middles.old first) }
+    requires plane { IsBoxOnPlane outline.now }
+    requires outline { IsAsLargeAs outline.now (content middles.old first) }
     requires now { IsKnownInShared course.now now }
     requires low { 3 ≤ depth (content course.now now) }
     ensures shift { IfOk result (λ found. MatchOption found
@@ -47,6 +51,9 @@ fn shift_to(
     let Some(found) = bounds(alloc, course, now)? else {
         return Ok(None);
     };
+    if !are_as_large(outline, &found) {
+        return Ok(None);
+    }
     let way = way_to_middle(&found);
     let id = in_middle(alloc, course, middles, now, &found, way)?;
     if is_same(id, first) {
@@ -59,7 +66,7 @@ fn shift_to(
 }
 
 /// The least period of a square in the middle of the plane that has a cell. The other square has the same cells, in the store of the phases that are moved to
-/// the middle.
+/// the middle, and its box is as large as the given one.
 fn first_period(
     alloc: Global,
     course: &mut Shared,
@@ -67,6 +74,7 @@ fn first_period(
     rule: &LifeRule,
     start: Id,
     first: Id,
+    outline: &Bounds,
     most: u64,
 ) -> Result<Option<Period>, Fault>
     requires start { IsKnownInShared course.old start }
@@ -74,6 +82,8 @@ fn first_period(
     requires states { (x y : ℤ) → tree_cell (content course.old start) x y < 2 }
     requires first { IsKnownInShared middles.old first }
     requires middle { IsSquareInMiddle (content middles.old first) }
+    requires plane { IsBoxOnPlane outline.now }
+    requires outline { IsAsLargeAs outline.now (content middles.old first) }
     requires same { (x y : ℤ) → tree_cell (content middles.old first) x y
         ≡ tree_cell (content course.old start) x y }
     ensures period { IfOk result (IsPeriodUpTo rule.now (tree_cell (content course.old start))
@@ -88,11 +98,11 @@ fn first_period(
     let mut now = start;
     let mut done = 0;
     while done < most {
-        let next = later(alloc, course, rule, now, 1)?;
+        let next = next_phase(alloc, course, rule, now)?;
         if is_blank(&*course, next) {
             return Ok(None);
         }
-        let found = shift_to(alloc, middles, first, &*course, next)?;
+        let found = shift_to(alloc, middles, first, outline, &*course, next)?;
         if let Some(shift) = found {
             return Ok(Some(Period {
                 generations: done + 1,
@@ -159,5 +169,14 @@ pub fn period_of(
     let start = in_middle(alloc, squares, &mut course, root, &found, way)?;
     let mut middles = Shared::seeded(alloc, squares.seed(), squares.limit());
     let first = in_middle(alloc, squares, &mut middles, root, &found, way)?;
-    first_period(alloc, &mut course, &mut middles, rule, start, first, most)
+    first_period(
+        alloc,
+        &mut course,
+        &mut middles,
+        rule,
+        start,
+        first,
+        &found,
+        most,
+    )
 }

@@ -1,10 +1,10 @@
 //! Tests of `phases_text`: patterns whose phases are known from the field or were worked out by hand, and what is refused.
 use super::*;
-use crate::are_phases;
+use crate::{FaultOfTwo, are_phases};
 use life_base::Kind;
-use life_canon::laws::patterns_stay;
-use life_canon::read;
+use life_pattern::laws::patterns_stay;
 use life_quad::Seed;
+use life_reader::read;
 
 // How many squares a store may hold.
 const SPACE: u64 = 100_000;
@@ -54,19 +54,35 @@ fn have_period(alloc: Global, first: &[u8], second: &[u8], period: u64) -> bool 
 }
 
 // Whether two files, read into one store, are the same up to their phases.
-fn compare(alloc: Global, first: &[u8], second: &[u8], most: u64) -> Result<bool, Fault> {
+fn compare(
+    alloc: Global,
+    first: &[u8],
+    second: &[u8],
+    most: u64,
+) -> Result<Result<bool, FaultOfTwo>, Fault> {
     let mut store = Shared::seeded(alloc, Seed::fixed(), SPACE);
     patterns_stay();
     let one = read(alloc, &mut store, first)?;
     let other = read(alloc, &mut store, second)?;
-    are_phases(alloc, &store, &one, &other, most)
+    Ok(are_phases(alloc, &store, &one, &other, most))
 }
 
 // Whether the answer is this one.
-fn is_answer(given: Result<bool, Fault>, wanted: bool) -> bool {
+fn is_answer(given: Result<Result<bool, FaultOfTwo>, Fault>, wanted: bool) -> bool {
     match given {
-        Ok(answer) => answer == wanted,
-        Err(_) => false,
+        Ok(Ok(answer)) => answer == wanted,
+        _ => false,
+    }
+}
+
+// Whether one of two files leaves the plane, and it is the second exactly if `of_second` is true.
+fn leaves(given: Result<Result<bool, FaultOfTwo>, Fault>, of_second: bool) -> bool {
+    match given {
+        Ok(Err(refused)) => {
+            refused.fault.kind.number() == Kind::OutOfPlane.number()
+                && refused.of_second == of_second
+        }
+        _ => false,
     }
 }
 
@@ -190,6 +206,10 @@ fn patterns_are_refused(rt: HostRuntime) {
     let narrow: &[u8] =
         b"#CXRLE Pos=-2305843009213693951,0\nx = 4611686018427387902, y = 3\no4611686018427387900bo$o4611686018427387900bo$o4611686018427387900bo!\n";
     assert!(rt; text_of(alloc, narrow, 1000).is_ok());
+    // Of two patterns, the first that leaves the plane is reported.
+    assert!(rt; leaves(compare(alloc, wide, narrow, 1), false));
+    assert!(rt; leaves(compare(alloc, narrow, wide, 1), true));
+    assert!(rt; leaves(compare(alloc, wide, wide, 1), false));
 }
 
 #[test]

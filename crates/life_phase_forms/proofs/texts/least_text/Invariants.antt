@@ -3,8 +3,8 @@ use Rattle.life_base.specs.Tree.{tree_cell}
 use Rattle.life_base.specs.declared.cell.TheConstants.{MAX_LEVEL}
 use Rattle.life_base.specs.declared.rule.Rule.TheVariants.{Life}
 use Rattle.life_quad.specs.Store.{content}
-use Rattle.life_canon.specs.Store.{IsTrimmed}
-use Rattle.life_canon.specs.Universe.{square_universe}
+use Rattle.life_pattern.specs.Store.{IsTrimmed}
+use Rattle.life_pattern.specs.Universe.{square_universe}
 use Rattle.life_leap.specs.After.{after}
 use Rattle.life_phase_forms.specs.Phases.{IsLeastOfPhases}
 use Rattle.life_phase_forms.proofs.texts.least_text.Given as goal

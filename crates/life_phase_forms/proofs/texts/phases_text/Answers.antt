@@ -4,7 +4,7 @@ use Rattle.life_base.specs.Tree.{depth}
 use Rattle.life_mc.specs.Macrocell.{largest_state}
 use Rattle.life_mc.specs.Squares.{HasStatesUpTo}
 use Rattle.life_quad.specs.Store.{content}
-use Rattle.life_canon.specs.Universe.{least_level}
+use Rattle.life_pattern.specs.Universe.{least_level}
 use Rattle.life_phase_forms.proofs.FileLemmas.{aperiodic-text, named-text, period-refused, periodic-text, text-under, trimmed-again}
 use Rattle.life_phase_forms.proofs.PhaseLemmas.{trimmed-binary}
 use Rattle.life_phase_forms.proofs.texts.phases_text.Goals as goal

@@ -38,7 +38,7 @@ returns-then-is_blank-clause-period c =
     let rule = c.args.rule.now in
     let n = c.in_ok-next.ensures in
     let s = content c.args.course.now c.args.start in
-    let u = content c.later.new.squares c.in_ok-next.next in
+    let u = content c.next_phase.new.course c.in_ok-next.next in
     let low = n.low in
     let quiet = ap (λ (d : OuterTotalistic). has_digit d.sets.births 0) (sym c.rule.view_is) ∙ c.rule.invariant.no_birth_on_zero in
     none-after_death rule (tree_cell s) c.loop-done.done inv.none (content c.args.middles.now c.args.first) u c.requires.same
@@ -51,7 +51,7 @@ returns-then-is_blank-clause-stays c =
     let rule = c.args.rule.now in
     let n = c.in_ok-next.ensures in
     let s = content c.args.course.now c.args.start in
-    let u = content c.later.new.squares c.in_ok-next.next in
+    let u = content c.next_phase.new.course c.in_ok-next.next in
     let low = n.low in
     let quiet = ap (λ (d : OuterTotalistic). has_digit d.sets.births 0) (sym c.rule.view_is) ∙ c.rule.invariant.no_birth_on_zero in
     stays-after_death rule (tree_cell s) c.loop-done.done inv.none (content c.args.middles.now c.args.first) u c.requires.same
@@ -65,7 +65,7 @@ returns-in-Some-clause-stays c =
     let n = c.in_ok-next.ensures in
     let s = content c.args.course.now c.args.start in
     let t = content c.loop-done.course c.loop-done.now in
-    let u = content c.later.new.squares c.in_ok-next.next in
+    let u = content c.next_phase.new.course c.in_ok-next.next in
     let same = (inv.keeps.contents _ c.requires.first).1 in
     let moved = rw c.in-Some.is at c.in_ok-found.ensures.shift in
     stays-here rule (tree_cell s) c.loop-done.done inv.none (content c.loop-done.middles c.args.first) u
@@ -85,7 +85,7 @@ returns-in-Some-clause-period c =
     let rule = c.args.rule.now in
     let n = c.in_ok-next.ensures in
     let s = content c.args.course.now c.args.start in
-    let u = content c.later.new.squares c.in_ok-next.next in
+    let u = content c.next_phase.new.course c.in_ok-next.next in
     let same = (inv.keeps.contents _ c.requires.first).1 in
     let moved = rw c.in-Some.is at c.in_ok-found.ensures.shift in (
       omega (arith, l),
@@ -103,7 +103,7 @@ loop-done-preserved c =
     let n = c.in_ok-next.ensures in
     let s = content c.args.course.now c.args.start in
     let t = content c.loop-done.course c.loop-done.now in
-    let u = content c.later.new.squares c.in_ok-next.next in
+    let u = content c.next_phase.new.course c.in_ok-next.next in
     let same = (inv.keeps.contents _ c.requires.first).1 in
     let unmoved = rw c.in_default.is at c.in_ok-found.ensures.shift in
     let later = one-later rule c.loop-done.done s t u inv.later n.later in

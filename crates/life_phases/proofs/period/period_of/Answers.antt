@@ -6,7 +6,7 @@ use Rattle.life_base.specs.Tree.{tree_cell}
 use Rattle.life_quad.proofs.LawLemmas.{known_squares_are_full}
 use Rattle.life_quad.specs.Store.{content}
 use Rattle.life_later.proofs.CourseLemmas.{blank-cells, box-on_plane}
-use Rattle.life_phases.proofs.MiddleLemmas.{columns-order, rows-order}
+use Rattle.life_phases.proofs.MiddleLemmas.{columns-order, moved-as-large, rows-order}
 use Rattle.life_phases.proofs.PeriodLemmas.{blank-period, blank-stays_there, fault-back, moved-binary, moved-twice, period-back, shortage-back, stays-back}
 use Rattle.life_phases.proofs.period.period_of.Goals as goal
 
@@ -75,3 +75,16 @@ returns-clause-refusals c =
     IfErr-weaker c.first_period.result _ _
     (λ fault h. fault-back c.args.rule.now c.args.most _ _ _ _ c.in_ok-start.ensures.moved c.in_ok-start.ensures.middle.middle fault h)
     c.first_period.ensures.refusals
+
+pub first_period-requires-clause-plane : goal.first_period-requires-clause-plane
+first_period-requires-clause-plane c =
+    let t = content c.args.squares.now c.args.root in
+    let low = c.requires.low in
+    let box = rw c.in-Some.is at c.in_ok-found.ensures.least in
+    box-on_plane t c.in-Some.found (omega (arith, low)) (known_squares_are_full _ _ c.requires.known.0).1 box
+
+pub first_period-requires-clause-outline : goal.first_period-requires-clause-outline
+first_period-requires-clause-outline c =
+    let t = content c.args.squares.now c.args.root in
+    let box = rw c.in-Some.is at c.in_ok-found.ensures.least in
+    moved-as-large t (content c.in_middle-2.new.to c.in_ok-first.first) c.in-Some.found _ _ box c.in_ok-first.ensures.moved

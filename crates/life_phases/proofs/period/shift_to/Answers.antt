@@ -1,9 +1,9 @@
-use Rattle.std.proofs.Common.{◌≡◌, ◌^◌, ◌-ℤ◌, ◌≤ℤ◌, ℤ, pos, neg_ℤ, sym, ◌∙◌, ap, arith, to_z, of_z, w64}
+use Rattle.std.proofs.Common.{◌≡◌, ◌^◌, ◌-ℤ◌, ◌≤ℤ◌, ℤ, pos, neg_ℤ, sym, ◌∙◌, ap, true≢false, arith, to_z, of_z, w64}
 use Rattle.std.proofs.lemmas.Int.{ints}
 use Rattle.life_quad.proofs.LawLemmas.{equal_squares_have_one_id, known_squares_are_full}
 use Rattle.life_quad.specs.Store.{content}
 use Rattle.life_later.proofs.CourseLemmas.{blank-cells, box-on_plane}
-use Rattle.life_phases.proofs.MiddleLemmas.{columns-order, columns-way, rows-order, rows-way}
+use Rattle.life_phases.proofs.MiddleLemmas.{columns-order, columns-way, other-size, rows-order, rows-way}
 use Rattle.life_phases.proofs.PeriodLemmas.{none-moved, other-moved, same-moved}
 use Rattle.life_phases.proofs.period.shift_to.Goals as goal
 
@@ -84,3 +84,17 @@ returns-clause-shift c =
     other-moved s t here way.columns way.rows id.moved c.requires.middle id.middle (known_squares_are_full _ _ c.requires.first.0).0
     (known_squares_are_full _ _ id.known.0).0
     (λ e. c.is_same.ensures.other c.if-is_same.false (equal_squares_have_one_id c.in_middle.new.to id.known.1 _ _ id.known.0 kept.0.0 (sym e ∙ sym kept.1)))
+
+pub are_as_large-requires-clause-b : goal.are_as_large-requires-clause-b
+are_as_large-requires-clause-b c =
+    let t = content c.args.course.now c.args.now in
+    let low = c.requires.low in
+    let box = rw c.in-Some.is at c.in_ok-found.ensures.least in
+    box-on_plane t c.in-Some.found (omega (arith, low)) (known_squares_are_full _ _ c.requires.now.0).1 box
+
+pub returns-then-not-are_as_large-clause-shift : goal.returns-then-not-are_as_large-clause-shift
+returns-then-not-are_as_large-clause-shift c =
+    let t = content c.args.course.now c.args.now in
+    let box = rw c.in-Some.is at c.in_ok-found.ensures.least in
+    other-size (content c.args.middles.now c.args.first) t c.args.outline.now c.in-Some.found c.requires.middle c.requires.outline box
+    (λ large. true≢false (sym (c.are_as_large.ensures large) ∙ c.if-not-are_as_large.true))
