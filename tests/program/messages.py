@@ -356,7 +356,6 @@ def explained(fault, where, text, advice, meaning=None):
 
 IN_PAIR = ("child.mc, line 4", "4 0 0 0 9", LOST)
 IN_INPUT = ("standard input, line 4", None, LOST)
-IN_EITHER = ("one of the two files, line 4", None, LOST)
 # Three cells in a column at each side of the plane: lying, they are too wide for it.
 WIDE = b"#CXRLE Pos=-2305843009213693952,0\nx = 1, y = 3\no4611686018427387902bo$o4611686018427387902bo$o4611686018427387902bo!\n"
 GROWS_OUT = "Before it is the same again, the pattern grows out of the plane, which goes from -2^61 to 2^61 - 1."
@@ -374,7 +373,7 @@ OTHERS = [
     (["same", "child.mc", "-"], PAIR_TEXT, 2, "line 4: BadChild", IN_PAIR),
     (["same", "pair", "-"], CHILD, 2, "line 4: BadChild", IN_INPUT),
     (["same", "-", "pair"], CHILD, 2, "line 4: BadChild", IN_INPUT),
-    (["same", "-", "child.mc"], CHILD, 2, "line 4: BadChild", IN_EITHER),
+    (["same", "-", "child.mc"], CHILD, 2, "line 4: BadChild", IN_INPUT),
     (["same", "child.mc", "bad.rle"], b"", 2, "line 4: BadChild", IN_PAIR),
     (["convert", "--to", "rle", "many.rle"], b"", 2, "TooManyCells", ("many.rle", None, "The commands canon and keys have no such limit.")),
     (["step", "named.rle"], b"", 2, "NeedsTable", ("named.rle", None, "Name the rule table: golly_canon step --table NAME.rule FILE.")),

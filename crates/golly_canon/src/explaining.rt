@@ -3,70 +3,27 @@
 use crate::escaping::{push_all, push_visible};
 use crate::item_marks::push_item_mark;
 use crate::opening::ReservedStreams;
-use crate::rereading::{SHOWN, foreign, line, reopen, unreadable};
+use crate::rereading::{SHOWN, foreign, line, unreadable};
 use crate::watching::push_warning;
 use file_hints::{Foreign, Warning, is_text, sentence};
-use life_base::{Device, Fault, Kind};
+use life_base::{Fault, Kind};
+use life_cli::Refusal;
 use life_cli::plans::{Form, Task, TaskPlan};
-use life_cli::{Refusal, Seeds, carry_out};
 use std::alloc::AllocError;
-use std::fs::File;
-use std::io::{Write, sink};
+use std::io::Write;
 
 /// The file that a fault is in.
 #[derive(Clone, Copy)]
 enum Place<'a> {
-    /// None, or it isn't known which one.
+    /// None.
     Nowhere,
     /// The file of this name, or standard input. It was wanted as a rule table, or as a pattern.
     File { name: &'a str, is_table: bool },
-    /// One of two, and it isn't known which one.
-    OneOfTwo,
 }
 
 /// Whether the fault of a step by a rule table is in the table.
 fn is_of_table(refusal: &Refusal) -> bool {
     refusal.in_table || matches!(refusal.fault.kind, Kind::Ambiguous)
-}
-
-/// Whether a file is refused with this fault when it is read alone; nothing where it can't be read again.
-fn is_refused_alone(
-    rt: &HostRuntime,
-    seeds: &Seeds,
-    form: Form,
-    name: &str,
-    fault: &Fault,
-) -> Option<bool> {
-    let mut first = Device::new(reopen(rt, name)?);
-    let mut second: Option<Device<File>> = None;
-    let mut out = Device::new(sink());
-    let task = Task::Canon(form);
-    match carry_out(rt.alloc(), seeds, &task, &mut first, &mut second, &mut out) {
-        Ok(_) => Some(false),
-        Err(refusal) => match refusal.fault.kind {
-            Kind::Memory | Kind::Full | Kind::ReadFault => None,
-            _ => Some(refusal.fault == *fault),
-        },
-    }
-}
-
-/// The one of two compared files that a fault is in. That of the first file comes before that of the second.
-fn place_of_two<'a>(
-    rt: &HostRuntime,
-    seeds: &Seeds,
-    form: Form,
-    names: (&'a str, &'a str),
-    fault: &Fault,
-) -> Place<'a> {
-    let (first, second) = names;
-    match is_refused_alone(rt, seeds, form, first, fault) {
-        Some(true) => Place::pattern(first),
-        Some(false) => Place::pattern(second),
-        None => match is_refused_alone(rt, seeds, form, second, fault) {
-            Some(false) => Place::pattern(first),
-            _ => Place::OneOfTwo,
-        },
-    }
 }
 
 impl<'a> Place<'a> {
@@ -79,7 +36,7 @@ impl<'a> Place<'a> {
     }
 
     /// The place of a fault.
-    fn of(rt: &HostRuntime, seeds: &Seeds, plan: &'a TaskPlan, refusal: &Refusal) -> Place<'a> {
+    fn of(plan: &'a TaskPlan, refusal: &Refusal) -> Place<'a> {
         if matches!(
             refusal.fault.kind,
             Kind::Full | Kind::Memory | Kind::WriteFault | Kind::ReadFault
@@ -92,7 +49,7 @@ impl<'a> Place<'a> {
         };
         let second = second.as_str();
         match plan.task {
-            Task::Same(form) => place_of_two(rt, seeds, form, (first, second), &refusal.fault),
+            Task::Same(_) if refusal.of_second => Place::pattern(second),
             _ if is_of_table(refusal) => Place::File {
                 name: second,
                 is_table: true,
@@ -105,7 +62,7 @@ impl<'a> Place<'a> {
     fn foreign(self, rt: &HostRuntime) -> Option<Foreign> {
         match self {
             Place::File { name, is_table } => foreign(rt, name, is_table),
-            _ => None,
+            Place::Nowhere => None,
         }
     }
 
@@ -200,7 +157,6 @@ fn push_place(
     match place {
         Place::Nowhere => return Ok(()),
         Place::File { name, .. } => push_file(text, name)?,
-        Place::OneOfTwo => text.extend_from_slice(b"one of the two files")?,
     }
     if number > 0 {
         let line = format!(in rt.alloc(); ", line {number}")?;
@@ -260,12 +216,11 @@ fn push_sentence(text: &mut Vec<u8>, sentence: &str) -> Result<(), AllocError> {
 /// What is said of a fault of a file, or of none.
 fn explanation(
     rt: &HostRuntime,
-    seeds: &Seeds,
     plan: &TaskPlan,
     refusal: &Refusal,
 ) -> Result<Vec<u8>, AllocError> {
     let mut text = Vec::new(rt.alloc());
-    let place = Place::of(rt, seeds, plan, refusal);
+    let place = Place::of(plan, refusal);
     let Fault { kind, place: at } = refusal.fault;
     push_place(rt, &mut text, place, at.line, refusal.made)?;
     let (sentence, help) = sentences_of(plan.task, &refusal.fault);
@@ -344,13 +299,12 @@ pub(crate) fn explain_unread(rt: &HostRuntime, streams: &ReservedStreams, plan: 
 pub(crate) fn explain(
     rt: &HostRuntime,
     streams: &ReservedStreams,
-    seeds: &Seeds,
     plan: &TaskPlan,
     refusal: &Refusal,
 ) {
     match refusal.fault.kind {
         Kind::ReadFault => explain_unread(rt, streams, plan),
-        _ => say(rt, explanation(rt, seeds, plan, refusal)),
+        _ => say(rt, explanation(rt, plan, refusal)),
     }
 }
 

@@ -21,7 +21,7 @@ fn open_file(rt: &HostRuntime, path: &str) -> IoResult<Option<File>> {
 }
 
 /// A file that can be read again. Standard input isn't one.
-pub(crate) fn reopen(rt: &HostRuntime, name: &str) -> Option<File> {
+fn reopen(rt: &HostRuntime, name: &str) -> Option<File> {
     if name == "-" {
         return None;
     }

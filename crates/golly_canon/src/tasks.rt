@@ -118,13 +118,12 @@ fn done<'a>(
 fn report_refusal(
     rt: &HostRuntime,
     streams: &ReservedStreams,
-    seeds: &Seeds,
     plan: &TaskPlan,
     refusal: &Refusal,
 ) -> u8 {
     tell(&mut Device::new(rt.stderr()), refusal);
     if is_explained(rt, plan) {
-        explain(rt, streams, seeds, plan, refusal);
+        explain(rt, streams, plan, refusal);
     }
     status(refusal.fault.kind)
 }
@@ -156,6 +155,6 @@ pub(crate) fn do_task(rt: &HostRuntime, streams: &ReservedStreams, plan: &TaskPl
             status
         }
         Err(refusal) if is_left.get() => status(refusal.fault.kind),
-        Err(refusal) => report_refusal(rt, streams, &seeds, plan, &refusal),
+        Err(refusal) => report_refusal(rt, streams, plan, &refusal),
     }
 }

@@ -7,11 +7,11 @@ use Rattle.life_base.specs.declared.cell.TheConstants.{MAX_LEVEL}
 use Rattle.life_base.specs.declared.fault.Fault.{Fault}
 use Rattle.life_base.specs.declared.kind.Kind.TheVariants.{Memory, ReadFault}
 use Rattle.life_quad.specs.Store.{Nodes}
-use Rattle.life_canon.specs.Calls.{ReadsInto}
-use Rattle.life_canon.specs.Running.{HoldsRead, ReadsPattern, ReadsSource, for_file}
-use Rattle.life_canon.specs.Running as reading
-use Rattle.life_canon.specs.Store.{IsRead, RefusesIn}
-use Rattle.life_canon.specs.declared.pattern.Pattern.{Pattern}
+use Rattle.life_reader.specs.Calls.{ReadsInto}
+use Rattle.life_reader.specs.Reading.{HoldsRead, ReadsPattern, ReadsSource, for_file}
+use Rattle.life_reader.specs.Reading as reading
+use Rattle.life_pattern.specs.Store.{IsRead, RefusesIn}
+use Rattle.life_pattern.specs.declared.pattern.Pattern.{Pattern}
 use Rattle.pattern_sources.specs.Sources.{ComesOf, InputRefuses, by_input, by_want}
 
 module _ (bytes : List ℕ) (source : SourceRun) (read : ReadAll (2 ^ 30) source.before source.after bytes) (works : source.failures ≡ 0) (old new : Nodes) where

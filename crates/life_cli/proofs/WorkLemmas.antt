@@ -10,24 +10,25 @@ use Rattle.life_base.specs.Tree.{Tree, is_blank_tree}
 use Rattle.life_base.specs.declared.cell.TheConstants.{MAX_LEVEL}
 use Rattle.life_base.specs.declared.fault.Fault.{Fault}
 use Rattle.life_base.specs.declared.kind.Kind.{Kind}
-use Rattle.life_base.specs.declared.kind.Kind.TheVariants.{Full, Memory, TooManyCells, ReadFault, InputTooLong, WriteFault}
+use Rattle.life_base.specs.declared.kind.Kind.TheVariants.{Full, Memory, OutOfPlane, TooManyCells, ReadFault, InputTooLong, WriteFault}
 use Rattle.life_base.specs.declared.rule.Rule.{Rule}
 use Rattle.life_quad.specs.Keeping.{AddsOnly}
 use Rattle.life_quad.specs.Store.{Nodes, stored_squares}
-use Rattle.life_canon.specs.Files.{Accepted, Reads, Refuses, is_file_kind}
-use Rattle.life_canon.specs.Laws.{RefusalsHaveKinds}
-use Rattle.life_canon.specs.Needs.{IsNew}
-use Rattle.life_canon.specs.ReadWhole.{ReadsWhole}
-use Rattle.life_canon.specs.Space.{IsSquareOfFile}
-use Rattle.life_canon.specs.Running.{AddsForRead, HasRead, ReadRefuses, ReadsPattern, ReadsSource}
-use Rattle.life_canon.specs.Running as reading
-use Rattle.life_canon.specs.Store.{IsRead, IsShortageOf, content}
-use Rattle.life_canon.specs.Texts.{FileHasMoreCells, IsRleOf, IsShownText}
-use Rattle.life_canon.specs.Universe.{Universe, whole}
-use Rattle.life_canon.specs.declared.pattern.Pattern.{Pattern}
+use Rattle.life_pattern.specs.Files.{Accepted, Reads, Refuses, is_file_kind}
+use Rattle.life_pattern.specs.Laws.{RefusalsHaveKinds}
+use Rattle.life_pattern.specs.Store.{IsNew}
+use Rattle.life_reader.specs.ReadWhole.{ReadsWhole}
+use Rattle.life_reader.specs.Space.{IsSquareOfFile}
+use Rattle.life_reader.specs.Reading.{AddsForRead, HasRead, ReadRefuses, ReadsPattern, ReadsSource}
+use Rattle.life_reader.specs.Reading as reading
+use Rattle.life_pattern.specs.Store.{IsRead, IsShortageOf, content}
+use Rattle.life_writer.specs.Texts.{FileHasMoreCells, IsRleOf, IsShownText}
+use Rattle.life_pattern.specs.Universe.{Universe, whole}
+use Rattle.life_pattern.specs.declared.pattern.Pattern.{Pattern}
 use Rattle.life_table.specs.Grammar.{IsPlainTable}
 use Rattle.life_table.specs.Reading.{RefusesTable}
 use Rattle.life_table.specs.declared.table.Table.{Table}
+use Rattle.pattern_forms.specs.Words.{FaultOfTwo}
 use Rattle.life_base.specs.declared.form.Form.{Form}
 use Rattle.life_base.specs.declared.form.Form.TheVariants.{Placed, Moved, Turned, Phases}
 use Rattle.command_line.specs.declared.plans.Task.{Task}
@@ -37,10 +38,10 @@ use Rattle.pattern_sources.specs.declared.refusals.Refusal.{Refusal}
 use Rattle.life_cli.specs.declared.jobs.Made.{Made}
 use Rattle.life_cli.specs.declared.jobs.Made.TheVariants.{Comparison, Text}
 use Rattle.pattern_sources.specs.Faults.{refusal_of}
-use Rattle.pattern_forms.specs.InForm.{AreSameIn, ForEachTwoFiles, OneFileLacksForm, RefusesFormFor, most_of_form}
+use Rattle.pattern_forms.specs.InForm.{AreSameIn, ForEachTwoFiles, IsFirstToLack, OneFileLacksForm, RefusesFormFor, most_of_form}
 use Rattle.pattern_sources.specs.Forms.{IsTextIn}
 use Rattle.command_line.specs.Plans.{HasSecond}
-use Rattle.life_cli.specs.Jobs.{WritesPlacedText, AreUncompared, by_first, by_second, by_form, by_first_shortage, by_second_shortage, Compares, made_text, made_status, HasAnswer, TaskMakes, TaskWrites, Worked, IsWrittenInPart, FileRefuses, by_comparing, by_reading, by_writing, by_telling, HasTextLaterByTable, IsSteppedTimes, MadeOf, RefusesFor, RefusesLifeStep, RefusesGenerations, HasTable, HasNoTable, table_by_input, table_by_lines, table_by_memory, CanonRefuses, OfFile, TaskRan, TaskRefuses}
+use Rattle.life_cli.specs.Jobs.{WritesPlacedText, AreUncompared, IsUncompared, by_first, by_second, by_first_file, by_second_file, by_form, by_first_shortage, by_second_shortage, Compares, made_text, made_status, HasAnswer, TaskMakes, TaskWrites, Worked, IsWrittenInPart, FileRefuses, by_comparing, by_reading, by_writing, by_telling, HasTextLaterByTable, IsSteppedTimes, MadeOf, RefusesFor, RefusesLifeStep, RefusesGenerations, HasTable, HasNoTable, table_by_input, table_by_lines, table_by_memory, CanonRefuses, IsPatternIn, OfFile, OfOneFile, TaskRan, TaskRefuses, refusal_in}
 use Rattle.life_generations.specs.Later.{IsTextLater}
 use Rattle.life_periods.specs.OfFile.{IsShownWithPeriod, RefusesPeriod, RefusesPeriodOfFile}
 use Rattle.life_step.specs.Refusals.{RefusesFile, RefusesPattern}
@@ -81,17 +82,50 @@ no_file base source store fault law (reading.by_want want) lacks k = inr (want, 
 no_file base source store fault law (reading.by_length is came) lacks k = inl (by_length is came)
 no_file base source store fault law (reading.by_source is failed) lacks k = inl (by_source is failed)
 
--- two files aren't compared
-pub no_first_input : (form : Form) (first second : SourceRun) (store : Nodes) (fault : Fault) → store.limit ≡ 2 ^ 31
-    → InputRefuses first fault ⊎ IsShortageFor [] first store fault → AreUncompared form first second fault
-no_first_input form first second store fault limit (inl unread) = by_first unread
-no_first_input form first second store fault limit (inr want) = by_first_shortage (inr (store, limit, want))
+-- a test that answers no
+pub not_so : (answer : Bool) (P : Type 0) → IsTrue answer ↔ P → answer ≡ false → ¬ P
+not_so true P is fails holds = absurd cc
+not_so false P is fails holds = let bad : false ≡ true = is.1 holds in absurd cc
 
-pub no_second_input : (form : Form) (first second : SourceRun) (a : List ℕ) (stored : List Tree) (store : Nodes) (fault : Fault)
+-- any other fault is one of the file
+pub no_pattern : (of_second : Bool) (old store : Nodes) (source : SourceRun) (fault : Fault) → ReadRefuses MAX_LEVEL (2 ^ 30) store source fault
+    → ¬ ((fault.kind ≡ ReadFault) ⊎ ((fault.kind ≡ InputTooLong) ⊎ ((fault.kind ≡ Full) ⊎ (fault.kind ≡ Memory))))
+    → IsPatternIn of_second old store source (Err (refusal_in of_second fault))
+no_pattern of_second old store source fault (reading.by_file bytes read h) other =
+    record { bytes = bytes; read = read; pattern = tt; adds = tt; fault = (refl, (refl, h)) }
+no_pattern of_second old store source fault (reading.by_want (inl memory)) other = absurd (other (inr (inr (inr (ap (λ (f : Fault). f.kind) memory)))))
+no_pattern of_second old store source fault (reading.by_want (inr full)) other = absurd (other (inr (inr (inl (ap (λ (f : Fault). f.kind) full.0)))))
+no_pattern of_second old store source fault (reading.by_length is came) other = absurd (other (inr (inl (ap (λ (f : Fault). f.kind) is))))
+no_pattern of_second old store source fault (reading.by_source is failed) other = absurd (other (inl (ap (λ (f : Fault). f.kind) is)))
+
+-- two files aren't compared
+pub no_first_input : (form : Form) (first second : SourceRun) (store : Nodes) (refusal : Refusal) → store.limit ≡ 2 ^ 31
+    → OfOneFile false (λ fault. InputRefuses first fault ⊎ IsShortageFor [] first store fault) refusal → IsUncompared form first second refusal
+no_first_input form first second store refusal limit h = (h.1.0, by h.1.1)
+  where
+    by : InputRefuses first refusal.fault ⊎ IsShortageFor [] first store refusal.fault → AreUncompared form first second refusal.of_second refusal.fault
+    by (inl unread) = by_first h.0 unread
+    by (inr want) = by_first_shortage (inr (store, limit, want))
+
+pub no_second_input : (form : Form) (first second : SourceRun) (a : List ℕ) (stored : List Tree) (store : Nodes) (refusal : Refusal)
     → ReadAll (2 ^ 30) first.before first.after a → AreOfInput [] first.before stored → store.limit ≡ 2 ^ 31
-    → InputRefuses second fault ⊎ IsShortageFor stored second store fault → AreUncompared form first second fault
-no_second_input form first second a stored store fault read are limit (inl unread) = by_second a read unread
-no_second_input form first second a stored store fault read are limit (inr want) = by_second_shortage a stored read are (inr (store, limit, want))
+    → OfOneFile true (λ fault. InputRefuses second fault ⊎ IsShortageFor stored second store fault) refusal → IsUncompared form first second refusal
+no_second_input form first second a stored store refusal read are limit h = (h.1.0, by h.1.1)
+  where
+    by : InputRefuses second refusal.fault ⊎ IsShortageFor stored second store refusal.fault
+        → AreUncompared form first second refusal.of_second refusal.fault
+    by (inl unread) = by_second h.0 a read unread
+    by (inr want) = by_second_shortage a stored read are (inr (store, limit, want))
+
+-- one of them is no file
+pub no_first_file : (form : Form) (first second : SourceRun) (a b : List ℕ) (refusal : Refusal) → ReadAll (2 ^ 30) first.before first.after a
+    → ReadAll (2 ^ 30) second.before second.after b → OfOneFile false (Refuses MAX_LEVEL a) refusal → IsUncompared form first second refusal
+no_first_file form first second a b refusal one two h = (h.1.0, by_first_file h.0 a b one two h.1.1)
+
+pub no_second_file : (form : Form) (first second : SourceRun) (a b : List ℕ) (refusal : Refusal) → ReadAll (2 ^ 30) first.before first.after a
+    → ReadAll (2 ^ 30) second.before second.after b → Accepted MAX_LEVEL a → OfOneFile true (Refuses MAX_LEVEL b) refusal
+    → IsUncompared form first second refusal
+no_second_file form first second a b refusal one two is h = (h.1.0, by_second_file h.0 a b one two is h.1.1)
 
 below_none : (k : ℕ) → k < 0 → ⊥
 below_none k lt = omega (arith, lt)
@@ -128,22 +162,35 @@ compared_files form first second a b answer one two first_is second_is have is =
 module _ (form : Form) (first second : SourceRun) (store : Nodes) (a b : List ℕ) (p q : Pattern) (limit : store.limit ≡ 2 ^ 31)
     (one : ReadAll (2 ^ 30) first.before first.after a) (two : ReadAll (2 ^ 30) second.before second.after b) (reads : IsRead MAX_LEVEL a store p)
     (others : IsRead MAX_LEVEL b store q) where
-  pub compared_in : (r : Result Bool Fault) → IfOk r (λ answer. ForEachTwoFiles store p q (λ f s. IsTrue answer ↔ AreSameIn form MAX_LEVEL f s))
+  pub compared_in : (r : Result Bool FaultOfTwo) (m : Result Made Refusal) → IfOk r (λ answer. m ≡ Ok (Comparison answer))
+      → IfErr r (λ it. m ≡ Err (refusal_in it.of_second it.fault))
+      → IfOk r (λ answer. ForEachTwoFiles store p q (λ f s. IsTrue answer ↔ AreSameIn form MAX_LEVEL f s))
       → OnOk r (ForEachTwoFiles store p q (λ f s. ¬ OneFileLacksForm form MAX_LEVEL (most_of_form store) f s))
-      → IfOk r (λ answer. TaskMakes (Same form) first second (Comparison answer))
-  compared_in (Ok answer) h have =
-      compared_files form first second a b answer one two (reads.universe, reads.reads) (others.universe, others.reads)
-      (subst (λ (n : ℕ). ¬ OneFileLacksForm form MAX_LEVEL (min (2 ^ 21) n) a b) limit (have a b reads others)) (h a b reads others)
-  compared_in (Err fault) h have = tt
+      → IfOk m (TaskMakes (Same form) first second)
+  compared_in (Ok answer) m made failed h have =
+      subst (λ (v : Result Made Refusal). IfOk v (TaskMakes (Same form) first second)) (sym made)
+      (compared_files form first second a b answer one two (reads.universe, reads.reads) (others.universe, others.reads)
+      (subst (λ (n : ℕ). ¬ OneFileLacksForm form MAX_LEVEL (min (2 ^ 21) n) a b) limit (have a b reads others)) (h a b reads others))
+  compared_in (Err it) m made failed h have = subst (λ (v : Result Made Refusal). IfOk v (TaskMakes (Same form) first second)) (sym failed) tt
 
-  pub uncompared_in : (r : Result Bool Fault) → IfErr r (λ fault. OrMemory fault
-      (ForEachTwoFiles store p q (λ f s. RefusesFormFor form (OneFileLacksForm form MAX_LEVEL (most_of_form store) f s) fault)))
-      → IfErr r (AreUncompared form first second)
-  uncompared_in (Ok answer) h = tt
-  uncompared_in (Err fault) (inl memory) = by_second_shortage a [] one (no_squares first a one) (inl memory)
-  uncompared_in (Err fault) (inr refuses) =
-      by_form a b one two (reads.universe, reads.reads) (others.universe, others.reads)
-      (subst (λ (n : ℕ). RefusesFormFor form (OneFileLacksForm form MAX_LEVEL (min (2 ^ 21) n) a b) fault) limit (refuses a b reads others))
+  pub uncompared_in : (r : Result Bool FaultOfTwo) (m : Result Made Refusal) → IfOk r (λ answer. m ≡ Ok (Comparison answer))
+      → IfErr r (λ it. m ≡ Err (refusal_in it.of_second it.fault))
+      → IfErr r (λ it. OrMemory it.fault
+      (ForEachTwoFiles store p q (λ f s. RefusesFormFor form (OneFileLacksForm form MAX_LEVEL (most_of_form store) f s) it.fault)))
+      → IfErr r (λ it. it.fault ≡ fault_of OutOfPlane
+      → ForEachTwoFiles store p q (λ f s. IsFirstToLack form MAX_LEVEL (most_of_form store) it.of_second f s))
+      → IfErr m (IsUncompared form first second)
+  uncompared_in (Ok answer) m made failed h whose = subst (λ (v : Result Made Refusal). IfErr v (IsUncompared form first second)) (sym made) tt
+  uncompared_in (Err it) m made failed h whose =
+      subst (λ (v : Result Made Refusal). IfErr v (IsUncompared form first second)) (sym failed) (refl, by h)
+    where
+      by : OrMemory it.fault (ForEachTwoFiles store p q (λ f s. RefusesFormFor form (OneFileLacksForm form MAX_LEVEL (most_of_form store) f s) it.fault))
+          → AreUncompared form first second it.of_second it.fault
+      by (inl memory) = by_second_shortage a [] one (no_squares first a one) (inl memory)
+      by (inr refuses) =
+          by_form a b one two (reads.universe, reads.reads) (others.universe, others.reads)
+          (subst (λ (n : ℕ). RefusesFormFor form (OneFileLacksForm form MAX_LEVEL (min (2 ^ 21) n) a b) it.fault) limit (refuses a b reads others))
+          (λ out. subst (λ (n : ℕ). IsFirstToLack form MAX_LEVEL (min (2 ^ 21) n) it.of_second a b) limit (whose out a b reads others))
 
 -- Nothing comes of a pattern that isn't stepped. `Of` says of a property that a square has it which the step needs of a root under a rule.
 module _ {X : Type 0} (Of : (Tree → Type 0) → Rule → Tree → Type 0) (refuses : List ℕ → Fault → Type 0) (source : SourceRun) (empty old new : Nodes)
@@ -274,14 +321,12 @@ made_of_text make items gives refuses task first second (Err fault) m is works a
     })
 
 -- of a comparison
-pub made_of_comparison : (form : Form) (first second : SourceRun) (r : Result Bool Fault) (m : Result Made Refusal)
-    → IfOk r (λ is_same. TaskMakes (Same form) first second (Comparison is_same)) → IfErr r (AreUncompared form first second)
-    → ((first.failures ≡ 1) ⊎ (second.failures ≡ 1) → IsErrAnd r (λ fault. fault.kind ≡ ReadFault))
-    → IfOk r (λ is_same. m ≡ Ok (Comparison is_same)) → IfErr r (λ f. m ≡ Err (refusal_of f)) → MadeOf (Same form) first second m
-made_of_comparison form first second (Ok is_same) m makes refuses reported made failed =
-    subst (MadeOf (Same form) first second) (sym made) (record { ok = makes; err = tt; reported = λ e. absurd (reported e) })
-made_of_comparison form first second (Err fault) m makes refuses reported made failed =
-    subst (MadeOf (Same form) first second) (sym failed) (record { ok = tt; err = λ output. (refl, by_comparing refuses); reported = reported })
+pub made_of_comparison : (form : Form) (first second : SourceRun) (m : Result Made Refusal) → IfOk m (TaskMakes (Same form) first second)
+    → IfErr m (IsUncompared form first second)
+    → ((first.failures ≡ 1) ⊎ (second.failures ≡ 1) → IsErrAnd m (λ refusal. refusal.fault.kind ≡ ReadFault)) → MadeOf (Same form) first second m
+made_of_comparison form first second (Ok made) makes refuses reported = record { ok = makes; err = tt; reported = reported }
+made_of_comparison form first second (Err refusal) makes refuses reported =
+    record { ok = tt; err = λ output. (refuses.0, by_comparing refuses.1); reported = reported }
 
 -- of a task by a table, where `gives` relates the bytes of a file to its text by a table
 pub made_of_step : {X : Type 0} (make : X → Made) (items : X → List ℕ) (gives : Table → List ℕ → List ℕ → Type 0) (refuses : Refusal → Type 0)
@@ -303,11 +348,6 @@ made_of_step make items gives refuses task first second (Ok x) m is writes refus
     })
 made_of_step make items gives refuses task first second (Err refusal) m is writes refused has none reported made failed =
     subst (MadeOf task first second) (sym failed) (record { ok = tt; err = λ output. refused output refusal none; reported = reported })
-
--- a test that answers no
-pub not_so : (answer : Bool) (P : Type 0) → IsTrue answer ↔ P → answer ≡ false → ¬ P
-not_so true P is fails holds = absurd cc
-not_so false P is fails holds = let bad : false ≡ true = is.1 holds in absurd cc
 
 -- what was made is written: the task is done
 worked : (task : Task) (first second : SourceRun) (output : SinkRun) (made : Made) → TaskMakes task first second made

@@ -1,5 +1,5 @@
 -- What a task writes, by the bytes of its files, and why it is refused.
-use Rattle.std.specs.Prelude.{◌≡◌, ◌⊎◌, ◌<◌, ◌^◌, ℕ, zero, suc, true, false, List, [], Option, Some, Result, IfOk, IfErr, OnOk, IsErrAnd, codes, if◌then◌else◌}
+use Rattle.std.specs.Prelude.{◌≡◌, ◌⊎◌, ◌<◌, ◌^◌, ℕ, zero, suc, Bool, true, false, List, [], Option, Some, Result, IfOk, IfErr, OnOk, IsErrAnd, codes, if◌then◌else◌}
 use Rattle.std.specs.Io.KnownBytes.{Appends}
 use Rattle.life_base.specs.DeviceRuns.{SourceRun, SinkRun}
 use Rattle.life_base.specs.Inputs.{ReadAll}
@@ -9,15 +9,15 @@ use Rattle.life_base.specs.Tree.{Tree}
 use Rattle.life_base.specs.Writing.{WritesPrefix}
 use Rattle.life_base.specs.declared.fault.Fault.{Fault}
 use Rattle.life_base.specs.declared.cell.TheConstants.{MAX_LEVEL}
-use Rattle.life_base.specs.declared.kind.Kind.TheVariants.{Full, Memory, ReadFault, WriteFault}
+use Rattle.life_base.specs.declared.kind.Kind.TheVariants.{Full, Memory, OutOfPlane, ReadFault, WriteFault}
 use Rattle.life_quad.specs.Store.{Nodes}
-use Rattle.life_canon.specs.Files.{Accepted, Reads, Refuses}
-use Rattle.life_canon.specs.Space.{AddsFile, IsSquareOfFile}
+use Rattle.life_pattern.specs.Files.{Accepted, Reads, Refuses}
+use Rattle.life_reader.specs.Space.{AddsFile, IsSquareOfFile}
 use Rattle.life_canon.specs.Running.{RunRefuses}
-use Rattle.life_canon.specs.Store.{IsRead, IsShortageOf}
-use Rattle.life_canon.specs.Texts.{IsCanonical, IsRleOf, IsShownText}
-use Rattle.life_canon.specs.Universe.{Universe}
-use Rattle.life_canon.specs.declared.pattern.Pattern.{Pattern}
+use Rattle.life_pattern.specs.Store.{IsRead, IsShortageOf}
+use Rattle.life_writer.specs.Texts.{IsCanonical, IsRleOf, IsShownText}
+use Rattle.life_pattern.specs.Universe.{Universe}
+use Rattle.life_pattern.specs.declared.pattern.Pattern.{Pattern}
 use Rattle.life_table.specs.Grammar.{IsPlainTable}
 use Rattle.life_table.specs.Reading.{RefusesTable}
 use Rattle.life_table.specs.declared.table.Table.{Table}
@@ -25,7 +25,7 @@ use Rattle.life_generations.specs.Later.{IsTextLater, LaterRefusal}
 use Rattle.life_periods.specs.OfFile.{IsShownWithPeriod, RefusesPeriodOfFile}
 use Rattle.life_step.specs.Refusals.{LifeRefusal, SomeOfNextFile, SomeOfNextFileBy, TableRefusal}
 use Rattle.life_step.specs.Stepped.{IsStepped, IsSteppedBy}
-use Rattle.pattern_forms.specs.InForm.{AreSameIn, OneFileLacksForm, RefusesFormFor}
+use Rattle.pattern_forms.specs.InForm.{AreSameIn, IsFirstToLack, OneFileLacksForm, RefusesFormFor}
 use Rattle.pattern_sources.specs.Sources.{AreOfInput, HasNoText, HasText, InputRefuses, IsTooSmallFor, RefusesInForm, RefusesMany, IsSourceShortage, IsCallShortage}
 use Rattle.pattern_sources.specs.Forms.{IsTextIn}
 use Rattle.command_line.specs.Plans.{HasSecond}
@@ -111,14 +111,26 @@ pub data FileRefuses (gives : List ℕ → List ℕ → Type 0) (refuses : List 
   by_reading : HasNoText refuses source fault → FileRefuses gives refuses source output fault
   by_writing : (text : List ℕ) → HasText gives source text → IsWrittenInPart output text fault → FileRefuses gives refuses source output fault
 
--- All of a file was read, the store has its pattern, and no square was stored since it was `old` but such as the file needs; or this is the fault of
--- the file.
-pub record IsPatternIn (old store : Nodes) (source : SourceRun) (found : Result Pattern Fault) : Type 0 where
+-- no table was being read, and the fault comes for this reason
+abbrev pub OfFile : (Fault → Type 0) → Refusal → Type 0
+OfFile refuses refusal = (refusal.in_table ≡ false) × refuses refusal.fault
+
+-- the same of one of two pattern files: of the second one if the flag says so
+abbrev pub OfOneFile : (of_second : Bool) → (Fault → Type 0) → Refusal → Type 0
+OfOneFile of_second refuses refusal = (refusal.of_second ≡ of_second) × OfFile refuses refusal
+
+-- the refusal with the fault of one of two pattern files
+abbrev pub refusal_in : (of_second : Bool) → Fault → Refusal
+refusal_in of_second fault = record { fault = fault; in_table = false; of_second = of_second; made = 0 }
+
+-- All of a file was read, the store has its pattern, and no square was stored since it was `old` but such as the file needs; or this is the refusal of
+-- the file, which is the second of two if the flag says so.
+pub record IsPatternIn (of_second : Bool) (old store : Nodes) (source : SourceRun) (found : Result Pattern Refusal) : Type 0 where
   pub bytes : List ℕ
   pub read : ReadAll (2 ^ 30) source.before source.after bytes
   pub pattern : IfOk found (IsRead MAX_LEVEL bytes store)
   pub adds : OnOk found (AddsFile bytes old store)
-  pub fault : IfErr found (Refuses MAX_LEVEL bytes)
+  pub fault : IfErr found (OfOneFile of_second (Refuses MAX_LEVEL bytes))
 
 -- why two files aren't compared in a form: one of their patterns has none
 abbrev pub RefusesSame : Form → List ℕ → List ℕ → Fault → Type 0
@@ -126,23 +138,31 @@ RefusesSame form a b fault = RefusesFormFor form (OneFileLacksForm form MAX_LEVE
 
 -- Why two files aren't compared: the first isn't read; all of it was read, and the second isn't; all of both was read, and the first is no
 -- file, or it is one and the second isn't, or both are, and aren't compared in the form; or the store is full or memory is refused for the first, or, once all
--- of it was read, for the second.
-pub data AreUncompared (form : Form) (first second : SourceRun) (fault : Fault) : Type 0 where
-  by_first : InputRefuses first fault → AreUncompared form first second fault
-  by_second : (a : List ℕ) → ReadAll (2 ^ 30) first.before first.after a → InputRefuses second fault → AreUncompared form first second fault
-  by_files : (a b : List ℕ) → ReadAll (2 ^ 30) first.before first.after a → ReadAll (2 ^ 30) second.before second.after b
-      → Refuses MAX_LEVEL a fault ⊎ (Accepted MAX_LEVEL a × Refuses MAX_LEVEL b fault) → AreUncompared form first second fault
+-- of it was read, for the second. The flag says which of the two files is at fault, if one is.
+pub data AreUncompared (form : Form) (first second : SourceRun) (of_second : Bool) (fault : Fault) : Type 0 where
+  by_first : of_second ≡ false → InputRefuses first fault → AreUncompared form first second of_second fault
+  by_second : of_second ≡ true → (a : List ℕ) → ReadAll (2 ^ 30) first.before first.after a → InputRefuses second fault
+      → AreUncompared form first second of_second fault
+  by_first_file : of_second ≡ false → (a b : List ℕ) → ReadAll (2 ^ 30) first.before first.after a → ReadAll (2 ^ 30) second.before second.after b
+      → Refuses MAX_LEVEL a fault → AreUncompared form first second of_second fault
+  by_second_file : of_second ≡ true → (a b : List ℕ) → ReadAll (2 ^ 30) first.before first.after a → ReadAll (2 ^ 30) second.before second.after b
+      → Accepted MAX_LEVEL a → Refuses MAX_LEVEL b fault → AreUncompared form first second of_second fault
   by_form : (a b : List ℕ) → ReadAll (2 ^ 30) first.before first.after a → ReadAll (2 ^ 30) second.before second.after b
-      → Accepted MAX_LEVEL a → Accepted MAX_LEVEL b → RefusesSame form a b fault → AreUncompared form first second fault
-  by_first_shortage : IsSourceShortage [] first fault → AreUncompared form first second fault
+      → Accepted MAX_LEVEL a → Accepted MAX_LEVEL b → RefusesSame form a b fault
+      → (fault ≡ fault_of OutOfPlane → IsFirstToLack form MAX_LEVEL (2 ^ 21) of_second a b) → AreUncompared form first second of_second fault
+  by_first_shortage : IsSourceShortage [] first fault → AreUncompared form first second of_second fault
   by_second_shortage : (a : List ℕ) (stored : List Tree) → ReadAll (2 ^ 30) first.before first.after a → AreOfInput [] first.before stored
-      → IsSourceShortage stored second fault → AreUncompared form first second fault
+      → IsSourceShortage stored second fault → AreUncompared form first second of_second fault
+
+-- no comparison of two files is made, and the refusal says which of them is at fault, if one is
+abbrev pub IsUncompared : Form → (first second : SourceRun) → Refusal → Type 0
+IsUncompared form first second refusal = OfFile (AreUncompared form first second refusal.of_second) refusal
 
 -- why the comparison of two files is refused: there is none, or its line could not be written
-pub data SameRefuses (form : Form) (first second : SourceRun) (output : SinkRun) (fault : Fault) : Type 0 where
-  by_comparing : AreUncompared form first second fault → SameRefuses form first second output fault
+pub data SameRefuses (form : Form) (first second : SourceRun) (output : SinkRun) (of_second : Bool) (fault : Fault) : Type 0 where
+  by_comparing : AreUncompared form first second of_second fault → SameRefuses form first second output of_second fault
   by_telling : (status : ℕ) (text : List ℕ) → HasAnswer (Same form) first second status text → IsWrittenInPart output text fault
-      → SameRefuses form first second output fault
+      → SameRefuses form first second output of_second fault
 
 -- why a run of `run_canon` in a store of 2^31 squares is refused
 abbrev pub CanonRefuses : SourceRun → SinkRun → Fault → Type 0
@@ -205,10 +225,6 @@ IsUnread source = (source.after ≡ source.before) × (source.failures ≡ 0)
 abbrev pub OfTable : (Fault → Type 0) → Refusal → Type 0
 OfTable refuses refusal = (refusal.in_table ≡ true) × refuses refusal.fault
 
--- no table was being read, and the fault comes for this reason
-abbrev pub OfFile : (Fault → Type 0) → Refusal → Type 0
-OfFile refuses refusal = (refusal.in_table ≡ false) × refuses refusal.fault
-
 -- the second file is a rule table, and the first was stepped to this text by it
 abbrev pub HasTextByTable : (first second : SourceRun) → List ℕ → Type 0
 HasTextByTable first second text = (table : Table) × HasTable second table × HasText (IsSteppedBy table) first text
@@ -239,7 +255,7 @@ TaskRefuses (Canon Placed) first second output refusal = OfFile (CanonRefuses fi
 TaskRefuses (Canon form) first second output refusal = OfFile (FileRefuses (IsTextIn form MAX_LEVEL) (RefusesInForm form) first output) refusal
 TaskRefuses (Convert Rle) first second output refusal = OfFile (FileRefuses (IsRleOf MAX_LEVEL (2 ^ 20)) RefusesMany first output) refusal
 TaskRefuses (Convert Mc) first second output refusal = OfFile (CanonRefuses first output) refusal
-TaskRefuses (Same form) first second output refusal = OfFile (SameRefuses form first second output) refusal
+TaskRefuses (Same form) first second output refusal = OfFile (SameRefuses form first second output refusal.of_second) refusal
 TaskRefuses Show first second output refusal = OfFile (FileRefuses (IsShownText MAX_LEVEL) (Refuses MAX_LEVEL) first output) refusal
 TaskRefuses (ShowPeriod most) first second output refusal = OfFile (FileRefuses (IsShownWithPeriod most) (RefusesPeriodOfFile most) first output) refusal
 TaskRefuses Step first second output refusal = OfFile (FileRefuses IsStepped RefusesLifeStep first output) refusal

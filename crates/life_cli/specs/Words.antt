@@ -4,13 +4,14 @@ pub use Rattle.life_base.specs.DeviceRuns.{optional_source_run, sink_run, source
 pub use Rattle.life_base.specs.DeviceState.{has_failed}
 pub use Rattle.life_base.specs.Inputs.{ReadAll}
 pub use Rattle.life_base.specs.Refusal.{fault_of, OrMemory}
-pub use Rattle.life_canon.specs.Files.{Refuses}
-pub use Rattle.life_canon.specs.ReadWhole.{ReadsWhole}
-pub use Rattle.life_canon.specs.Running.{AreWorking, ReadsPattern, RunsCanon}
-pub use Rattle.life_canon.specs.Store.{content, IsOfFile, IsRead, IsTrimmed, IsShortageOf, Keeps, universe_in}
-pub use Rattle.life_canon.specs.Texts.{IsCanonical, IsRleOf, IsShownText}
-pub use Rattle.life_cli.specs.Jobs.{AreUncompared, IsWrittenInPart, CanonRefuses, HasNoTable, HasNoTextByTable, HasTable, HasTextByTable, IsPatternIn}
-pub use Rattle.life_cli.specs.Jobs.{made_status, made_text, MadeOf, OfFile, OfTable, RefusesLifeStep, RefusesStepBy, TaskMakes, TaskRan, TaskRefuses}
+pub use Rattle.life_pattern.specs.Files.{Refuses}
+pub use Rattle.life_reader.specs.ReadWhole.{ReadsWhole}
+pub use Rattle.life_canon.specs.Running.{AreWorking, RunsCanon}
+pub use Rattle.life_reader.specs.Reading.{ReadsPattern}
+pub use Rattle.life_pattern.specs.Store.{content, IsOfFile, IsRead, IsTrimmed, IsShortageOf, Keeps, universe_in}
+pub use Rattle.life_writer.specs.Texts.{IsCanonical, IsRleOf, IsShownText}
+pub use Rattle.life_cli.specs.Jobs.{IsUncompared, IsWrittenInPart, CanonRefuses, HasNoTable, HasNoTextByTable, HasTable, HasTextByTable, IsPatternIn}
+pub use Rattle.life_cli.specs.Jobs.{made_status, made_text, MadeOf, OfFile, OfOneFile, OfTable, refusal_in, RefusesLifeStep, RefusesStepBy, TaskMakes, TaskRan, TaskRefuses}
 pub use Rattle.life_cli.specs.Jobs.{HasNoTextLater, HasNoTextLaterByTable, HasTextLaterByTable, IsSteppedTimes, RefusesGenerations, RefusesStepOf, RefusesTimes}
 pub use Rattle.life_cli.specs.Jobs.{Worked, WritesPlacedText}
 pub use Rattle.life_cli.specs.Origins.{FailsToOpen, OpensFiles}

@@ -1,17 +1,18 @@
 //! The work of a task.
 
 ghost use Rattle.std.specs.Prelude.{◌≡◌, ◌≢◌, ◌⊎◌, ◌<◌, ◌↔◌, ◌^◌, IsSome, IfSome, IfOk, IfErr, OnOk, IsErrAnd, IsTrue, Ok, Err, true, false};
-ghost use Rattle.life_cli.specs.Words.{Appends, SourceRun, source_run, optional_source_run, sink_run, Refusal, Refuses, Keeps, stored_squares, AreWorking, ReadsPattern, ReadsWhole, RunsCanon, AreOfInput, IsRleOf, IsShownText, fault_line, refusal_of, status_of, Reports, made_status, made_text, MadeOf, TaskMakes, Worked, OfFile, InputRefuses, IsWrittenInPart, ComesOf, AreUncompared, CanonRefuses, IsPatternIn, IsShortageFor, TaskRan, TaskRefuses, RefusesMany, HasSecond, WritesPlacedText, task_of};
+ghost use Rattle.life_cli.specs.Words.{Appends, SourceRun, source_run, optional_source_run, sink_run, Refusal, Refuses, Keeps, stored_squares, AreWorking, ReadsPattern, ReadsWhole, RunsCanon, AreOfInput, IsRleOf, IsShownText, fault_line, refusal_of, status_of, Reports, made_status, made_text, MadeOf, TaskMakes, Worked, OfFile, OfOneFile, InputRefuses, IsWrittenInPart, ComesOf, IsUncompared, refusal_in, CanonRefuses, IsPatternIn, IsShortageFor, TaskRan, TaskRefuses, RefusesMany, HasSecond, WritesPlacedText, task_of};
 
 use crate::later::{later_by_table_of, later_of};
 use crate::periods::lines_with_period_of;
 use crate::steps::{next_by_table_of, next_of};
 use command_line::{Form, Job, Target, Task};
 use life_base::{Fault, Kind, MAX_LEVEL, Sink, Source, deliver};
-use life_canon::laws::{patterns_stay, refusals_have_kinds};
-use life_canon::{Pattern, five_lines_of, rle_of};
+use life_pattern::Pattern;
+use life_pattern::laws::{patterns_stay, refusals_have_kinds};
 use life_quad::Shared;
-use pattern_forms::same_in;
+use life_writer::{five_lines_of, rle_of};
+use pattern_forms::{FaultOfTwo, compare_in};
 use pattern_sources::{
     MOST_SQUARES, Refusal, Seeds, pattern_of, status, tell, text_of_source, write_canonical,
 };
@@ -104,22 +105,35 @@ fn is_of_no_file(kind: Kind) -> bool
     )
 }
 
-/// The pattern of a source in the store, or the fault of its file.
+/// The refusal with the fault of one of two pattern files.
+fn refusal_in(of_second: bool, fault: Fault) -> Refusal
+    ensures { result ≡ refusal_in of_second fault }
+{
+    Refusal {
+        fault,
+        in_table: false,
+        of_second,
+        made: 0,
+    }
+}
+
+/// The pattern of one of two sources in the store, or the refusal of its file.
 fn pattern_in<A: Source>(
     alloc: Global,
     store: &mut Shared,
     source: &mut A,
-) -> Result<Result<Pattern, Fault>, Fault>
+    of_second: bool,
+) -> Result<Result<Pattern, Refusal>, Refusal>
     requires { A.failures source.old ≡ 0 }
-    ensures pattern { IfOk result (IsPatternIn store.old store.new
+    ensures pattern { IfOk result (IsPatternIn of_second store.old store.new
         (source_run A.remaining A.failures source.old source.new)) }
-    ensures err { IfErr result (λ fault. InputRefuses
+    ensures err { IfErr result (OfOneFile of_second (λ fault. InputRefuses
         (source_run A.remaining A.failures source.old source.new) fault
         ⊎ IsShortageFor (stored_squares store.old)
         (source_run A.remaining A.failures source.old source.new)
-        store.new fault) }
+        store.new fault)) }
     ensures reported { A.failures source.new ≡ 1
-        → IsErrAnd result (λ fault. fault.kind ≡ Kind.ReadFault) }
+        → IsErrAnd result (λ refusal. refusal.fault.kind ≡ Kind.ReadFault) }
     ensures squares { AreOfInput (stored_squares store.old) (A.remaining source.old)
         (stored_squares store.new) }
     ensures keeps { Keeps store.old store.new }
@@ -127,35 +141,47 @@ fn pattern_in<A: Source>(
     refusals_have_kinds();
     match pattern_of(alloc, store, source) {
         Ok(pattern) => Ok(Ok(pattern)),
-        Err(fault) if is_of_no_file(fault.kind) => Err(fault),
-        Err(fault) => Ok(Err(fault)),
+        Err(fault) if is_of_no_file(fault.kind) => Err(refusal_in(of_second, fault)),
+        Err(fault) => Ok(Err(refusal_in(of_second, fault))),
     }
 }
 
-/// Whether two sources have the same pattern in a form. What keeps `other` from being read is reported before the fault of the file of `one`.
+/// The answer of a comparison, or the refusal with its fault.
+fn made_from_comparison(answer: Result<bool, FaultOfTwo>) -> Result<Made, Refusal>
+    ensures answer { IfOk answer (λ is_same. result ≡ Ok (Made.Comparison is_same)) }
+    ensures refused { IfErr answer (λ it. result ≡ Err (refusal_in it.of_second it.fault)) }
+{
+    match answer {
+        Ok(is_same) => Ok(Made::Comparison(is_same)),
+        Err(refused) => Err(refusal_in(refused.of_second, refused.fault)),
+    }
+}
+
+/// Whether two sources have the same pattern in a form. What keeps `other` from being read is reported before the fault of the file of `one`. A refusal says
+/// which of the two files is at fault.
 fn compared<A: Source, B: Source>(
     alloc: Global,
     seeds: &Seeds,
     form: Form,
     one: &mut A,
     other: &mut B,
-) -> Result<bool, Fault>
+) -> Result<Made, Refusal>
     requires one { A.failures one.old ≡ 0 }
     requires other { B.failures other.old ≡ 0 }
-    ensures ok { IfOk result (λ is_same. TaskMakes (Task.Same form)
+    ensures ok { IfOk result (TaskMakes (Task.Same form)
         (source_run A.remaining A.failures one.old one.new)
-        (source_run B.remaining B.failures other.old other.new) (Made.Comparison is_same)) }
-    ensures err { IfErr result (AreUncompared form
+        (source_run B.remaining B.failures other.old other.new)) }
+    ensures err { IfErr result (IsUncompared form
         (source_run A.remaining A.failures one.old one.new)
         (source_run B.remaining B.failures other.old other.new)) }
     ensures reported { (A.failures one.new ≡ 1) ⊎ (B.failures other.new ≡ 1)
-        → IsErrAnd result (λ fault. fault.kind ≡ Kind.ReadFault) }
+        → IsErrAnd result (λ refusal. refusal.fault.kind ≡ Kind.ReadFault) }
 {
     patterns_stay();
     let mut store = Shared::seeded(alloc, seeds.squares, MOST_SQUARES);
-    let a = pattern_in(alloc, &mut store, one)?;
-    let b = pattern_in(alloc, &mut store, other)?;
-    same_in(alloc, &store, form, &a?, &b?)
+    let a = pattern_in(alloc, &mut store, one, false)?;
+    let b = pattern_in(alloc, &mut store, other, true)?;
+    made_from_comparison(compare_in(alloc, &store, form, &a?, &b?))
 }
 
 /// A text that was made, or the refusal with its fault, which is none of a table.
@@ -165,17 +191,6 @@ fn made_from_text(text: Result<Vec<u8>, Fault>) -> Result<Made, Refusal>
 {
     match text {
         Ok(text) => Ok(Made::Text(text)),
-        Err(fault) => Err(fault.into()),
-    }
-}
-
-/// The same of a comparison.
-fn made_from_comparison(is_same: Result<bool, Fault>) -> Result<Made, Refusal>
-    ensures answer { IfOk is_same (λ is_same. result ≡ Ok (Made.Comparison is_same)) }
-    ensures fault { IfErr is_same (λ fault. result ≡ Err (refusal_of fault)) }
-{
-    match is_same {
-        Ok(is_same) => Ok(Made::Comparison(is_same)),
         Err(fault) => Err(fault.into()),
     }
 }
@@ -209,9 +224,7 @@ fn make<A: Source, B: Source>(
     match (task, second) {
         (Task::Canon(form), _) => made_from_text(text_of_source(alloc, seeds, *form, first)),
         (Task::Convert(Target::Rle), _) => made_from_text(rle_of_source(alloc, seeds, first)),
-        (Task::Same(form), Some(second)) => {
-            made_from_comparison(compared(alloc, seeds, *form, first, second))
-        }
+        (Task::Same(form), Some(second)) => compared(alloc, seeds, *form, first, second),
         (Task::Show, _) => made_from_text(five_lines_of_source(alloc, seeds, first)),
         (Task::ShowPeriod(most), _) => {
             made_from_text(lines_with_period_of(alloc, seeds, *most, first))

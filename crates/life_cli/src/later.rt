@@ -49,6 +49,7 @@ fn next_of_text(
         Err(fault) => Err(Refusal {
             fault,
             in_table: false,
+            of_second: false,
             made,
         }),
     }

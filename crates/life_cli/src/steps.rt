@@ -83,6 +83,7 @@ pub(crate) fn table_of<B: Source>(
         Err(fault) => Err(Refusal {
             fault,
             in_table: true,
+            of_second: false,
             made: 0,
         }),
     }

@@ -4,8 +4,8 @@ ghost use Rattle.std.specs.Prelude.{◌≡◌, ◌⊎◌, ◌^◌, IfSome, IfOk,
 ghost use Rattle.life_cli.specs.Words.{SourceRun, source_run, ReadAll, fault_of, InputRefuses, IsStepped, ComesOf, RefusesLifeStep};
 
 use life_base::{Fault, Kind, Source, read_within};
-use life_canon::read;
 use life_quad::Shared;
+use life_reader::read;
 use life_step::{next_by_rows, next_by_rule};
 use pattern_sources::{MOST_SQUARES, Seeds};
 use std::alloc::Global;

@@ -1,20 +1,23 @@
 -- From patterns in a store that are taken in a form to their files.
-use Rattle.std.proofs.Common.{◌≡◌, ◌↔◌, ◌∙◌, ℕ, ◌⊎◌, inl, inr, ap, sym, subst, Bool, List, Result, Ok, Err, IfOk, IfErr, OnOk, IsTrue}
-use Rattle.life_base.specs.Refusal.{OrMemory}
+use Rattle.std.proofs.Common.{◌≡◌, ◌↔◌, ◌∙◌, ℕ, ◌⊎◌, inl, inr, ap, sym, subst, Bool, true, false, List, Result, Ok, Err, IfOk, IfErr, OnOk, IsTrue}
+use Rattle.life_base.specs.Refusal.{OrMemory, fault_of}
 use Rattle.life_base.specs.Rules.{IsRule}
 use Rattle.life_base.specs.Text.{lines_of}
 use Rattle.life_base.specs.declared.cell.TheConstants.{MAX_LEVEL}
 use Rattle.life_base.specs.declared.fault.Fault.{Fault}
+use Rattle.life_base.specs.declared.kind.Kind.{Kind}
+use Rattle.life_base.specs.declared.kind.Kind.TheVariants.{Full, Memory, OutOfPlane}
 use Rattle.life_quad.specs.Store.{Nodes}
-use Rattle.life_canon.specs.Files.{Reads}
-use Rattle.life_canon.specs.Laws.{FilesAreUnique, FilesAreOnPlane, PatternsFit}
-use Rattle.life_canon.specs.Store.{ForEachFile, IsOfFile, IsRead, IsTrimmed, universe_in}
-use Rattle.life_canon.specs.Universe.{Universe}
-use Rattle.life_canon.specs.declared.pattern.Pattern.{Pattern}
-use Rattle.life_canon.proofs.Sameness.{same-is_one}
-use Rattle.life_phase_forms.specs.OfFile.{FileLeavesUnderway, IsPhasesTextOf, RefusesPhases, SayOneCourse}
+use Rattle.life_pattern.specs.Files.{Reads}
+use Rattle.life_pattern.specs.Laws.{FilesAreUnique, FilesAreOnPlane, PatternsFit}
+use Rattle.life_pattern.specs.Store.{ForEachFile, IsOfFile, IsRead, IsTrimmed, universe_in}
+use Rattle.life_pattern.specs.Universe.{Universe}
+use Rattle.life_pattern.specs.declared.pattern.Pattern.{Pattern}
+use Rattle.life_pattern.proofs.Sameness.{same-is_one}
+use Rattle.life_phase_forms.specs.OfFile.{FileLeavesUnderway, IsPhasesTextOf, RefusesOneOfTwo, RefusesPhases, SayOneCourse}
 use Rattle.life_phase_forms.specs.Phases.{AreOfOneCourse}
-use Rattle.pattern_forms.specs.InForm.{FileLacksForm, ForEachTwoFiles, IsFormText, IsTextWithin, LacksFormIn, OneFileLacksForm, OneLacksFormIn, RefusesFormFor, SayRelated}
+use Rattle.life_phase_forms.specs.declared.compare.FaultOfTwo.{FaultOfTwo}
+use Rattle.pattern_forms.specs.InForm.{FileLacksForm, ForEachTwoFiles, IsFirstToLack, IsFormText, IsTextWithin, LacksFormIn, OneFileLacksForm, OneLacksFormIn, RefusesFormFor, SayRelated, of_two}
 use Rattle.life_base.specs.declared.form.Form.{Form}
 use Rattle.life_base.specs.declared.form.Form.TheVariants.{Placed, Moved, Turned, Phases}
 
@@ -27,6 +30,48 @@ neither none (inr q) = none.1 q
 pub in-any-case : {X P : Type 0} (r : Result X Fault) → P → OnOk r P
 in-any-case (Ok x) p = p
 in-any-case (Err fault) p = tt
+
+-- a fault has one kind
+kinds-differ : (fault : Fault) (one other : Kind) → fault ≡ fault_of one → fault ≡ fault_of other → one ≡ other
+kinds-differ fault one other is was = ap (λ (f : Fault). f.kind) (sym is ∙ was)
+
+-- what is known of an answer is known of the same answer whose fault is one of two patterns
+module _ (r : Result Bool Fault) (m : Result Bool FaultOfTwo) (same : IfOk r (λ answer. m ≡ Ok answer)) (refused : IfErr r (λ fault. m ≡ Err (of_two fault)))
+  where
+    pub two-ok : (P : Bool → Type 0) → IfOk r P → IfOk m P
+    two-ok P h = go r same refused h
+      where
+        go : (r : Result Bool Fault) → IfOk r (λ answer. m ≡ Ok answer) → IfErr r (λ fault. m ≡ Err (of_two fault)) → IfOk r P → IfOk m P
+        go (Ok answer) is failed h = subst (λ (v : Result Bool FaultOfTwo). IfOk v P) (sym is) h
+        go (Err fault) is failed h = subst (λ (v : Result Bool FaultOfTwo). IfOk v P) (sym failed) tt
+
+    pub two-on : (P : Type 0) → OnOk r P → OnOk m P
+    two-on P h = two-ok (λ _. P) h
+
+    pub two-err : (P : Fault → Type 0) → IfErr r P → IfErr m (λ it. P it.fault)
+    two-err P h = go r same refused h
+      where
+        go : (r : Result Bool Fault) → IfOk r (λ answer. m ≡ Ok answer) → IfErr r (λ fault. m ≡ Err (of_two fault)) → IfErr r P
+            → IfErr m (λ it. P it.fault)
+        go (Ok answer) is failed h = subst (λ (v : Result Bool FaultOfTwo). IfErr v (λ it. P it.fault)) (sym is) tt
+        go (Err fault) is failed h = subst (λ (v : Result Bool FaultOfTwo). IfErr v (λ it. P it.fault)) (sym failed) h
+
+    -- of a form whose patterns are refused for their squares alone
+    pub two-full : (Reason : Fault → Type 0) (P : FaultOfTwo → Type 0) → IfErr r (λ fault. OrMemory fault (Reason fault))
+        → ((fault : Fault) → Reason fault → fault ≡ fault_of Full) → IfErr m (λ it. it.fault ≡ fault_of OutOfPlane → P it)
+    two-full Reason P h full = go r same refused h
+      where
+        Says : Result Bool FaultOfTwo → Type 0
+        Says v = IfErr v (λ it. it.fault ≡ fault_of OutOfPlane → P it)
+
+        none : (fault : Fault) → OrMemory fault (Reason fault) → fault ≡ fault_of OutOfPlane → ⊥
+        none fault (inl memory) out = let bad : Memory ≡ OutOfPlane = kinds-differ fault Memory OutOfPlane memory out in absurd cc
+        none fault (inr reason) out = let bad : Full ≡ OutOfPlane = kinds-differ fault Full OutOfPlane (full fault reason) out in absurd cc
+
+        go : (r : Result Bool Fault) → IfOk r (λ answer. m ≡ Ok answer) → IfErr r (λ fault. m ≡ Err (of_two fault))
+            → IfErr r (λ fault. OrMemory fault (Reason fault)) → Says m
+        go (Ok answer) is failed h = subst Says (sym is) tt
+        go (Err fault) is failed h = subst Says (sym failed) (λ out. absurd (none fault h out))
 
 -- a refusal for one reason is one for another that follows from it
 pub for-reason : {P Q : Type 0} (form : Form) (fault : Fault) → (P → Q) → RefusesFormFor form P fault → RefusesFormFor form Q fault
@@ -142,12 +187,19 @@ module _ (generations most : ℕ) where
   ]
 
   module _ (fit : PatternsFit MAX_LEVEL) (store : Nodes) (p q : Pattern) where
-    pub two-phases-fault : (fault : Fault) → RefusesPhases generations store p fault ⊎ RefusesPhases generations store q fault
+    -- a pattern that leaves the plane
+    leaves-plane : (r : Pattern) (fault : Fault) → RefusesPhases generations store r fault → fault ≡ fault_of OutOfPlane
+        → ForEachFile store r (λ bytes. FileLacksForm (Phases generations) MAX_LEVEL most bytes)
+    leaves-plane r fault (inl (inl memory)) out = let bad : Memory ≡ OutOfPlane = kinds-differ fault Memory OutOfPlane memory out in absurd cc
+    leaves-plane r fault (inl (inr full)) out = let bad : Full ≡ OutOfPlane = kinds-differ fault Full OutOfPlane full out in absurd cc
+    leaves-plane r fault (inr leaves) out = λ bytes read. let why = leaves bytes read in (why.universe, why.reads, why.leaves)
+
+    either-phases-fault : (fault : Fault) → RefusesPhases generations store p fault ⊎ RefusesPhases generations store q fault
         → OrMemory fault (ForEachTwoFiles store p q (λ a b. RefusesFormFor (Phases generations)
         (OneFileLacksForm (Phases generations) MAX_LEVEL most a b) fault))
-    two-phases-fault fault (inl (inl (inl memory))) = inl memory
-    two-phases-fault fault (inl (inl (inr full))) = inr (λ a b one other. inr full)
-    two-phases-fault fault (inl (inr leaves)) = inr (λ a b one other.
+    either-phases-fault fault (inl (inl (inl memory))) = inl memory
+    either-phases-fault fault (inl (inl (inr full))) = inr (λ a b one other. inr full)
+    either-phases-fault fault (inl (inr leaves)) = inr (λ a b one other.
         let why = leaves a one in inl (
           why.kind,
           record {
@@ -158,9 +210,9 @@ module _ (generations most : ℕ) where
             related = inl why.leaves;
           },
         ))
-    two-phases-fault fault (inr (inl (inl memory))) = inl memory
-    two-phases-fault fault (inr (inl (inr full))) = inr (λ a b one other. inr full)
-    two-phases-fault fault (inr (inr leaves)) = inr (λ a b one other.
+    either-phases-fault fault (inr (inl (inl memory))) = inl memory
+    either-phases-fault fault (inr (inl (inr full))) = inr (λ a b one other. inr full)
+    either-phases-fault fault (inr (inr leaves)) = inr (λ a b one other.
         let why = leaves b other in inl (
           why.kind,
           record {
@@ -171,3 +223,20 @@ module _ (generations most : ℕ) where
             related = inr why.leaves;
           },
         ))
+
+    -- why one of two has no text, whichever it is
+    one-of-two : (of_second : Bool) (fault : Fault) → RefusesOneOfTwo generations store p q of_second fault
+        → RefusesPhases generations store p fault ⊎ RefusesPhases generations store q fault
+    one-of-two false fault h = inl h
+    one-of-two true fault h = inr h.1
+
+    -- the one that leaves the plane is the first that does
+    pub first-to-leave : (of_second : Bool) (fault : Fault) → RefusesOneOfTwo generations store p q of_second fault → fault ≡ fault_of OutOfPlane
+        → ForEachTwoFiles store p q (λ a b. IsFirstToLack (Phases generations) MAX_LEVEL most of_second a b)
+    first-to-leave false fault h out a b one other = leaves-plane p fault h out a one
+    first-to-leave true fault h out a b one other = (h.0 a one, leaves-plane q fault h.1 out b other)
+
+    pub two-phases-fault : (of_second : Bool) (fault : Fault) → RefusesOneOfTwo generations store p q of_second fault
+        → OrMemory fault (ForEachTwoFiles store p q (λ a b. RefusesFormFor (Phases generations)
+        (OneFileLacksForm (Phases generations) MAX_LEVEL most a b) fault))
+    two-phases-fault of_second fault h = either-phases-fault fault (one-of-two of_second fault h)

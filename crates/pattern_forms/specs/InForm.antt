@@ -1,21 +1,22 @@
 -- A pattern in one of its forms: its text, what is the same in the form, and when there is none; of patterns, and of files. The project's own.
-use Rattle.std.specs.Prelude.{◌≡◌, ◌⊎◌, ◌^◌, ℕ, min, List}
+use Rattle.std.specs.Prelude.{◌≡◌, ◌⊎◌, ◌^◌, ℕ, min, Bool, true, false, List}
 use Rattle.life_base.specs.Refusal.{fault_of}
 use Rattle.life_base.specs.declared.cell.TheConstants.{MAX_LEVEL}
 use Rattle.life_base.specs.declared.fault.Fault.{Fault}
 use Rattle.life_base.specs.declared.kind.Kind.TheVariants.{Full, OutOfPlane}
 use Rattle.life_quad.specs.Store.{Nodes}
-use Rattle.life_canon.specs.Files.{Reads, Same}
-use Rattle.life_canon.specs.Listing.{canon_text}
-use Rattle.life_canon.specs.Store.{IsRead}
-use Rattle.life_canon.specs.Texts.{IsCanonical}
-use Rattle.life_canon.specs.Universe.{Universe, AreOfOneGeneration, IsSame}
-use Rattle.life_canon.specs.declared.pattern.Pattern.{Pattern}
+use Rattle.life_pattern.specs.Files.{Reads, Same}
+use Rattle.life_writer.specs.Listing.{canon_text}
+use Rattle.life_pattern.specs.Store.{IsRead}
+use Rattle.life_writer.specs.Texts.{IsCanonical}
+use Rattle.life_pattern.specs.Universe.{Universe, AreOfOneGeneration, IsSame}
+use Rattle.life_pattern.specs.declared.pattern.Pattern.{Pattern}
 use Rattle.life_forms.specs.Forms.{IsMoved, IsShift, IsTurnedShift}
 use Rattle.life_forms.specs.Images.{IsTurnedText}
 use Rattle.life_forms.specs.Needed.{HasLargerForm}
 use Rattle.life_forms.specs.Turns.{Turn, image}
 use Rattle.life_phase_forms.specs.Phases.{AreOfOneCourse, IsPhasesText, LeavesUnderway}
+use Rattle.life_phase_forms.specs.declared.compare.FaultOfTwo.{FaultOfTwo}
 use Rattle.life_base.specs.declared.form.Form.{Form}
 use Rattle.life_base.specs.declared.form.Form.TheVariants.{Placed, Moved, Turned, Phases}
 
@@ -85,6 +86,16 @@ FileLacksForm form top most bytes = (u : Universe) × Reads top bytes u × Lacks
 -- both are files, and one of their patterns has none, turned only where both are of one generation
 abbrev pub OneFileLacksForm : Form → (top most : ℕ) → List ℕ → List ℕ → Type 0
 OneFileLacksForm form top most a b = SayRelated (OneLacksFormIn form most) top a b
+
+-- The first of two files whose pattern has no text in this form is this one: the first of both; or the first has one, and the second has none. The flag says
+-- which of the two it is.
+abbrev pub IsFirstToLack : Form → (top most : ℕ) → (of_second : Bool) → (a b : List ℕ) → Type 0
+IsFirstToLack form top most false a b = FileLacksForm form top most a
+IsFirstToLack form top most true a b = (¬ FileLacksForm form top most a) × FileLacksForm form top most b
+
+-- the fault of two patterns that isn't said to be one of the second
+abbrev pub of_two : Fault → FaultOfTwo
+of_two fault = record { fault = fault; of_second = false }
 
 -- the bytes are a file whose pattern has a text in this form, and this is the text
 pub record SaysText (form : Form) (top most : ℕ) (bytes text : List ℕ) : Type 0 where

@@ -3,10 +3,10 @@
 //! This crate answers what the text of a pattern is in a [`Form`], and whether two patterns are the same in it. Whoever has a form as a value comes here, so
 //! that the cases of the form are in one place.
 //!
-//! Begin here, with a pattern that `life_canon` has read into a store:
+//! Begin here, with a pattern that `life_reader` has read into a store:
 //!
 //! 1. [`text_in`] returns its canonical text in a form.
-//! 2. [`same_in`] compares it with another pattern of the store.
+//! 2. [`same_in`] compares it with another pattern of the store. [`compare_in`] does so too, and says which of the two leaves the plane.
 //!
 //! An example: two gliders, the second one moved and turned.
 //!
@@ -25,5 +25,6 @@
 
 mod forms;
 
-pub use forms::{same_in, text_in};
+pub use forms::{compare_in, same_in, text_in};
 pub use life_base::Form;
+pub use life_phase_forms::FaultOfTwo;

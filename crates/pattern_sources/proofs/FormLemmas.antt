@@ -4,8 +4,8 @@ use Rattle.life_base.specs.Refusal.{OrMemory}
 use Rattle.life_base.specs.declared.cell.TheConstants.{MAX_LEVEL}
 use Rattle.life_base.specs.declared.fault.Fault.{Fault}
 use Rattle.life_quad.specs.Store.{Nodes}
-use Rattle.life_canon.specs.Store.{ForEachFile}
-use Rattle.life_canon.specs.declared.pattern.Pattern.{Pattern}
+use Rattle.life_pattern.specs.Store.{ForEachFile}
+use Rattle.life_pattern.specs.declared.pattern.Pattern.{Pattern}
 use Rattle.pattern_forms.specs.InForm.{FileLacksForm, IsTextWithin, RefusesFormFor, most_of_form}
 use Rattle.life_base.specs.declared.form.Form.{Form}
 use Rattle.pattern_sources.specs.Forms.{IsTextIn}

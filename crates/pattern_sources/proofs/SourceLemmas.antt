@@ -10,13 +10,13 @@ use Rattle.life_base.specs.declared.kind.Kind.TheVariants as kinds
 use Rattle.life_base.specs.declared.kind.Kind.TheVariants.{Full, Memory, TooManyCells, ReadFault, InputTooLong, WriteFault}
 use Rattle.life_quad.specs.Keeping.{AddsOnly}
 use Rattle.life_quad.specs.Store.{Nodes, stored_squares}
-use Rattle.life_canon.specs.Files.{Refuses}
-use Rattle.life_canon.specs.ReadWhole.{ReadsWhole}
-use Rattle.life_canon.specs.Space.{AddsFile, sufficient_for}
-use Rattle.life_canon.specs.Running.{AddsForRead, HasRead, ReadRefuses, ReadsPattern, ReadsSource}
-use Rattle.life_canon.specs.Running as reading
-use Rattle.life_canon.specs.Store.{IsRead}
-use Rattle.life_canon.specs.declared.pattern.Pattern.{Pattern}
+use Rattle.life_pattern.specs.Files.{Refuses}
+use Rattle.life_reader.specs.ReadWhole.{ReadsWhole}
+use Rattle.life_reader.specs.Space.{AddsFile, sufficient_for}
+use Rattle.life_reader.specs.Reading.{AddsForRead, HasRead, ReadRefuses, ReadsPattern, ReadsSource}
+use Rattle.life_reader.specs.Reading as reading
+use Rattle.life_pattern.specs.Store.{IsRead}
+use Rattle.life_pattern.specs.declared.pattern.Pattern.{Pattern}
 use Rattle.life_base.specs.declared.form.Form.{Form}
 use Rattle.pattern_sources.specs.Faults.{status_of}
 use Rattle.pattern_sources.specs.Sources.{by_length, by_source, HasNoText, by_input, by_file, by_want, RefusesInForm, AreOfInput, HoldsNoneBut, HoldsOneFile, IsTooSmallFor, HasText, ComesOf}

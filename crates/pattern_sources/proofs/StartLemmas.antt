@@ -6,12 +6,13 @@ use Rattle.life_base.specs.declared.cell.TheConstants.{MAX_LEVEL}
 use Rattle.life_base.specs.declared.fault.Fault.{Fault}
 use Rattle.life_quad.specs.Refused.{SomePart}
 use Rattle.life_quad.specs.Store.{Nodes}
-use Rattle.life_canon.specs.Files.{Reads, as_macrocell}
-use Rattle.life_canon.specs.Laws.{FilesAreOnPlane, FilesAreUnique, TextsAreFiles}
-use Rattle.life_canon.specs.Listing.{canon_text, canonical_file}
-use Rattle.life_canon.specs.Store.{IsRead}
-use Rattle.life_canon.specs.Universe.{IsOnPlane, Universe, macrocell_universe, whole}
-use Rattle.life_canon.specs.declared.pattern.Pattern.{Pattern}
+use Rattle.life_pattern.specs.Files.{Reads, as_macrocell}
+use Rattle.life_pattern.specs.Laws.{FilesAreOnPlane, FilesAreUnique}
+use Rattle.life_writer.specs.Laws.{TextsAreFiles}
+use Rattle.life_writer.specs.Listing.{canon_text, canonical_file}
+use Rattle.life_pattern.specs.Store.{IsRead}
+use Rattle.life_pattern.specs.Universe.{IsOnPlane, Universe, macrocell_universe, whole}
+use Rattle.life_pattern.specs.declared.pattern.Pattern.{Pattern}
 use Rattle.life_forms.specs.Needed.{HasLargerForm, SomeOfMovedForm}
 use Rattle.pattern_forms.specs.InForm.{LacksFormIn}
 use Rattle.life_forms.specs.Turns.{image}
@@ -19,7 +20,7 @@ use Rattle.pattern_sources.specs.Forms.{at_start, LacksForm, IsTextAtStart, IsTe
 use Rattle.pattern_sources.specs.Sources.{RefusesInForm}
 use Rattle.life_base.specs.declared.form.Form.{Form}
 use Rattle.life_base.specs.declared.form.Form.TheVariants.{Placed, Moved, Turned, Phases}
-use Rattle.life_canon.proofs.Sameness.{same-is_one}
+use Rattle.life_pattern.proofs.Sameness.{same-is_one}
 use Rattle.life_forms.proofs.SizeFacts.{needs-more}
 use Rattle.pattern_forms.proofs.FileForms.{for-reason}
 

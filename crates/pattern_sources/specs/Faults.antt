@@ -30,9 +30,9 @@ abbrev pub fault_line : Refusal → List ℕ
 fault_line refusal =
     place_text (is_of_table refusal.in_table refusal.fault.kind) refusal.fault.place.line ++ kind_name refusal.fault.kind ++ codes "\n"
 
--- the refusal with a fault of another file than a table, or of none, before any generation was made
+-- the refusal with a fault of another file than a table or than the second of two, or of none, before any generation was made
 abbrev pub refusal_of : Fault → Refusal
-refusal_of fault = record { fault = fault; in_table = false; made = 0 }
+refusal_of fault = record { fault = fault; in_table = false; of_second = false; made = 0 }
 
 -- the status that a fault ends the program with: 3 for devices, 4 because the store was full, else 2
 abbrev pub status_of : Kind → ℕ

@@ -1,7 +1,7 @@
 -- The text of a file's pattern in a form.
 use Rattle.std.specs.Prelude.{ℕ, ◌^◌, List}
-use Rattle.life_canon.specs.Files.{Reads}
-use Rattle.life_canon.specs.Universe.{Universe}
+use Rattle.life_pattern.specs.Files.{Reads}
+use Rattle.life_pattern.specs.Universe.{Universe}
 use Rattle.pattern_forms.specs.InForm.{FileLacksForm, IsTextWithin}
 use Rattle.life_base.specs.declared.form.Form.{Form}
 

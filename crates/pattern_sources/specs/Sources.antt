@@ -9,12 +9,12 @@ use Rattle.life_base.specs.declared.fault.Fault.{Fault}
 use Rattle.life_base.specs.declared.cell.TheConstants.{MAX_LEVEL}
 use Rattle.life_base.specs.declared.kind.Kind.TheVariants.{Full, InputTooLong, Memory, ReadFault, TooManyCells}
 use Rattle.life_quad.specs.Store.{Nodes, stored_squares}
-use Rattle.life_canon.specs.Files.{Refuses}
-use Rattle.life_canon.specs.Needs.{IsNew}
-use Rattle.life_canon.specs.Space.{IsSquareOfFile, sufficient_for}
-use Rattle.life_canon.specs.Running.{LacksForRead}
-use Rattle.life_canon.specs.Store.{IsShortageOf}
-use Rattle.life_canon.specs.Texts.{FileHasMoreCells}
+use Rattle.life_pattern.specs.Files.{Refuses}
+use Rattle.life_pattern.specs.Store.{IsNew}
+use Rattle.life_reader.specs.Space.{IsSquareOfFile, sufficient_for}
+use Rattle.life_reader.specs.Reading.{LacksForRead}
+use Rattle.life_pattern.specs.Store.{IsShortageOf}
+use Rattle.life_writer.specs.Texts.{FileHasMoreCells}
 use Rattle.life_base.specs.declared.form.Form.{Form}
 use Rattle.pattern_forms.specs.InForm.{RefusesFormFor}
 use Rattle.pattern_sources.specs.Forms.{LacksForm}

@@ -6,9 +6,10 @@ ghost use Rattle.pattern_sources.specs.Words.{source_run, OrMemory, IsOfFile, Is
 use crate::patterns::{MOST_SQUARES, pattern_of};
 use crate::seeds::Seeds;
 use life_base::{Fault, MAX_LEVEL, Source};
-use life_canon::Pattern;
-use life_canon::laws::{files_are_on_plane, files_are_unique, texts_are_files};
+use life_pattern::Pattern;
+use life_pattern::laws::{files_are_on_plane, files_are_unique};
 use life_quad::Shared;
+use life_writer::laws::texts_are_files;
 use pattern_forms::{Form, text_in};
 use std::alloc::Global;
 

@@ -19,8 +19,8 @@
 //!
 //! The status is 3 for `ReadFault` and `WriteFault`, 4 for `Full` and `Memory`, and 2 for every other kind.
 //!
-//! It doesn't know which command it is, and no next generation. It uses `life_canon` and `pattern_forms` for texts. Above it, `life_cli` works on
-//! one file or two, and `file_keys` on many.
+//! It doesn't know which command it is, and no next generation. It reads by `life_reader`, and uses `life_canon` and `pattern_forms` for texts.
+//! Above it, `life_cli` works on one file or two, and `file_keys` on many.
 //!
 //! Read first: `specs/Faults.antt` (lines and statuses), `specs/Sources.antt`, `src/patterns.rt`, and `src/refusals.rt`.
 #![tactic(auto)]

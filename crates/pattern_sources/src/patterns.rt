@@ -4,8 +4,10 @@ ghost use Rattle.std.specs.Prelude.{◌≡◌, ◌≢◌, ◌^◌, IfOk, IfErr, 
 ghost use Rattle.pattern_sources.specs.Words.{source_run, sink_run, stored_squares, AreWorking, ReadsPattern, ReadsWhole, RunsCanon, AreOfInput};
 
 use life_base::{Fault, Kind, Sink, Source};
-use life_canon::{Pattern, read_from, run_canon};
+use life_canon::run_canon;
+use life_pattern::Pattern;
 use life_quad::Shared;
+use life_reader::read_from;
 use std::alloc::Global;
 
 /// How many different squares a store of the program holds at most.

@@ -12,6 +12,8 @@ pub struct Refusal {
     pub fault: Fault,
     /// Whether a rule table was being read.
     pub in_table: bool,
+    /// Whether the second of two compared pattern files is at fault, and not the first. If neither is, as with `Full`, `Memory` and `WriteFault`, it says nothing.
+    pub of_second: bool,
     /// How many generations were made before the one that is refused, in a run of many by a rule table. Otherwise 0.
     pub made: u64,
 }
@@ -27,6 +29,7 @@ impl From<Fault> for Refusal {
         Refusal {
             fault,
             in_table: false,
+            of_second: false,
             made: 0,
         }
     }

@@ -5,10 +5,10 @@ use Rattle.life_base.specs.DeviceRuns.{SourceRun}
 use Rattle.life_base.specs.Inputs.{ReadAll}
 use Rattle.life_base.specs.Text.{lines_of}
 use Rattle.life_mc.specs.Reading.{IsMacrocell}
-use Rattle.life_canon.specs.Files.{Accepted}
-use Rattle.life_canon.specs.Least.{IsLeastText}
-use Rattle.life_canon.specs.Listing.{canon_text, canonical_file}
-use Rattle.life_canon.specs.Texts.{IsCanonical, IsShownText as LayerShown}
+use Rattle.life_pattern.specs.Files.{Accepted}
+use Rattle.life_writer.specs.Least.{IsLeastText}
+use Rattle.life_writer.specs.Listing.{canon_text, canonical_file}
+use Rattle.life_writer.specs.Texts.{IsCanonical, IsShownText as LayerShown}
 use Rattle.pattern_forms.specs.InForm.{OneFileLacksForm}
 use Rattle.pattern_sources.specs.Forms.{IsTextIn as LayerTextIn}
 use Rattle.life_cli.specs.Jobs.{Compares, IsSteppedTimes, TaskWrites, HasAnswer}

@@ -1,11 +1,11 @@
 -- What files say in a form is what they say in the layer below.
 use Rattle.std.proofs.Common.{◌≡◌, ◌↔◌, ℕ, ◌^◌, List, ◌∙◌, sym, subst, arith}
 use Rattle.life_base.specs.Rules.{IsRule}
-use Rattle.life_canon.specs.Files.{Reads, as_macrocell}
-use Rattle.life_canon.specs.Laws.{FilesAreOnPlane}
-use Rattle.life_canon.specs.Listing.{canon_text, canonical_file}
-use Rattle.life_canon.specs.Texts.{IsCanonical}
-use Rattle.life_canon.specs.Universe.{Universe, IsOnPlane, macrocell_universe}
+use Rattle.life_pattern.specs.Files.{Reads, as_macrocell}
+use Rattle.life_pattern.specs.Laws.{FilesAreOnPlane}
+use Rattle.life_writer.specs.Listing.{canon_text, canonical_file}
+use Rattle.life_writer.specs.Texts.{IsCanonical}
+use Rattle.life_pattern.specs.Universe.{Universe, IsOnPlane, macrocell_universe}
 use Rattle.life_phase_forms.specs.OfFile.{IsPhasesTextOf}
 use Rattle.pattern_forms.specs.InForm.{AreSameIn, SayRelated, SaysText}
 use Rattle.pattern_sources.specs.Forms.{IsTextIn as LayerTextIn}

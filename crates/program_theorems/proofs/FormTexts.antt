@@ -2,9 +2,9 @@
 use Rattle.std.proofs.Common.{◌≡◌, ℕ, ◌^◌, ◌<◌, List, refl, ◌∙◌, sym, subst, arith, inl, inr, ℤ}
 use Rattle.life_base.specs.Sets.{OuterTotalistic}
 use Rattle.life_base.specs.declared.bounds.Bounds.{Bounds}
-use Rattle.life_canon.specs.Listing.{canon_text}
-use Rattle.life_canon.specs.Texts.{IsBoundingBox as LayerLeastBox}
-use Rattle.life_canon.specs.Universe.{Universe, IsOnPlane, corner}
+use Rattle.life_writer.specs.Listing.{canon_text}
+use Rattle.life_writer.specs.Texts.{IsBoundingBox as LayerLeastBox}
+use Rattle.life_pattern.specs.Universe.{Universe, IsOnPlane, corner}
 use Rattle.life_forms.specs.Forms.{IsMoved, IsInPlace as LayerInPlace, IsShift as LayerShift, at_zero, at_edge}
 use Rattle.life_forms.specs.Images.{IsTurnedText}
 use Rattle.life_forms.specs.Turns.{turn_of}

@@ -1,7 +1,7 @@
 -- A pattern in the words of the claims that is one of the layers; and what shifts and turns make of both.
 use Rattle.std.proofs.Common.{◌≡◌, ℕ, List, Bool, true, false, refl, ap, ap₂, ◌∙◌, sym, ℤ, pos, negsuc, ◌+ℤ◌, if◌then◌else◌}
 use Rattle.life_base.specs.Rules.{IsRule}
-use Rattle.life_canon.specs.Universe.{Universe}
+use Rattle.life_pattern.specs.Universe.{Universe}
 use Rattle.life_forms.specs.Forms.{IsShift as LayerShift, IsTurnedShift as LayerTurnedShift}
 use Rattle.life_forms.specs.Turns.{turn_of}
 use Rattle.life_forms.specs.Turns as layer

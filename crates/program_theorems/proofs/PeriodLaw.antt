@@ -6,10 +6,11 @@ use Rattle.life_base.specs.declared.fault.Fault.{Fault}
 use Rattle.life_base.specs.declared.kind.Kind.TheVariants as kinds
 use Rattle.life_base.specs.declared.rule.Rule.{Rule as LayerRule}
 use Rattle.life_base.specs.declared.rule.Rule.TheVariants.{Life, Named}
-use Rattle.life_canon.specs.Files.{Reads}
-use Rattle.life_canon.specs.Laws.{FilesAreOnPlane, FilesAreUnique, TextsAreFiles}
-use Rattle.life_canon.specs.Texts.{IsCanonical}
-use Rattle.life_canon.specs.Universe.{Universe}
+use Rattle.life_pattern.specs.Files.{Reads}
+use Rattle.life_pattern.specs.Laws.{FilesAreOnPlane, FilesAreUnique}
+use Rattle.life_writer.specs.Laws.{TextsAreFiles}
+use Rattle.life_writer.specs.Texts.{IsCanonical}
+use Rattle.life_pattern.specs.Universe.{Universe}
 use Rattle.life_phases.specs.Middle.{IsInMiddle, moved_by}
 use Rattle.life_phases.specs.Periods.{HasPeriod, IsLeastPeriod, IsPeriodUpTo, LeavesFirst, LeavesFromMiddle}
 use Rattle.life_phases.specs.declared.period.Period.{Period}

@@ -4,7 +4,7 @@ use Rattle.life_base.specs.Rules.{IsRule, IsLifeRule}
 use Rattle.life_base.specs.Sets.{OuterTotalistic}
 use Rattle.life_base.specs.declared.rule.Rule.{Rule as LayerRule}
 use Rattle.life_base.specs.declared.rule.Rule.TheVariants.{Life, Named}
-use Rattle.life_canon.specs.Universe.{Universe}
+use Rattle.life_pattern.specs.Universe.{Universe}
 use Rattle.life_phases.specs.declared.period.Period.{Period}
 use Rattle.life_phase_forms.specs.Phases.{AreOfOneCourse, HasNoPhases, HasPhases, LeavesUnderway, begun, in_one_phase, in_two_phases, phase}
 use Rattle.claims.specs.Pattern.{Pattern}

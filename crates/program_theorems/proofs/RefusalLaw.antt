@@ -13,10 +13,12 @@ use Rattle.life_base.specs.declared.kind.Kind.TheVariants as kinds
 use Rattle.life_quad.specs.Store.{Nodes}
 use Rattle.life_table.specs.Reading.{is_table_kind}
 use Rattle.life_table.specs.declared.table.Table.{Table as LayerTable}
-use Rattle.life_canon.specs.Files.{Refuses as LayerRefuses, is_file_kind}
-use Rattle.life_canon.specs.Running.{RunRefuses, ReadRefuses}
+use Rattle.life_pattern.specs.Files.{Refuses as LayerRefuses, is_file_kind}
+use Rattle.life_canon.specs.Running.{RunRefuses}
+use Rattle.life_reader.specs.Reading.{ReadRefuses}
 use Rattle.life_canon.specs.Running as running
-use Rattle.life_canon.specs.Texts.{IsCanonical, IsRleOf, IsShownText as LayerShown}
+use Rattle.life_reader.specs.Reading as reading
+use Rattle.life_writer.specs.Texts.{IsCanonical, IsRleOf, IsShownText as LayerShown}
 use Rattle.life_generations.specs.Later.{IsTextLater}
 use Rattle.life_periods.specs.OfFile.{IsShownWithPeriod, RefusesPeriodOfFile}
 use Rattle.life_step.specs.Stepped.{IsStepped as LayerStepped}
@@ -196,10 +198,10 @@ module _ (laws : LayersAgree) (task : Task) (first second : SourceRun) (output :
       (reported : (file other : List ℕ) → IsShortFile file × (pattern_of file ≡ Err refusal.fault) → RefusesTask task file other false refusal.fault)
       (store : Nodes) where
     of_reading : ReadRefuses 62 (2 ^ 30) store first refusal.fault → Comes
-    of_reading (running.by_file bytes read h) = of_pattern e bytes h (λ file other f g. reported file other (read_as _ _ bytes file _ read f h))
-    of_reading (running.by_want want) = from_want (want_as store refusal.fault want)
-    of_reading (running.by_length is came) = from_length is (inl came)
-    of_reading (running.by_source is failed) = from_source is (inl failed)
+    of_reading (reading.by_file bytes read h) = of_pattern e bytes h (λ file other f g. reported file other (read_as _ _ bytes file _ read f h))
+    of_reading (reading.by_want want) = from_want (want_as store refusal.fault want)
+    of_reading (reading.by_length is came) = from_length is (inl came)
+    of_reading (reading.by_source is failed) = from_source is (inl failed)
 
     of_canon : RunRefuses 62 (2 ^ 30) store first output refusal.fault → Comes
     of_canon (running.by_reading h) = of_reading h
@@ -349,11 +351,11 @@ module _ (laws : LayersAgree) (first second : SourceRun) (output : SinkRun) (ref
       ))
 
   -- two files
-  of_files_compared : (form : Form) → refusal.in_table ≡ false → layer.AreUncompared form first second refusal.fault
+  of_files_compared : (form : Form) → refusal.in_table ≡ false → layer.AreUncompared form first second refusal.of_second refusal.fault
       → Origin (tasks.Same form) first second output refusal
-  of_files_compared form e (layer.by_first h) = of_first_input laws (tasks.Same form) first second output refusal h
-  of_files_compared form e (layer.by_second a read h) = of_second_input laws (tasks.Same form) first second output refusal tt h
-  of_files_compared form e (layer.by_form a b one two p q h) = by (no_comparison laws form a b refusal.fault h)
+  of_files_compared form e (layer.by_first whose h) = of_first_input laws (tasks.Same form) first second output refusal h
+  of_files_compared form e (layer.by_second whose a read h) = of_second_input laws (tasks.Same form) first second output refusal tt h
+  of_files_compared form e (layer.by_form a b one two p q h whose) = by (no_comparison laws form a b refusal.fault h)
     where
       by : IsShortage refusal.fault ⊎ ((refusal.fault ≡ claimed_fault_of kinds.OutOfPlane) × OneFileLacksClaimedForm form a b)
           → Origin (tasks.Same form) first second output refusal
@@ -370,24 +372,24 @@ module _ (laws : LayersAgree) (first second : SourceRun) (output : SinkRun) (ref
                   (subst (OneFileLacksClaimedForm form a) (all_read (2 ^ 30) second.before second.after other b two (g tt)) k.1),
             )),
           ))
-  of_files_compared form e (layer.by_files a b one two (inl h)) =
+  of_files_compared form e (layer.by_first_file whose a b one two h) =
       of_pattern laws (tasks.Same form) first second output refusal e a h
       (λ file other f g. let r = read_as _ _ a file _ one f h in (r.0, short _ _ b other two (g tt), refl, inl r.1))
-  of_files_compared form e (layer.by_files a b one two (inr h)) =
-      of_pattern laws (tasks.Same form) first second output refusal e b h.1
-      (λ file other f g. let r = read_as _ _ b other _ two (g tt) h.1 in (
+  of_files_compared form e (layer.by_second_file whose a b one two is h) =
+      of_pattern laws (tasks.Same form) first second output refusal e b h
+      (λ file other f g. let r = read_as _ _ b other _ two (g tt) h in (
         short _ _ a file one f,
         r.0,
         refl,
         inr (inl (
-          subst (λ (s : List ℕ). IsOk (pattern_of s)) (all_read (2 ^ 30) first.before first.after file a one f) (accepted_is_ok a h.0),
+          subst (λ (s : List ℕ). IsOk (pattern_of s)) (all_read (2 ^ 30) first.before first.after file a one f) (accepted_is_ok a is),
           r.1,
         )),
       ))
   of_files_compared form e (layer.by_first_shortage want) = from_want (wanted [] first refusal.fault want)
   of_files_compared form e (layer.by_second_shortage a stored read are want) = from_want (wanted stored second refusal.fault want)
 
-  of_same : (form : Form) → refusal.in_table ≡ false → layer.SameRefuses form first second output refusal.fault
+  of_same : (form : Form) → refusal.in_table ≡ false → layer.SameRefuses form first second output refusal.of_second refusal.fault
       → Origin (tasks.Same form) first second output refusal
   of_same form e (layer.by_comparing h) = of_files_compared form e h
   of_same form e (layer.by_telling status text answer breaks) = from_sink breaks.is status text answer breaks.written breaks.cause

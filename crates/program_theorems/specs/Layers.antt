@@ -1,6 +1,7 @@
 -- The laws by which the words of the layers are those of the claims, together: no reader of a theorem needs them.
-use Rattle.life_canon.specs.Laws.{FilesAreOnPlane, FilesAreUnique, TextsAreFiles, TextsKeepPatterns, TextsTellPatterns, TextsAreFixed, CanonicalIsLeast, RleTextsKeepPatterns, RefusalsHaveKinds}
-use Rattle.life_canon.specs.Listing.{canon_text}
+use Rattle.life_pattern.specs.Laws.{FilesAreOnPlane, FilesAreUnique, RefusalsHaveKinds}
+use Rattle.life_writer.specs.Laws.{TextsAreFiles, TextsKeepPatterns, TextsTellPatterns, TextsAreFixed, CanonicalIsLeast, RleTextsKeepPatterns}
+use Rattle.life_writer.specs.Listing.{canon_text}
 use Rattle.life_forms.specs.Laws.{ImagesStayOnPlane, MovedFormsAreOnPlane, MovedTextsAreFiles, MovedTextsTellFiles}
 use Rattle.life_forms.specs.Laws.{TurnedFormsAreOnPlane, TurnedTextsAreFiles, TurnedTextsTellFiles}
 use Rattle.life_phase_forms.specs.Laws.{PhasesTextsAreFiles, PhasesTextsTellFiles}

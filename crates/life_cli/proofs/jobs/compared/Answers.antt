@@ -1,20 +1,19 @@
 use Rattle.std.proofs.Common.{◌≡◌, ◌∙◌, ℕ, inl, inr, sym}
 use Rattle.std.proofs.lemmas.Result.{err_from_is_err_and}
-use Rattle.life_cli.specs.Jobs.{by_files}
-use Rattle.life_cli.proofs.WorkLemmas.{compared_in, no_first_input, no_second_input, uncompared_in}
+use Rattle.life_cli.proofs.WorkLemmas.{compared_in, no_first_file, no_first_input, no_second_file, no_second_input, uncompared_in}
 use Rattle.life_cli.proofs.jobs.compared.Goals as goal
 
 pub returns-in_err-a-clause-err : goal.returns-in_err-a-clause-err
 returns-in_err-a-clause-err g c =
     let p = err_from_is_err_and c.from_residual.result c.from_residual.ensures.1 in
-    rw (p.1, p.2) (no_first_input c.args.form _ _ c.pattern_in.new.store _ (c.pattern_in.ensures.keeps.limit ∙ c.seeded-store.ensures.most)
+    rw (p.1, p.2) (no_first_input c.args.form _ _ c.pattern_in.new.store c.in_err-a.field-0.0 (c.pattern_in.ensures.keeps.limit ∙ c.seeded-store.ensures.most)
     (rw c.seeded-store.ensures.stored at c.in_err-a.ensures.err))
 
 pub returns-in_err-b-clause-err : goal.returns-in_err-b-clause-err
 returns-in_err-b-clause-err g c =
     let p = err_from_is_err_and c.from_residual-in_err-b.result c.from_residual-in_err-b.ensures.1 in
     let a = c.in_ok-a.ensures.pattern in
-    rw (p.1, p.2) (no_second_input c.args.form _ _ a.bytes _ c.pattern_in-2.new.store _ a.read
+    rw (p.1, p.2) (no_second_input c.args.form _ _ a.bytes _ c.pattern_in-2.new.store c.in_err-b.field-0.0 a.read
     (rw c.seeded-store.ensures.stored at c.pattern_in.ensures.squares)
     (c.pattern_in-2.ensures.keeps.limit ∙ c.pattern_in.ensures.keeps.limit ∙ c.seeded-store.ensures.most) c.in_err-b.ensures.err)
 
@@ -23,7 +22,7 @@ returns-in_err-a-2-clause-err g c =
     let p = err_from_is_err_and c.from_residual-in_err-a-2.result c.from_residual-in_err-a-2.ensures.1 in
     let a = c.in_ok-a.ensures.pattern in
     let b = c.in_ok-b.ensures.pattern in
-    rw (p.1, p.2) (by_files a.bytes b.bytes a.read b.read (inl (rw c.in_err-a-2.was at a.fault)))
+    rw (p.1, p.2) (no_first_file c.args.form _ _ a.bytes b.bytes c.in_err-a-2.field-0.0 a.read b.read (rw c.in_err-a-2.was at a.fault))
 
 pub returns-in_err-b-2-clause-err : goal.returns-in_err-b-2-clause-err
 returns-in_err-b-2-clause-err g c =
@@ -31,16 +30,16 @@ returns-in_err-b-2-clause-err g c =
     let a = c.in_ok-a.ensures.pattern in
     let b = c.in_ok-b.ensures.pattern in
     let r = rw c.in_ok-a-2.was at a.pattern in
-    rw (p.1, p.2) (by_files a.bytes b.bytes a.read b.read (inr ((r.universe, r.reads), rw c.in_err-b-2.was at b.fault)))
+    rw (p.1, p.2) (no_second_file c.args.form _ _ a.bytes b.bytes c.in_err-b-2.field-0.0 a.read b.read (r.universe, r.reads) (rw c.in_err-b-2.was at b.fault))
 
-pub same_in-requires-clause-a : goal.same_in-requires-clause-a
-same_in-requires-clause-a g c =
+pub compare_in-requires-clause-a : goal.compare_in-requires-clause-a
+compare_in-requires-clause-a g c =
     let a = c.in_ok-a.ensures.pattern in
     let r = rw c.in_ok-a-2.was at a.pattern in
     (a.bytes, c.patterns_stay.ensures a.bytes _ _ _ c.pattern_in-2.ensures.keeps r)
 
-pub same_in-requires-clause-b : goal.same_in-requires-clause-b
-same_in-requires-clause-b g c =
+pub compare_in-requires-clause-b : goal.compare_in-requires-clause-b
+compare_in-requires-clause-b g c =
     let b = c.in_ok-b.ensures.pattern in
     let q = rw c.in_ok-b-2.was at b.pattern in
     (b.bytes, q)
@@ -51,7 +50,8 @@ returns-clause-ok g c =
     (c.pattern_in-2.ensures.keeps.limit ∙ c.pattern_in.ensures.keeps.limit ∙ c.seeded-store.ensures.most) c.in_ok-a.ensures.pattern.read
     c.in_ok-b.ensures.pattern.read
     (c.patterns_stay.ensures _ _ _ _ c.pattern_in-2.ensures.keeps (rw c.in_ok-a-2.was at c.in_ok-a.ensures.pattern.pattern))
-    (rw c.in_ok-b-2.was at c.in_ok-b.ensures.pattern.pattern) c.same_in.result c.same_in.ensures.answer c.same_in.ensures.have
+    (rw c.in_ok-b-2.was at c.in_ok-b.ensures.pattern.pattern) c.compare_in.result c.made_from_comparison.result
+    c.made_from_comparison.ensures.answer c.made_from_comparison.ensures.refused c.compare_in.ensures.answer c.compare_in.ensures.have
 
 pub returns-clause-err : goal.returns-clause-err
 returns-clause-err g c =
@@ -59,7 +59,8 @@ returns-clause-err g c =
     (c.pattern_in-2.ensures.keeps.limit ∙ c.pattern_in.ensures.keeps.limit ∙ c.seeded-store.ensures.most) c.in_ok-a.ensures.pattern.read
     c.in_ok-b.ensures.pattern.read
     (c.patterns_stay.ensures _ _ _ _ c.pattern_in-2.ensures.keeps (rw c.in_ok-a-2.was at c.in_ok-a.ensures.pattern.pattern))
-    (rw c.in_ok-b-2.was at c.in_ok-b.ensures.pattern.pattern) c.same_in.result c.same_in.ensures.fault
+    (rw c.in_ok-b-2.was at c.in_ok-b.ensures.pattern.pattern) c.compare_in.result c.made_from_comparison.result
+    c.made_from_comparison.ensures.answer c.made_from_comparison.ensures.refused c.compare_in.ensures.fault c.compare_in.ensures.whose
 
 -- what has not failed has not failed once
 unfailed : (n : ℕ) → n ≡ 0 → n ≡ 1 → ⊥

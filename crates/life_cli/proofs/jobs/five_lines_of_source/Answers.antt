@@ -1,7 +1,7 @@
 use Rattle.std.proofs.lemmas.Result.{err_from_is_err_and}
 use Rattle.life_base.specs.declared.cell.TheConstants.{MAX_LEVEL}
-use Rattle.life_canon.specs.Files.{Refuses}
-use Rattle.life_canon.specs.Texts.{IsShownText}
+use Rattle.life_pattern.specs.Files.{Refuses}
+use Rattle.life_writer.specs.Texts.{IsShownText}
 use Rattle.pattern_sources.proofs.SourceLemmas.{comes_of_pattern, nothing_comes}
 use Rattle.life_cli.proofs.WorkLemmas.{refused_lines}
 use Rattle.life_cli.proofs.jobs.five_lines_of_source.Goals as goal

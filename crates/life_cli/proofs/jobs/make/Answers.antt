@@ -1,7 +1,7 @@
 use Rattle.std.proofs.Common.{◌≡◌, ◌^◌, inl, refl, rules}
 use Rattle.life_base.specs.declared.cell.TheConstants.{MAX_LEVEL}
-use Rattle.life_canon.specs.Files.{Refuses}
-use Rattle.life_canon.specs.Texts.{IsRleOf, IsShownText}
+use Rattle.life_pattern.specs.Files.{Refuses}
+use Rattle.life_writer.specs.Texts.{IsRleOf, IsShownText}
 use Rattle.life_generations.specs.Later.{IsTextLater}
 use Rattle.life_periods.specs.OfFile.{IsShownWithPeriod, RefusesPeriodOfFile}
 use Rattle.life_step.specs.Stepped.{IsStepped, IsSteppedBy}
@@ -31,8 +31,8 @@ returns g c =
           w.rle_of_source.result _ (λ x. (refl, refl)) works (λ has. has) (λ bytes text is. (refl, is)) (λ output refusal h. (h.0, by_reading h.1))
           w.rle_of_source.ensures w.made_from_text-in-Convert-Rle-default.ensures.text w.made_from_text-in-Convert-Rle-default.ensures.fault)
       | in-Same-Some w ↦
-          rw (w.in-Same-Some.is-0, w.result-is, w.first-is, w.second-is, w.in-Same-Some.is-1) (made_of_comparison _ _ _ w.compared.result _
-          w.compared.ensures.ok w.compared.ensures.err w.compared.ensures.reported w.made_from_comparison.ensures.answer w.made_from_comparison.ensures.fault)
+          rw (w.in-Same-Some.is-0, w.result-is, w.first-is, w.second-is, w.in-Same-Some.is-1) (made_of_comparison _ _ _ w.compared.result
+          w.compared.ensures.ok w.compared.ensures.err w.compared.ensures.reported)
       | in-Show-default w ↦
           rw (w.in-Show-default.is-0, w.result-is, w.first-is, w.second-is) (made_of_text Text (λ text. text.items) (IsShownText MAX_LEVEL) (Refuses MAX_LEVEL)
           Show _ _ w.five_lines_of_source.result _ (λ x. (refl, refl)) works (λ has. has) (λ bytes text is. (refl, is))

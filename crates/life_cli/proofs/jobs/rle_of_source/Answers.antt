@@ -1,7 +1,7 @@
 use Rattle.std.proofs.Common.{◌^◌, inl}
 use Rattle.std.proofs.lemmas.Result.{err_from_is_err_and}
 use Rattle.life_base.specs.declared.cell.TheConstants.{MAX_LEVEL}
-use Rattle.life_canon.specs.Texts.{IsRleOf}
+use Rattle.life_writer.specs.Texts.{IsRleOf}
 use Rattle.pattern_sources.specs.Sources.{RefusesMany}
 use Rattle.pattern_sources.proofs.SourceLemmas.{comes_of_pattern, nothing_comes}
 use Rattle.life_cli.proofs.WorkLemmas.{refused_rle}

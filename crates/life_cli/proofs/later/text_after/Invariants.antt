@@ -1,6 +1,6 @@
 use Rattle.std.proofs.Common.{◌-◌, ◌≤◌, ℕ, List}
 use Rattle.life_base.specs.declared.cell.TheConstants.{MAX_LEVEL}
-use Rattle.life_canon.specs.Texts.{IsCanonical}
+use Rattle.life_writer.specs.Texts.{IsCanonical}
 use Rattle.life_cli.specs.Jobs.{IsSteppedTimes}
 use Rattle.life_cli.proofs.later.text_after.Given as goal
 

@@ -1,8 +1,8 @@
 use Rattle.std.proofs.Common.{◌∙◌, Some, inl}
 use Rattle.std.proofs.lemmas.Result.{err_from_is_err_and}
 use Rattle.life_base.specs.declared.cell.TheConstants.{MAX_LEVEL}
-use Rattle.life_canon.specs.Files.{Reads}
-use Rattle.life_canon.specs.Universe.{Universe}
+use Rattle.life_pattern.specs.Files.{Reads}
+use Rattle.life_pattern.specs.Universe.{Universe}
 use Rattle.life_step.specs.Refusals.{LifeRefusal, SomeByRule}
 use Rattle.life_step.specs.Stepped.{IsStepped}
 use Rattle.life_cli.specs.Jobs.{RefusesLifeStep}

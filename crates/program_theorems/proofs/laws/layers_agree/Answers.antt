@@ -1,4 +1,4 @@
-use Rattle.life_canon.specs.Listing.{canon_text}
+use Rattle.life_writer.specs.Listing.{canon_text}
 use Rattle.program_theorems.proofs.laws.layers_agree.Goals as goal
 
 pub returns : goal.returns
