@@ -10,11 +10,11 @@ use Rattle.life_base.specs.declared.fault.Fault.{Fault}
 use Rattle.life_base.specs.declared.kind.Kind.{Kind}
 use Rattle.life_base.specs.declared.kind.Kind.TheVariants as kinds
 use Rattle.life_quad.specs.Store.{Nodes}
-use Rattle.life_canon.specs.Files.{is_file_kind, Refuses}
-use Rattle.life_canon.specs.Laws.{RefusalsHaveKinds}
+use Rattle.life_pattern.specs.Files.{is_file_kind, Refuses}
+use Rattle.life_pattern.specs.Laws.{RefusalsHaveKinds}
 use Rattle.life_canon.specs.Running.{RunRefuses}
 use Rattle.life_canon.specs.Running as running
-use Rattle.life_canon.specs.Store.{IsShortageOf}
+use Rattle.life_pattern.specs.Store.{IsShortageOf}
 use Rattle.pattern_sources.specs.Faults.{status_of}
 use Rattle.pattern_sources.specs.Forms.{IsTextAtStart, IsTextIn}
 use Rattle.pattern_sources.specs.Sources.{by_file, by_input, by_length, by_source, by_want, ComesOf, HasNoText, HasText, InputRefuses, IsTooSmallFor, RefusesInForm}

@@ -19,7 +19,7 @@ use Rattle.life_base.specs.declared.fault.Fault.{Fault}
 use Rattle.life_base.specs.declared.kind.Kind.{Kind}
 use Rattle.life_base.proofs.WritingLemmas.{prefix-after, prefix-grows}
 use Rattle.pattern_sources.specs.Faults.{fault_line, refusal_of, status_of, Reports}
-use Rattle.life_canon.specs.Laws.{RefusalsHaveKinds}
+use Rattle.life_pattern.specs.Laws.{RefusalsHaveKinds}
 use Rattle.pattern_sources.specs.Sources.{by_length, by_source, by_want, HasNoText, HasText, InputRefuses, RefusesInForm}
 use Rattle.file_keys.specs.KeyRuns.{broken_off, bytes_of_name, by_call, by_name, by_reading, Comes, greatest_status, IsOutcomeOf, IsReportedAs, LacksBytes, LacksList, list_word, Listed, Name, names_among, names_in, names_of, outcome_status, output_line, output_of, KeysRan, ReadsList, report_line, reports_of, style_of, Processed, Takes, TakesAll, TakesFiles, TellsOn, through, Took, Word, words_of_plan, WritesFiles}
 use Rattle.command_line.specs.Origins.{OpenerGives}

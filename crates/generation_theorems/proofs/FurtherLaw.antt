@@ -8,12 +8,12 @@ use Rattle.life_base.specs.declared.kind.Kind.TheVariants as kinds
 use Rattle.life_base.specs.declared.rule.Rule.{Rule as LayerRule}
 use Rattle.life_base.specs.declared.rule.Rule.TheVariants.{Life, Named}
 use Rattle.life_quad.specs.Store.{Nodes}
-use Rattle.life_canon.specs.Files.{Reads, Refuses}
-use Rattle.life_canon.specs.Laws.{FilesAreOnPlane, FilesAreUnique}
-use Rattle.life_canon.specs.Listing.{canon_text}
-use Rattle.life_canon.specs.Store.{IsShortageOf}
-use Rattle.life_canon.specs.Texts.{IsCanonical}
-use Rattle.life_canon.specs.Universe.{Universe}
+use Rattle.life_pattern.specs.Files.{Reads, Refuses}
+use Rattle.life_pattern.specs.Laws.{FilesAreOnPlane, FilesAreUnique}
+use Rattle.life_writer.specs.Listing.{canon_text}
+use Rattle.life_pattern.specs.Store.{IsShortageOf}
+use Rattle.life_writer.specs.Texts.{IsCanonical}
+use Rattle.life_pattern.specs.Universe.{Universe}
 use Rattle.life_leap.specs.After.{after}
 use Rattle.life_leap.proofs.AfterLemmas.{after-next, after-none}
 use Rattle.life_later.specs.Course.{LeavesWithin}

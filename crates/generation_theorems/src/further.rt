@@ -5,11 +5,11 @@ ghost use Rattle.generation_theorems.specs.Words.{IsClaimedTextLater, IsNotAdvan
 
 use life_base::Fault;
 use life_canon::canon;
-use life_canon::laws::{files_are_on_plane, files_are_unique};
 use life_generations::laws::{
     later_texts_are_unique, no_generation_is_canonical, one_generation_is_step,
 };
 use life_generations::step_later;
+use life_pattern::laws::{files_are_on_plane, files_are_unique};
 use life_step::step_life;
 use std::alloc::Global;
 use theorems::{StoreOptions, are_equal};

@@ -15,5 +15,5 @@ pub use Rattle.library_calls.specs.Reported.{Returns, ReturnsText, reply}
 pub use Rattle.library_calls.specs.declared.texts.Output.{Output as OutputValue}
 pub use Rattle.life_base.specs.Kinds.{kind_name, kind_number}
 pub use Rattle.life_base.specs.declared.kind.Kind.{Kind as KindValue}
-pub use Rattle.life_canon.specs.Texts.{IsShownText}
+pub use Rattle.life_writer.specs.Texts.{IsShownText}
 pub use Rattle.life_step.specs.Stepped.{IsStepped}

@@ -102,7 +102,7 @@ pub extern "C" fn golly_canon_open_step_generations(
 }
 
 /// Takes the next piece of the file. The fault of a line that it reports is that of the whole file, whatever bytes follow (`faults_stay` of
-/// `life_canon`).
+/// `life_reader`).
 #[unsafe(no_mangle)]
 pub extern "C" fn golly_canon_feed(
     alloc: Global,

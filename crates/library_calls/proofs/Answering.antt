@@ -6,7 +6,7 @@ use Rattle.life_base.specs.declared.fault.Fault.{Fault}
 use Rattle.life_base.specs.declared.kind.Kind.TheVariants.{Full, Memory}
 use Rattle.life_base.specs.Tree.{Tree}
 use Rattle.life_quad.specs.Store.{Nodes, stored_squares}
-use Rattle.life_canon.specs.Store.{IsShortageOf}
+use Rattle.life_pattern.specs.Store.{IsShortageOf}
 use Rattle.life_base.specs.declared.form.Form.TheVariants.{Placed}
 use Rattle.library_calls.specs.Reported.{Reported, ReturnsText, ReturnsFault, Returns, by_text, by_fault}
 use Rattle.library_calls.specs.Texts.{TellsText, IsLimitShortage, squares_of_limit}

@@ -8,15 +8,18 @@ use Rattle.life_base.specs.declared.fault.Fault.{Fault}
 use Rattle.life_base.specs.declared.kind.Kind.TheVariants.{Full}
 use Rattle.life_quad.specs.Keeping.{AddsOnly}
 use Rattle.life_quad.specs.Store.{Nodes, stored_squares}
-use Rattle.life_canon.specs.Files.{Accepted, Refuses}
-use Rattle.life_canon.specs.Laws.{CanonicalIsLeast, FilesAreOnPlane, RefusalsHaveKinds, TextsAreFiles}
-use Rattle.life_canon.specs.Listing.{canonical_file}
-use Rattle.life_canon.specs.Needs.{IsNew, LacksFor}
-use Rattle.life_canon.specs.Space.{AddsFile, FewSquares, HoldsFile, HoldsOnly, LimitSuffices, sufficient_for}
-use Rattle.life_canon.specs.Store.{IsRead, IsShortageOf, RefusesIn}
-use Rattle.life_canon.specs.Texts.{IsCanonical}
-use Rattle.life_canon.specs.declared.pattern.Pattern.{Pattern}
-use Rattle.life_canon.proofs.SpaceCount.{found-as, find-file}
+use Rattle.life_pattern.specs.Files.{Accepted, Refuses}
+use Rattle.life_writer.specs.Laws.{CanonicalIsLeast, TextsAreFiles}
+use Rattle.life_pattern.specs.Laws.{FilesAreOnPlane, RefusalsHaveKinds}
+use Rattle.life_writer.specs.Listing.{canonical_file}
+use Rattle.life_pattern.specs.Store.{IsNew}
+use Rattle.life_reader.specs.Needs.{LacksFor}
+use Rattle.life_reader.specs.Space.{AddsFile, FewSquares, HoldsFile, HoldsOnly, LimitSuffices, sufficient_for}
+use Rattle.life_pattern.specs.Store.{IsRead, IsShortageOf, RefusesIn}
+use Rattle.life_writer.specs.Texts.{IsCanonical}
+use Rattle.life_pattern.specs.declared.pattern.Pattern.{Pattern}
+use Rattle.life_pattern.proofs.Found.{found-as}
+use Rattle.life_reader.proofs.SpaceCount.{find-file}
 use Rattle.pattern_forms.specs.InForm.{FileLacksForm, IsTextWithin, OneFileLacksForm, RefusesFormFor, most_of_form}
 use Rattle.life_base.specs.declared.form.Form.{Form}
 use Rattle.life_base.specs.declared.form.Form.TheVariants.{Placed, Moved, Turned, Phases}

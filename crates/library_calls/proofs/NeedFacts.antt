@@ -14,13 +14,15 @@ use Rattle.life_base.specs.declared.fault.Fault.{Fault}
 use Rattle.life_base.specs.declared.kind.Kind.TheVariants.{Full}
 use Rattle.life_quad.specs.Keeping.{AddsOnly}
 use Rattle.life_quad.specs.Store.{Nodes, IsShared, content, stored_squares, id_of}
-use Rattle.life_canon.specs.Calls.{EndsInto, FeedsInto, ReadsInto}
-use Rattle.life_canon.specs.Needs.{IsNew, LacksFor}
-use Rattle.life_canon.specs.Space.{HoldsFile, AddsFile, HoldsPrefix, HoldsOnly, sufficient_for}
-use Rattle.life_canon.specs.Store.{IsRead}
-use Rattle.life_canon.specs.declared.pattern.Pattern.{Pattern}
-use Rattle.life_canon.proofs.SpaceCount.{Found, find-file, find-lines}
-use Rattle.life_canon.proofs.SpaceLists.{Among, among-contains, contains-among, distinct-pairs, pigeons}
+use Rattle.life_reader.specs.Calls.{EndsInto, FeedsInto, ReadsInto}
+use Rattle.life_pattern.specs.Store.{IsNew}
+use Rattle.life_reader.specs.Needs.{LacksFor}
+use Rattle.life_reader.specs.Space.{HoldsFile, AddsFile, HoldsPrefix, HoldsOnly, sufficient_for}
+use Rattle.life_pattern.specs.Store.{IsRead}
+use Rattle.life_pattern.specs.declared.pattern.Pattern.{Pattern}
+use Rattle.life_pattern.proofs.Found.{Found}
+use Rattle.life_reader.proofs.SpaceCount.{find-file, find-lines}
+use Rattle.life_pattern.proofs.SpaceLists.{Among, among-contains, contains-among, distinct-pairs, pigeons}
 pub use Rattle.life_forms.proofs.SizeFacts.{HoldsOnce, HoldsNeeded, no-square, all-cons, more-than-held, needs-more, within, longer, enough, from-empty}
 use Rattle.library_calls.specs.Outputs.{IsTooLowForPrefix, SomeOfPrefix}
 use Rattle.library_calls.specs.Texts.{Fits, IsTooLowFor, NeedsMore, SomeToRead, squares_of_limit}

@@ -6,8 +6,8 @@ use Rattle.life_base.specs.declared.cell.TheConstants.{MAX_LEVEL}
 use Rattle.life_base.specs.declared.fault.Fault.{Fault}
 use Rattle.life_base.specs.declared.kind.Kind.TheVariants.{Full}
 use Rattle.life_quad.specs.Store.{Nodes, stored_squares}
-use Rattle.life_canon.specs.Feeding.{RefusesPrefix}
-use Rattle.life_canon.specs.Store.{IsShortageOf}
+use Rattle.life_reader.specs.Feeding.{RefusesPrefix}
+use Rattle.life_pattern.specs.Store.{IsShortageOf}
 use Rattle.file_hints.specs.Damage.{warning_of}
 use Rattle.file_hints.specs.declared.warnings.Warning.{Warning}
 use Rattle.library_calls.specs.Texts.{Fits, SomeToRead, squares_of_limit}

@@ -8,14 +8,14 @@ use Rattle.life_base.specs.declared.kind.Kind.TheVariants.{Full, Memory, TooMany
 use Rattle.life_base.specs.declared.rule.Rule.{Rule}
 use Rattle.life_quad.specs.Keeping.{AddsOnly}
 use Rattle.life_quad.specs.Store.{Nodes, stored_squares}
-use Rattle.life_canon.specs.Files.{Reads}
-use Rattle.life_canon.specs.Needs.{IsNew}
-use Rattle.life_canon.specs.Space.{HoldsOnly}
-use Rattle.life_canon.specs.Store.{IsRead, IsShortageOf, RefusesIn, content}
-use Rattle.life_canon.specs.Texts.{FileHasMoreCells}
-use Rattle.life_canon.specs.Universe.{Universe, whole}
-use Rattle.life_canon.specs.declared.pattern.Pattern.{Pattern}
-use Rattle.life_canon.proofs.SpaceCount.{Found, found-as}
+use Rattle.life_pattern.specs.Files.{Reads}
+use Rattle.life_pattern.specs.Store.{IsNew}
+use Rattle.life_reader.specs.Space.{HoldsOnly}
+use Rattle.life_pattern.specs.Store.{IsRead, IsShortageOf, RefusesIn, content}
+use Rattle.life_writer.specs.Texts.{FileHasMoreCells}
+use Rattle.life_pattern.specs.Universe.{Universe, whole}
+use Rattle.life_pattern.specs.declared.pattern.Pattern.{Pattern}
+use Rattle.life_pattern.proofs.Found.{Found, found-as}
 use Rattle.life_table.specs.declared.table.Table.{Table}
 use Rattle.life_step.specs.Refusals.{LacksForLife, LacksForTable, LifeRefusal, SomeByRule, SomeByTable, SomeOfStep, SomeOfStepBy, TableRefusal}
 use Rattle.life_generations.specs.Later.{LaterRefusal}

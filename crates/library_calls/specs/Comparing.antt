@@ -4,8 +4,8 @@ use Rattle.life_base.specs.Kinds.{kind_number}
 use Rattle.life_base.specs.Tree.{Tree}
 use Rattle.life_base.specs.declared.cell.TheConstants.{MAX_LEVEL}
 use Rattle.life_base.specs.declared.fault.Fault.{Fault}
-use Rattle.life_canon.specs.Files.{Accepted, Same, Refuses}
-use Rattle.life_canon.specs.Space.{sufficient_for}
+use Rattle.life_pattern.specs.Files.{Accepted, Same, Refuses}
+use Rattle.life_reader.specs.Space.{sufficient_for}
 use Rattle.library_calls.specs.Texts.{NeedsMore, SomeToRead, IsLimitShortage}
 pub use Rattle.library_calls.specs.declared.compared.Compared.{Compared}
 

@@ -3,7 +3,7 @@ use Rattle.std.specs.Prelude.{◌≡◌, ◌⊎◌, ℕ, List}
 use Rattle.life_base.specs.Kinds.{kind_number}
 use Rattle.life_base.specs.declared.cell.TheConstants.{MAX_LEVEL}
 use Rattle.life_base.specs.declared.fault.Fault.{Fault}
-use Rattle.life_canon.specs.Files.{Accepted}
+use Rattle.life_pattern.specs.Files.{Accepted}
 use Rattle.pattern_forms.specs.InForm.{AreSameIn, OneFileLacksForm, RefusesFormFor}
 use Rattle.life_base.specs.declared.form.Form.{Form}
 use Rattle.library_calls.specs.Comparing.{Compared, RefusesEither}

@@ -4,12 +4,12 @@ use Rattle.life_base.specs.Lines.{whole_lines}
 use Rattle.life_base.specs.Tree.{Tree}
 use Rattle.life_base.specs.declared.cell.TheConstants.{MAX_LEVEL}
 use Rattle.life_base.specs.declared.fault.Fault.{Fault}
-use Rattle.life_canon.specs.Feeding.{RefusesPrefix}
-use Rattle.life_canon.specs.Needs.{SomeOfLines}
-use Rattle.life_canon.specs.Space.{HoldsOnly, sufficient_for}
-use Rattle.life_canon.specs.Store.{IsRead}
-use Rattle.life_canon.specs.Texts.{IsShownText}
-use Rattle.life_canon.specs.declared.pattern.Pattern.{Pattern}
+use Rattle.life_reader.specs.Feeding.{RefusesPrefix}
+use Rattle.life_reader.specs.Needs.{SomeOfLines}
+use Rattle.life_reader.specs.Space.{HoldsOnly, sufficient_for}
+use Rattle.life_pattern.specs.Store.{IsRead}
+use Rattle.life_writer.specs.Texts.{IsShownText}
+use Rattle.life_pattern.specs.declared.pattern.Pattern.{Pattern}
 use Rattle.life_quad.specs.Store.{Nodes}
 use Rattle.library_calls.specs.Texts.{IsRleText, NeedsMore, squares_of_limit, RefusesWithin, RefusesRleWithin, IsLimitShortage}
 use Rattle.life_step.specs.Stepped.{IsStepped}

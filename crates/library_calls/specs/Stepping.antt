@@ -5,8 +5,8 @@ use Rattle.life_base.specs.Text.{lines_of}
 use Rattle.life_base.specs.declared.cell.TheConstants.{MAX_LEVEL}
 use Rattle.life_base.specs.declared.fault.Fault.{Fault}
 use Rattle.life_base.specs.declared.kind.Kind.TheVariants.{Full, Memory}
-use Rattle.life_canon.specs.Files.{Reads, Refuses}
-use Rattle.life_canon.specs.Universe.{Universe}
+use Rattle.life_pattern.specs.Files.{Reads, Refuses}
+use Rattle.life_pattern.specs.Universe.{Universe}
 use Rattle.life_table.specs.Grammar.{IsPlainTable}
 use Rattle.life_table.specs.Reading.{RefusesTable}
 use Rattle.life_table.specs.declared.table.Table.{Table}

@@ -6,7 +6,7 @@ use Rattle.life_base.specs.Kinds.{kind_number}
 use Rattle.life_base.specs.declared.cell.TheConstants.{MAX_LEVEL}
 use Rattle.life_base.specs.declared.fault.Fault.{Fault}
 use Rattle.life_base.specs.declared.kind.Kind.TheVariants.{Memory, Spent}
-use Rattle.life_canon.specs.Feeding.{RefusesPrefix}
+use Rattle.life_reader.specs.Feeding.{RefusesPrefix}
 use Rattle.file_hints.specs.Damage.{warning_of}
 use Rattle.file_hints.specs.Warnings.{warning_sentence}
 use Rattle.file_hints.specs.declared.warnings.Warning.{Warning}

@@ -7,11 +7,11 @@ use Rattle.life_base.specs.declared.cell.TheConstants.{MAX_LEVEL}
 use Rattle.life_base.specs.declared.fault.Fault.{Fault}
 use Rattle.life_base.specs.declared.kind.Kind.TheVariants.{Full, TooManyCells}
 use Rattle.life_quad.specs.Store.{Nodes, stored_squares}
-use Rattle.life_canon.specs.Files.{Same, Refuses}
-use Rattle.life_canon.specs.Least.{IsLeastText}
-use Rattle.life_canon.specs.Needs.{SomeOfFile}
-use Rattle.life_canon.specs.Space.{sufficient_for}
-use Rattle.life_canon.specs.Texts.{IsCanonical, IsRleOf, FileHasMoreCells}
+use Rattle.life_pattern.specs.Files.{Same, Refuses}
+use Rattle.life_writer.specs.Least.{IsLeastText}
+use Rattle.life_reader.specs.Needs.{SomeOfFile}
+use Rattle.life_reader.specs.Space.{sufficient_for}
+use Rattle.life_writer.specs.Texts.{IsCanonical, IsRleOf, FileHasMoreCells}
 pub use Rattle.life_forms.specs.Needed.{NeedsMore}
 use Rattle.library_calls.specs.Reported.{Reported}
 

@@ -13,10 +13,10 @@ pub use Rattle.life_base.specs.Refusal.{fault_of}
 pub use Rattle.life_base.specs.declared.cell.TheConstants.{MAX_LEVEL}
 pub use Rattle.life_base.specs.declared.fault.Fault.{Fault as FaultValue}
 pub use Rattle.life_base.specs.declared.kind.Kind.TheVariants.{Full}
-pub use Rattle.life_canon.specs.Feeding.{RefusesPrefix}
-pub use Rattle.life_canon.specs.Files.{Accepted, Refuses}
-pub use Rattle.life_canon.specs.Store.{IsOfFile, IsRead, IsShortageOf}
-pub use Rattle.life_canon.specs.Texts.{IsShownText}
+pub use Rattle.life_reader.specs.Feeding.{RefusesPrefix}
+pub use Rattle.life_pattern.specs.Files.{Accepted, Refuses}
+pub use Rattle.life_pattern.specs.Store.{IsOfFile, IsRead, IsShortageOf}
+pub use Rattle.life_writer.specs.Texts.{IsShownText}
 pub use Rattle.pattern_forms.specs.InForm.{AreSameIn, OneFileLacksForm}
 pub use Rattle.life_quad.specs.Keeping.{AddsOnly}
 pub use Rattle.life_quad.specs.Store.{stored_squares}

@@ -7,9 +7,11 @@ use crate::compared::Compared;
 use crate::in_form::{NO_FORM, form_of};
 use crate::options::Options;
 use life_base::{Fault, Form};
-use life_canon::laws::{few_squares, limit_suffices, patterns_stay, refusals_have_kinds};
-use life_canon::{Pattern, read};
+use life_pattern::Pattern;
+use life_pattern::laws::{patterns_stay, refusals_have_kinds};
 use life_quad::Shared;
+use life_reader::laws::{few_squares, limit_suffices};
+use life_reader::read;
 use pattern_forms::same_in;
 use std::alloc::Global;
 

@@ -7,9 +7,9 @@ use crate::options::Options;
 use crate::texts::{Output, text_of_read};
 use file_hints::{Warning, Watch};
 use life_base::{Fault, MAX_LEVEL};
-use life_canon::Reader;
-use life_canon::laws::prefixes_hold;
 use life_quad::Shared;
+use life_reader::Reader;
+use life_reader::laws::prefixes_hold;
 use std::alloc::Global;
 use std::marker::Model;
 
@@ -26,8 +26,8 @@ impl Model for Feeding {
     ghost use Rattle.std.specs.Prelude.{◌≡◌, ◌++◌, ℕ, List, [], false};
     ghost use Rattle.file_hints.specs.Damage.{warning_of};
     ghost use Rattle.file_hints.specs.Watching.{warning_after};
-    ghost use Rattle.life_canon.specs.Feeding.{Stands};
-    ghost use Rattle.life_canon.specs.Space.{HoldsPrefix};
+    ghost use Rattle.life_reader.specs.Feeding.{Stands};
+    ghost use Rattle.life_reader.specs.Space.{HoldsPrefix};
     ghost use Rattle.library_calls.specs.Outputs.{Piecewise};
 
     ghost Value = { Piecewise };

@@ -22,8 +22,8 @@
 //!
 //! A call touches nothing but its arguments and what an open stream stores, so calls on different memory and streams can run side by side.
 //!
-//! It doesn't know the command line and the system. It uses `life_canon`, `pattern_forms`, `life_step`, `life_generations` and `file_hints`, as the program does.
-//! Above it, `golly_canon_c` exports the calls.
+//! It doesn't know the command line and the system. It uses `life_reader`, `life_writer`, `pattern_forms`, `life_step`, `life_generations` and
+//! `file_hints`, as the program does. Above it, `golly_canon_c` exports the calls.
 //!
 //! Read first: `src/texts.rt` and `specs/Texts.antt` (whole files), and `src/streams.rt`.
 #![tactic(auto)]

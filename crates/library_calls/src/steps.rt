@@ -8,7 +8,7 @@ use crate::reported::{Reported, refuse, tell};
 use crate::seeds::seed_of_names;
 use crate::texts::{Output, answer};
 use life_base::Fault;
-use life_canon::read;
+use life_reader::read;
 use life_step::next_by_table;
 use life_table::{Table, read_table_seeded};
 use std::alloc::Global;

@@ -102,7 +102,7 @@ fn tell_key(session: &Session, out: &mut [u8]) -> Reported
 }
 
 /// Takes the next piece of the file. The fault of a line that it reports is that of the whole file, whatever bytes follow (`faults_stay` of
-/// `life_canon`).
+/// `life_reader`).
 pub fn feed(alloc: Global, stream: &mut Stream, piece: &[u8]) -> Reported
     ensures closed { session_of stream.old ≡ None
         → (session_of stream.new ≡ None) × IsSpent result.status result.line }

@@ -6,11 +6,14 @@ ghost use Rattle.library_calls.specs.Words.{Returns, Fits, SomeToRead, TellsText
 use crate::options::Options;
 use crate::reported::{Reported, tell};
 use life_base::{Fault, Form, MAX_LEVEL};
-use life_canon::laws::{canonical_is_least, files_are_on_plane, texts_are_files};
-use life_canon::{Pattern, five_lines_of, read, rle_of};
 use life_generations::later_by_rule;
+use life_pattern::Pattern;
+use life_pattern::laws::files_are_on_plane;
 use life_quad::Shared;
+use life_reader::read;
 use life_step::next_by_rule;
+use life_writer::laws::{canonical_is_least, texts_are_files};
+use life_writer::{five_lines_of, rle_of};
 use pattern_forms::text_in;
 use std::alloc::Global;
 

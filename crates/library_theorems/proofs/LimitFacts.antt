@@ -6,9 +6,9 @@ use Rattle.life_base.specs.Kinds.{kind_number}
 use Rattle.life_base.specs.Tree.{Tree, is_blank_tree}
 use Rattle.life_base.specs.declared.fault.Fault.{Fault}
 use Rattle.life_base.specs.declared.kind.Kind.TheVariants.{Full}
-use Rattle.life_canon.specs.Calls.{ReadsInto}
-use Rattle.life_canon.specs.Store.{IsRead}
-use Rattle.life_canon.specs.declared.pattern.Pattern.{Pattern as LayerPattern}
+use Rattle.life_reader.specs.Calls.{ReadsInto}
+use Rattle.life_pattern.specs.Store.{IsRead}
+use Rattle.life_pattern.specs.declared.pattern.Pattern.{Pattern as LayerPattern}
 use Rattle.life_quad.specs.Store.{Nodes, stored_squares}
 use Rattle.claims.specs.Files.{pattern_of}
 use Rattle.theorems.proofs.RefusalLaw.{accepted_is_ok, refuses_agree}

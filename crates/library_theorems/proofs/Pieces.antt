@@ -4,7 +4,7 @@ use Rattle.std.specs.Global.{Vec}
 use Rattle.life_base.specs.Kinds.{kind_number}
 use Rattle.life_base.specs.declared.fault.Fault.{Fault}
 use Rattle.life_base.specs.declared.kind.Kind.TheVariants.{Memory}
-use Rattle.life_canon.specs.Laws.{FaultsStay}
+use Rattle.life_reader.specs.Laws.{FaultsStay}
 use Rattle.theorems.specs.Joined.{all_bytes}
 use Rattle.theorems.proofs.PieceLaw.{joined_all, joined_split}
 use Rattle.theorems.proofs.RefusalLaw.{refuses_agree}

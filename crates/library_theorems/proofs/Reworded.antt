@@ -5,11 +5,12 @@ use Rattle.life_base.specs.Refusal.{OrMemory}
 use Rattle.life_base.specs.Text.{lines_of}
 use Rattle.life_base.specs.declared.fault.Fault.{Fault}
 use Rattle.life_base.specs.declared.kind.Kind.TheVariants.{Memory}
-use Rattle.life_canon.specs.Files.{Accepted}
-use Rattle.life_canon.specs.Laws.{CanonicalIsLeast, FilesAreOnPlane, FilesAreUnique, TextsAreFiles, TextsKeepPatterns}
-use Rattle.life_canon.specs.Least.{IsLeastText}
-use Rattle.life_canon.specs.Listing.{canon_text, canonical_file}
-use Rattle.life_canon.specs.Texts.{IsCanonical, IsShownText}
+use Rattle.life_pattern.specs.Files.{Accepted}
+use Rattle.life_writer.specs.Laws.{CanonicalIsLeast, TextsAreFiles, TextsKeepPatterns}
+use Rattle.life_pattern.specs.Laws.{FilesAreOnPlane, FilesAreUnique}
+use Rattle.life_writer.specs.Least.{IsLeastText}
+use Rattle.life_writer.specs.Listing.{canon_text, canonical_file}
+use Rattle.life_writer.specs.Texts.{IsCanonical, IsShownText}
 use Rattle.life_table.specs.Grammar.{IsPlainTable}
 use Rattle.life_table.specs.Reading.{RefusesTable, AreTable}
 use Rattle.life_table.specs.declared.table.Table.{Table as LayerTable}

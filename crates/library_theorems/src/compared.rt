@@ -4,7 +4,7 @@ ghost use Rattle.std.specs.Prelude.{◌≡◌, ◌≢◌, ◌⊎◌, ◌+◌, Er
 ghost use Rattle.library_theorems.specs.Words.{kind_number, Fault, SayOnePattern, pattern_of, IsShortageBelow, squares_for};
 
 use library_calls::{Compared, Options, same};
-use life_canon::laws::files_are_on_plane;
+use life_pattern::laws::files_are_on_plane;
 use std::alloc::Global;
 
 /// 1 is reported where two files are of one rule and one generation and each cell has the same state in both, and 0 where they

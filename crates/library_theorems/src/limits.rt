@@ -5,8 +5,9 @@ ghost use Rattle.library_theorems.specs.Words.{kind_number};
 
 use library_calls::{Compared, Options, Reported, canon, key, same};
 use life_base::{Fault, Kind};
-use life_canon::{Pattern, read};
+use life_pattern::Pattern;
 use life_quad::Shared;
+use life_reader::read;
 use std::alloc::Global;
 
 /// If the canonical text of a file is given, an empty store into which the file is read counts no more different squares than the limit; if `Full` is

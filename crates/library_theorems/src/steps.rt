@@ -6,7 +6,7 @@ ghost use Rattle.library_theorems.specs.Words.{Fault, IsClaimedTextLater, IsNotA
 use claims::laws::{tables_decide, tables_read, tables_refuse};
 use library_calls::{Options, Reported, step, step_by_table, step_generations};
 use life_base::{Fault, Kind};
-use life_canon::laws::{files_are_on_plane, files_are_unique};
+use life_pattern::laws::{files_are_on_plane, files_are_unique};
 use life_quad::Shared;
 use life_table::laws::grammars_agree;
 use std::alloc::Global;

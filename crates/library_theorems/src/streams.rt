@@ -5,11 +5,10 @@ ghost use Rattle.library_theorems.specs.Words.{kind_number, claimed_node_lines, 
 
 use library_calls::{Options, Output, Reported, Stream, close, feed, finish, open};
 use life_base::{Fault, Kind};
-use life_canon::laws::{
-    canonical_is_least, faults_stay, files_are_on_plane, files_are_unique, texts_are_files,
-    texts_keep_patterns,
-};
+use life_pattern::laws::{files_are_on_plane, files_are_unique};
 use life_quad::Shared;
+use life_reader::laws::faults_stay;
+use life_writer::laws::{canonical_is_least, texts_are_files, texts_keep_patterns};
 use std::alloc::Global;
 
 /// What is reported at the end of the file that these are the pieces of: each is fed to an open stream, which is finished and closed.

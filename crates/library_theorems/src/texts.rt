@@ -5,10 +5,9 @@ ghost use Rattle.library_theorems.specs.Words.{claimed_node_lines, IsCanonicalTe
 
 use library_calls::{Options, Reported, canon, show, to_rle};
 use life_base::Fault;
-use life_canon::laws::{
-    canonical_is_least, files_are_on_plane, files_are_unique, texts_are_files, texts_keep_patterns,
-};
+use life_pattern::laws::{files_are_on_plane, files_are_unique};
 use life_quad::Shared;
+use life_writer::laws::{canonical_is_least, texts_are_files, texts_keep_patterns};
 use std::alloc::Global;
 
 /// The canonical text of a file is at the beginning of the caller's memory, or its length is reported where it doesn't fit; or

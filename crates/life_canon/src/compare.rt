@@ -3,19 +3,11 @@
 ghost use Rattle.std.specs.Prelude.{◌≡◌, ◌↔◌, ◌⊎◌, IsTrue, IfOk, IfErr, OnOk};
 ghost use Rattle.life_canon.specs.Words.{ReadsBothInto, Accepted, Same, Refuses, IsShortageOf};
 
-use crate::files::read;
-use crate::pattern::Pattern;
 use life_base::{Fault, MAX_LEVEL};
+use life_pattern::are_same;
 use life_quad::Shared;
+use life_reader::read;
 use std::alloc::Global;
-
-/// Whether two patterns of one store are the same: whether the files are that they were read from (`laws::patterns_tell_files`).
-pub fn are_same(a: &Pattern, b: &Pattern) -> bool
-    ensures { IsTrue result ↔ ((a.now.rule ≡ b.now.rule) × (a.now.generation ≡ b.now.generation)
-        × (a.now.root ≡ b.now.root)) }
-{
-    a.rule.same(&b.rule) && a.generation == b.generation && a.root == b.root
-}
 
 /// Whether two files, each of either format, say the same rule, the same generation and the same state of each cell of the plane.
 ///

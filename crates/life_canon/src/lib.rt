@@ -20,41 +20,25 @@
 //!                                4 0 0 1 2       4 0 0 1 1
 //! ```
 //!
-//! It doesn't know commands, forms or next generations, or what a source or a sink really is. It uses both formats, `life_quad` and `life_strip`. Above it,
-//! `life_forms`, `life_step`, `life_periods` and `life_generations` work on its patterns, and `pattern_sources` calls it for the program.
+//! It doesn't know commands, forms or next generations, or what a source or a sink really is. It uses `life_pattern`, `life_reader` and `life_writer`, and
+//! passes on what they have for a caller. Above it, `pattern_sources` calls it for the program, and `theorems` proves the headline of it.
 //!
-//! Read first: `specs/Files.antt` and `specs/Universe.antt` (what a file says), `specs/Listing.antt` (its canonical lines), and `src/texts.rt`.
+//! Read first: `specs/Running.antt` (what a run from a source to a sink leaves), and `src/texts.rt`. What a file says is defined in `life_pattern`, and its
+//! canonical lines in `life_writer`.
 #![tactic(auto)]
 
-mod cell_counts;
 mod compare;
-mod files;
 pub mod laws;
-mod leaf_rows;
-mod lesser;
-mod line_sink;
-mod line_squares;
-mod macrocell;
-mod node_walk;
-mod orientation;
-mod pattern;
-mod piece;
-mod prefix;
-mod progress;
-mod reader;
 mod runs;
-mod space;
 mod summary;
 mod texts;
-mod writer;
 
-pub use compare::{are_same, same};
-pub use files::read;
-pub use lesser::{lesser_text, lesser_turned_text};
-pub use macrocell::number;
-pub use pattern::{Pattern, least_level};
-pub use reader::Reader;
-pub use runs::{read_from, run_canon, run_canon_within};
-pub use summary::{five_lines_of, show};
-pub use texts::{MOST_CELLS, canon, rle_of, to_rle};
-pub use writer::text_of;
+pub use compare::same;
+pub use life_pattern::{Pattern, are_same, least_level};
+pub use life_reader::{Reader, read, read_from};
+pub use life_writer::{
+    MOST_CELLS, five_lines_of, lesser_text, lesser_turned_text, number, rle_of, text_of,
+};
+pub use runs::{run_canon, run_canon_within};
+pub use summary::show;
+pub use texts::{canon, to_rle};

@@ -1,18 +1,13 @@
 //! A file of either format as a text of one form.
 
 ghost use Rattle.std.specs.Prelude.{◌≡◌, ◌⊎◌, ◌^◌, IfOk, IfErr};
-ghost use Rattle.life_canon.specs.Words.{Memory, TooManyCells, fault_of, ReadsInto, Same, IsLeastText, ForEachFile, RefusesIn, IsOfFile, IsCanonical, IsRleOf, FileHasMoreCells};
+ghost use Rattle.life_canon.specs.Words.{TooManyCells, fault_of, ReadsInto, Same, IsLeastText, RefusesIn, IsCanonical, IsRleOf, FileHasMoreCells};
 
-use crate::files::read;
-use crate::pattern::Pattern;
-use crate::writer::text_of;
 use life_base::{Fault, MAX_LEVEL};
-use life_quad::{Shared, cells};
-use life_rle::write_rle;
+use life_quad::Shared;
+use life_reader::read;
+use life_writer::{rle_of, text_of};
 use std::alloc::Global;
-
-/// The most nonzero cells of a pattern whose cells are listed: of one that is written as RLE, stepped, moved or turned.
-pub const MOST_CELLS: u64 = 1 << 20;
 
 /// The canonical text of the pattern of a file of either format.
 ///
@@ -29,25 +24,6 @@ pub fn canon(alloc: Global, store: &mut Shared, bytes: &[u8]) -> Result<Vec<u8>,
 {
     let pattern = read(alloc, store, bytes)?;
     text_of(alloc, store, &pattern)
-}
-
-/// The text in extended RLE of a pattern that was read into the store: the one that `to_rle` answers for its file.
-///
-/// # Errors
-///
-/// `TooManyCells` where more than 2^20 cells aren't 0, and `Memory`, at no line.
-pub fn rle_of(alloc: Global, store: &Shared, pattern: &Pattern) -> Result<Vec<u8>, Fault>
-    requires { IsOfFile MAX_LEVEL store.now pattern.now }
-    ensures text { IfOk result (λ text. ForEachFile store.now pattern.now
-        (λ bytes. IsRleOf MAX_LEVEL (2 ^ 20) bytes text.items)) }
-    ensures same { IfOk result
-        (λ text. ForEachFile store.now pattern.now (λ bytes. Same MAX_LEVEL bytes text.items)) }
-    ensures fault { IfErr result (λ fault. (fault ≡ fault_of Memory)
-        ⊎ ((fault ≡ fault_of TooManyCells) × ForEachFile store.now pattern.now
-        (λ bytes. FileHasMoreCells MAX_LEVEL bytes (2 ^ 20)))) }
-{
-    let list = cells(alloc, store, pattern.root, MOST_CELLS)?;
-    write_rle(alloc, &pattern.rule, pattern.generation, &list)
 }
 
 /// The text in extended RLE of the pattern of a file of either format.

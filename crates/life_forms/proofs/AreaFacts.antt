@@ -6,9 +6,9 @@ use Rattle.life_base.specs.Tree.{Tree, point, quad, depth, IsFull}
 use Rattle.life_base.specs.declared.cell.TheConstants.{MAX_LEVEL}
 use Rattle.life_mc.specs.Squares.{HasStatesUpTo}
 use Rattle.life_quad.specs.Refused.{SomePart}
-use Rattle.life_canon.specs.Universe.{Universe, IsBlankOutside, whole}
-use Rattle.life_canon.proofs.SpaceLists.{Among, among-left, among-right, contains-among}
-use Rattle.life_canon.proofs.Sameness.{same-is_one}
+use Rattle.life_pattern.specs.Universe.{Universe, IsBlankOutside, whole}
+use Rattle.life_pattern.proofs.SpaceLists.{Among, among-left, among-right, contains-among}
+use Rattle.life_pattern.proofs.Sameness.{same-is_one}
 use Rattle.life_forms.specs.Forms.{IsMoved}
 use Rattle.life_forms.specs.Needed.{HasLargerForm, SomeOfMovedForm}
 use Rattle.life_forms.proofs.ShiftFacts.{forms-of-shifts, same-refl, still}

@@ -9,11 +9,11 @@ use Rattle.life_mc.specs.Squares.{HasStatesUpTo}
 use Rattle.life_quad.specs.Moves.{trimmed_square}
 use Rattle.life_quad.specs.Store.{Nodes}
 use Rattle.life_quad.proofs.LawLemmas.{known_squares_are_full, equal_squares_have_one_id, trimmed_by_cells}
-use Rattle.life_canon.specs.Laws.{TextsTellUniverses}
-use Rattle.life_canon.specs.Listing.{canon_text}
-use Rattle.life_canon.specs.Store.{Keeps, IsTrimmed, content, universe_in}
-use Rattle.life_canon.specs.Universe.{Universe, IsBlankOutside, IsSame, IsOnPlane, least_level, square_universe}
-use Rattle.life_canon.specs.declared.pattern.Pattern.{Pattern}
+use Rattle.life_writer.specs.Laws.{TextsTellUniverses}
+use Rattle.life_writer.specs.Listing.{canon_text}
+use Rattle.life_pattern.specs.Store.{Keeps, IsTrimmed, content, universe_in}
+use Rattle.life_pattern.specs.Universe.{Universe, IsBlankOutside, IsSame, IsOnPlane, least_level, square_universe}
+use Rattle.life_pattern.specs.declared.pattern.Pattern.{Pattern}
 use Rattle.life_forms.specs.Forms.{IsShift, IsMoved, IsTurnedShift}
 use Rattle.life_forms.specs.Images.{IsTurnedText}
 use Rattle.life_forms.proofs.LeastFacts.{turned-texts}

@@ -15,12 +15,12 @@ use Rattle.life_slide.specs.Pieces.{IsNearMiddle}
 use Rattle.life_quad.specs.Moves.{trimmed_square}
 use Rattle.life_quad.specs.Turning.{turned_tree}
 use Rattle.life_quad.proofs.TurningLemmas.{blank-image}
-use Rattle.life_canon.specs.Laws.{SquaresAreCentred}
-use Rattle.life_canon.specs.Lesser.{IsUpTo}
-use Rattle.life_canon.specs.Listing.{canon_text, canonical_file, square_text}
-use Rattle.life_canon.specs.Texts.{IsBoundingBox}
-use Rattle.life_canon.specs.Universe.{Universe, IsBlankOutside, centred_square, is_life, least_level, square, whole}
-use Rattle.life_canon.proofs.OrderFacts.{up-to-on}
+use Rattle.life_pattern.specs.Laws.{SquaresAreCentred}
+use Rattle.life_writer.specs.Lesser.{IsUpTo}
+use Rattle.life_writer.specs.Listing.{canon_text, canonical_file, square_text}
+use Rattle.life_writer.specs.Texts.{IsBoundingBox}
+use Rattle.life_pattern.specs.Universe.{Universe, IsBlankOutside, centred_square, is_life, least_level, square, whole}
+use Rattle.life_writer.proofs.OrderFacts.{up-to-on}
 use Rattle.life_slide.proofs.MovedLemmas.{column-near, row-near, square-from}
 use Rattle.life_forms.specs.Corners.{seated}
 use Rattle.life_forms.specs.Forms.{IsInPlace, IsMoved, at_edge, at_zero}

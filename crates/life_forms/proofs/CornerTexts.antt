@@ -9,13 +9,14 @@ use Rattle.life_mc.specs.Writing.{header_lines_text, node_text}
 use Rattle.life_mc.specs.declared.line.Line.{Line}
 use Rattle.life_mc.specs.declared.line.Line.TheVariants.{Leaf, Quad}
 use Rattle.life_base.proofs.Squares.{depth-blank, is_blank-blank}
-use Rattle.life_canon.specs.Listing.{line_of, is_in, listed_squares, number_of_quarter, place, quad_line, rows_of, same_tree, square_text, walk, with_all, with_new}
-use Rattle.life_canon.specs.Universe.{is_life, least_level}
+use Rattle.life_writer.specs.Listing.{line_of, is_in, listed_squares, number_of_quarter, place, quad_line, rows_of, same_tree, square_text, walk, with_all, with_new}
+use Rattle.life_pattern.specs.Universe.{is_life, least_level}
 use Rattle.life_quad.specs.Store.{eight, four as four_of}
 use Rattle.life_forms.specs.Corners.{leaf_line, with_leaf, seated}
 use Rattle.life_forms.proofs.LeafFacts.{blank-is-small, full-walk, is-big, last-live, leaf-line, leaf-walk, no-walk, text-of-leaf}
-use Rattle.life_canon.proofs.ListFacts.{is_in-append_cases, is_in-last, is_in-one, place-append, place-last, with_all-append, with_new-fresh, with_new-has}
-use Rattle.life_canon.proofs.Trees.{bool_cases, same_tree-refl}
+use Rattle.life_writer.proofs.ListFacts.{is_in-append_cases, is_in-last, is_in-one, place-append, place-last, with_all-append, with_new-fresh, with_new-has}
+use Rattle.life_pattern.proofs.Trees.{bool_cases}
+use Rattle.life_writer.proofs.SameTrees.{same_tree-refl}
 
 -- ---- leaves
 

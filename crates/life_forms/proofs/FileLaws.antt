@@ -1,10 +1,11 @@
 -- The laws of files: those of patterns, with the canonical text, which tells patterns of the plane apart.
 use Rattle.std.proofs.Common.{◌≤◌, sym, lit≤}
 use Rattle.life_base.specs.declared.cell.TheConstants.{MAX_LEVEL}
-use Rattle.life_canon.specs.Universe.{Universe, IsOnPlane, macrocell_universe}
-use Rattle.life_canon.specs.Files.{Reads, as_macrocell}
-use Rattle.life_canon.specs.Laws.{FilesAreOnPlane, TextsTellUniverses, TextsAreFiles}
-use Rattle.life_canon.specs.Listing.{canon_text, canonical_file}
+use Rattle.life_pattern.specs.Universe.{Universe, IsOnPlane, macrocell_universe}
+use Rattle.life_pattern.specs.Files.{Reads, as_macrocell}
+use Rattle.life_pattern.specs.Laws.{FilesAreOnPlane}
+use Rattle.life_writer.specs.Laws.{TextsTellUniverses, TextsAreFiles}
+use Rattle.life_writer.specs.Listing.{canon_text, canonical_file}
 use Rattle.life_forms.specs.Forms.{IsTurnedShift}
 use Rattle.life_forms.specs.Laws.{MovedTextsTellFiles, TurnedTextsTellFiles, MovedTextsAreFiles, TurnedTextsAreFiles, FilesHaveForms}
 use Rattle.life_forms.proofs.ShiftFacts.{still, shift-sym, shift-trans, moved-forms-exist, moved-on-plane, moved-texts}

@@ -2,8 +2,8 @@
 use Rattle.std.proofs.Common.{◌≡◌, ℕ, zero, suc, ◌^◌, ◌≤◌, Bool, true, false, refl, sym, ap, ap₂, ◌∙◌, subst, ℤ, pos, neg_ℤ, ◌+ℤ◌, arith, if◌then◌else◌}
 use Rattle.std.proofs.lemmas.Int.{ints}
 use Rattle.life_base.specs.Tree.{Tree, point, quad, depth, tree_cell, IsFull}
-use Rattle.life_canon.specs.Laws.{SquaresAreCentred, CentredSquaresTellCells}
-use Rattle.life_canon.specs.Universe.{square, centred_square, corner, IsBlankOutside}
+use Rattle.life_pattern.specs.Laws.{SquaresAreCentred, CentredSquaresTellCells}
+use Rattle.life_pattern.specs.Universe.{square, centred_square, corner, IsBlankOutside}
 use Rattle.life_quad.specs.Turning.{exactly_one, one_of_four, side_of, turned_half, turned_tree}
 use Rattle.life_forms.specs.Turns.{Turn, counted_coordinate, turned_column, turned_row}
 use Rattle.life_forms.proofs.TurnFacts.{backwards-is, image_cells, image-outside}

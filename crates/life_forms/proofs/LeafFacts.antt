@@ -18,11 +18,11 @@ use Rattle.life_pieces.specs.Pieces.{step_ahead}
 use Rattle.life_pieces.proofs.NeedLemmas.{depth-square, piece-is}
 use Rattle.life_pieces.proofs.PieceLemmas.{blank-of_zero}
 use Rattle.life_pieces.proofs.NeedLemmas.{full-square}
-use Rattle.life_canon.specs.Laws.{SquaresAreCentred}
-use Rattle.life_canon.specs.Lesser.{IsUpTo}
-use Rattle.life_canon.specs.Listing.{is_small, line_of, is_in, listed_squares, rows_of, square_text, walk, with_all, with_new}
-use Rattle.life_canon.specs.Universe.{IsBlankOutside, centred_square, corner, is_life, least_level, square}
-use Rattle.life_canon.proofs.OrderFacts.{up-to-behind, up-to-longer}
+use Rattle.life_pattern.specs.Laws.{SquaresAreCentred}
+use Rattle.life_writer.specs.Lesser.{IsUpTo}
+use Rattle.life_writer.specs.Listing.{is_small, line_of, is_in, listed_squares, rows_of, square_text, walk, with_all, with_new}
+use Rattle.life_pattern.specs.Universe.{IsBlankOutside, centred_square, corner, is_life, least_level, square}
+use Rattle.life_writer.proofs.OrderFacts.{up-to-behind, up-to-longer}
 use Rattle.life_slide.proofs.MovedLemmas.{centre-cells}
 use Rattle.life_forms.proofs.MovedFacts.{cells-centred, depth-centred, full-centred, square-same}
 use Rattle.life_forms.proofs.PatternFacts.{square-up-to}

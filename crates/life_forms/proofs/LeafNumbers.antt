@@ -4,9 +4,10 @@ use Rattle.std.proofs.lemmas.List.{map-append, length-map}
 use Rattle.life_base.specs.Tree.{Tree, is_blank_tree}
 use Rattle.life_quad.specs.Store.{two, four, eight}
 use Rattle.life_forms.specs.Corners.{with_leaf}
-use Rattle.life_canon.specs.Listing.{is_in, number_of_quarter, place, same_tree}
-use Rattle.life_canon.proofs.ListFacts.{place-below, place-last, with_new-fresh, with_new-known}
-use Rattle.life_canon.proofs.Trees.{bool_cases, four_parts, same_tree-refl}
+use Rattle.life_writer.specs.Listing.{is_in, number_of_quarter, place, same_tree}
+use Rattle.life_writer.proofs.ListFacts.{place-below, place-last, with_new-fresh, with_new-known}
+use Rattle.life_pattern.proofs.Trees.{bool_cases, four_parts}
+use Rattle.life_writer.proofs.SameTrees.{same_tree-refl}
 
 -- ---- equal leaves have equal cells
 

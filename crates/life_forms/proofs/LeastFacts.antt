@@ -1,9 +1,9 @@
 -- The turned form: the least of eight texts.
 use Rattle.std.proofs.Common.{◌≡◌, ◌⊎◌, inl, inr, ℕ, ◌≤◌, Bool, true, false, List, subst}
-use Rattle.life_canon.specs.Lesser.{IsUpTo}
-use Rattle.life_canon.specs.Universe.{Universe, IsSame, IsOnPlane}
-use Rattle.life_canon.proofs.OrderFacts.{up-to-itself, up-to-on, up-to-both, either-way}
-use Rattle.life_canon.proofs.Sameness.{same-sym}
+use Rattle.life_writer.specs.Lesser.{IsUpTo}
+use Rattle.life_pattern.specs.Universe.{Universe, IsSame, IsOnPlane}
+use Rattle.life_writer.proofs.OrderFacts.{up-to-itself, up-to-on, up-to-both, either-way}
+use Rattle.life_pattern.proofs.Sameness.{same-sym}
 use Rattle.life_forms.specs.Forms.{SeparatesPatterns, IsShift, IsTurned, IsTurnedShift}
 use Rattle.life_forms.specs.Turns.{Turn, turn_of, image, turn_after, inverse_turn}
 use Rattle.life_forms.specs.Laws.{TurnedFormsExist, TurnedFormsAreOnPlane, TurnedTextsTellTurns, TurnedFormsAreFixed}

@@ -14,10 +14,10 @@ use Rattle.life_quad.specs.Turning.{turned_tree}
 use Rattle.life_quad.proofs.LawLemmas.{trimming_stops}
 use Rattle.life_quad.specs.declared.id.Id.{Id}
 use Rattle.life_quad.proofs.TurningLemmas.{depth-turned, full-turned, part-of-image}
-use Rattle.life_canon.specs.Laws.{SquaresAreCentred, CentredSquaresTellCells}
-use Rattle.life_canon.specs.Store.{IsKnown, IsTrimmed, content}
-use Rattle.life_canon.specs.Texts.{IsBoundingBox, IsOrdered}
-use Rattle.life_canon.specs.Universe.{Universe, centred_square, least_level, square_universe}
+use Rattle.life_pattern.specs.Laws.{SquaresAreCentred, CentredSquaresTellCells}
+use Rattle.life_pattern.specs.Store.{IsKnown, IsTrimmed, content}
+use Rattle.life_writer.specs.Texts.{IsBoundingBox, IsOrdered}
+use Rattle.life_pattern.specs.Universe.{Universe, centred_square, least_level, square_universe}
 use Rattle.life_slide.specs.Pieces.{cells_from, plane_from, root_from, side_origin}
 use Rattle.life_slide.proofs.MovedLemmas.{cell-below}
 use Rattle.life_forms.specs.Forms.{IsInPlace, IsMoved, at_edge, at_zero}

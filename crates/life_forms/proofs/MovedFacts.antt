@@ -15,8 +15,8 @@ use Rattle.life_quad.proofs.LawLemmas.{cells_lie_inside, trimmed_by_cells, trimm
 use Rattle.life_pieces.specs.Pieces.{square_from}
 use Rattle.life_pieces.proofs.NeedLemmas.{depth-square}
 use Rattle.life_pieces.proofs.NeedLemmas.{full-square}
-use Rattle.life_canon.specs.Universe.{Universe, IsSame, IsBlankOutside, centred_square, corner, least_level, square_universe, whole}
-use Rattle.life_canon.specs.Universe as canon
+use Rattle.life_pattern.specs.Universe.{Universe, IsSame, IsBlankOutside, centred_square, corner, least_level, square_universe, whole}
+use Rattle.life_pattern.specs.Universe as canon
 use Rattle.life_slide.specs.Pieces.{cells_from, plane_from, root_from}
 use Rattle.life_slide.proofs.MovedLemmas.{cell-below, centre-cells, trim-reach}
 use Rattle.life_forms.specs.Cells.{IsWay}
@@ -25,7 +25,7 @@ use Rattle.life_forms.specs.Needed.{IsMovedRoot, SomeOfMovedForm, SomeOfMovedRoo
 use Rattle.life_forms.proofs.PatternFacts.{plane-moved, shift-up-to}
 use Rattle.life_forms.proofs.PlaneFacts.{blank-cell, box-of-square, form-outside, high-end, moved-same, outside-blank, way-moved, way-of-box}
 use Rattle.life_forms.proofs.ShiftFacts.{forms-of-shifts, same-refl, shifted, still}
-use Rattle.life_canon.proofs.Sameness.{same-is_one}
+use Rattle.life_pattern.proofs.Sameness.{same-is_one}
 
 -- ---- the square of the whole plane
 

@@ -10,10 +10,11 @@ use Rattle.life_quad.specs.Moves.{trimmed_square}
 use Rattle.life_quad.specs.Store.{Nodes}
 use Rattle.life_quad.specs.declared.id.Id.{Id}
 use Rattle.life_quad.proofs.LawLemmas.{trimming_keeps_cells, trimmed_is_fixed, trimming_stops}
-use Rattle.life_canon.specs.Laws.{SquaresAreCentred}
-use Rattle.life_canon.specs.Store.{IsKnown, IsTrimmed, content}
-use Rattle.life_canon.specs.Universe.{Universe, square, centred_square, corner, least_level, square_universe}
-pub use Rattle.life_canon.proofs.Fits.{least-one, root-high}
+use Rattle.life_pattern.specs.Laws.{SquaresAreCentred}
+use Rattle.life_pattern.specs.Store.{IsKnown, IsTrimmed, content}
+use Rattle.life_pattern.specs.Universe.{Universe, square, centred_square, corner, least_level, square_universe}
+pub use Rattle.life_pattern.proofs.Whole.{least-one}
+pub use Rattle.life_pattern.proofs.Fits.{root-high}
 use Rattle.life_forms.specs.Forms.{IsShift, IsMoved}
 use Rattle.life_forms.proofs.ShiftFacts.{there-and-back}
 use Rattle.life_forms.proofs.PlaneFacts.{moved-same}

@@ -9,12 +9,12 @@ use Rattle.life_base.specs.declared.rule.Rule.{Rule}
 use Rattle.life_quad.specs.Cells as quad
 use Rattle.life_quad.proofs.LawLemmas.{cells_lie_inside}
 use Rattle.std.proofs.lemmas.Bool.{and_parts}
-use Rattle.life_canon.specs.Texts.{IsBoundingBox, IsOrdered, AreCellsOf}
-use Rattle.life_canon.specs.Universe.{Universe, IsSame, IsWithin, IsBlankOutside, corner, square_universe}
+use Rattle.life_writer.specs.Texts.{IsBoundingBox, IsOrdered, AreCellsOf}
+use Rattle.life_pattern.specs.Universe.{Universe, IsSame, IsWithin, IsBlankOutside, corner, square_universe}
 use Rattle.life_forms.specs.Forms.{IsInPlace, plane_end, IsMoved}
 use Rattle.life_forms.specs.Cells.{IsWay}
 use Rattle.life_forms.proofs.ShiftFacts.{box-shifted, shift-sym, shift-of, shifted, still, shift-trans, in-place-at, moved-seen, has-box, one-box, there-and-back}
-use Rattle.life_canon.proofs.Sameness.{same-sym}
+use Rattle.life_pattern.proofs.Sameness.{same-sym}
 use Rattle.life_base.proofs.Basics.{plus_zero, zero_unless}
 
 -- the plane's ends

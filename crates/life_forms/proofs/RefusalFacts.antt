@@ -5,8 +5,8 @@ use Rattle.life_base.specs.Refusal.{OrMemory, fault_of}
 use Rattle.life_base.specs.declared.fault.Fault.{Fault}
 use Rattle.life_base.specs.declared.kind.Kind.TheVariants.{Full}
 use Rattle.life_quad.specs.Store.{Nodes}
-use Rattle.life_canon.specs.Store.{universe_in}
-use Rattle.life_canon.specs.declared.pattern.Pattern.{Pattern}
+use Rattle.life_pattern.specs.Store.{universe_in}
+use Rattle.life_pattern.specs.declared.pattern.Pattern.{Pattern}
 use Rattle.life_forms.specs.Needed.{HasLargerForm, RefusesTurning}
 use Rattle.life_forms.specs.Turns.{Turn, image}
 

@@ -8,9 +8,9 @@ use Rattle.life_base.specs.declared.rule.Rule.TheVariants.{Named}
 use Rattle.life_mc.specs.declared.line.Line.{Line}
 use Rattle.life_mc.specs.declared.line.Line.TheVariants.{Leaf, Quad}
 use Rattle.life_mc.specs.Writing.{mc_text, leaf_row_text}
-use Rattle.life_canon.specs.Universe.{square, corner, centred_square, whole}
-use Rattle.life_canon.specs.Listing.{listed_squares, rows_of, canonical_file}
-use Rattle.life_canon.proofs.Spots.{Spot, spot, life, pattern_of, canonical_lines}
+use Rattle.life_pattern.specs.Universe.{square, corner, centred_square, whole}
+use Rattle.life_writer.specs.Listing.{listed_squares, rows_of, canonical_file}
+use Rattle.life_writer.proofs.Spots.{Spot, spot, life, pattern_of, canonical_lines}
 use Rattle.life_forms.specs.Turns.{Turn, every_turn, turn_of, turned_column, turned_row, inverse_turn, turn_after}
 use Rattle.life_forms.specs.Forms.{IsInPlace, at_zero, at_edge, plane_end}
 

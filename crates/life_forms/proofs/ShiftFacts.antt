@@ -2,11 +2,11 @@
 use Rattle.std.proofs.Common.{◌≡◌, ◌≢◌, ◌⊎◌, inl, inr, ℕ, zero, suc, ◌<◌, ◌≤◌, ◌^◌, Bool, true, false, ◌||◌, List, refl, sym, ap, ap₂, ◌∙◌, subst, subst₂, ℤ, pos, negsuc, neg_ℤ, ◌+ℤ◌, ◌≤ℤ◌, ◌<ℤ◌, arith, true≢false}
 use Rattle.std.proofs.lemmas.Bool.{cases_Bool}
 use Rattle.std.proofs.lemmas.Int.{ints, by_lt_z}
-use Rattle.life_canon.specs.Universe.{Universe, IsSame, IsBlankOutside, IsWithin, corner}
+use Rattle.life_pattern.specs.Universe.{Universe, IsSame, IsBlankOutside, IsWithin, corner}
 use Rattle.life_base.specs.declared.bounds.Bounds.{Bounds}
 use Rattle.life_base.specs.declared.rule.Rule.{Rule}
 use Rattle.life_base.specs.Rules.{IsRule}
-use Rattle.life_canon.specs.Texts.{IsBoundingBox}
+use Rattle.life_writer.specs.Texts.{IsBoundingBox}
 use Rattle.life_mc.specs.Macrocell.{largest_state}
 use Rattle.life_forms.specs.Forms.{SeparatesPatterns, IsShift, plane_end, IsInPlace, at_zero, at_edge, IsMovedForm, IsMoved}
 use Rattle.life_forms.specs.Laws.{MovedFormsExist, MovedFormsAreOnPlane, MovedFormsTellShifts, MovedFormsAreFixed, MovedTextsTellShifts}

@@ -16,13 +16,13 @@ use Rattle.life_quad.specs.Turning.{turned_tree}
 use Rattle.life_quad.proofs.TurningLemmas.{apart-turned, blank-image, part-of-image, undone}
 use Rattle.life_quad.specs.StoreLaws.{Names, the_state, the_blank, the_node, names}
 use Rattle.life_quad.specs.declared.id.Id.{Id}
-use Rattle.life_canon.specs.Needs.{IsNew}
-use Rattle.life_canon.specs.Store.{IsKnown}
-use Rattle.life_canon.specs.Universe.{Universe, least_level, square_universe}
-use Rattle.life_canon.proofs.SpaceCount.{Found, found-as, find-part}
-use Rattle.life_canon.proofs.SpaceLists.{Among, among-contains, contains-among, distinct-pairs, pigeons}
-use Rattle.life_canon.proofs.Sameness.{same-sym}
-use Rattle.life_canon.proofs.Known.{part-blank}
+use Rattle.life_pattern.specs.Store.{IsNew}
+use Rattle.life_pattern.specs.Store.{IsKnown}
+use Rattle.life_pattern.specs.Universe.{Universe, least_level, square_universe}
+use Rattle.life_pattern.proofs.Found.{Found, found-as, find-part}
+use Rattle.life_pattern.proofs.SpaceLists.{Among, among-contains, contains-among, distinct-pairs, pigeons}
+use Rattle.life_pattern.proofs.Sameness.{same-sym}
+use Rattle.life_pattern.proofs.Found.{part-blank}
 use Rattle.life_forms.specs.Forms.{IsShift, IsTurnedShift}
 use Rattle.life_forms.specs.Laws.{ShiftsHaveOneSize, TurnsHaveOneSize}
 use Rattle.life_forms.specs.Turns.{Turn, turn_after, turn_of, image}

@@ -11,11 +11,11 @@ use Rattle.life_mc.specs.Squares.{HasStatesUpTo}
 use Rattle.life_quad.specs.Cells.{IsBoundingBoxOfTree}
 use Rattle.life_quad.specs.Store.{Nodes, eight}
 use Rattle.life_quad.proofs.LawLemmas.{known_squares_are_full}
-use Rattle.life_canon.specs.Laws.{SquaresAreCentred}
-use Rattle.life_canon.specs.Store.{IsTrimmed, content, universe_in}
-use Rattle.life_canon.specs.Texts.{IsOrdered}
-use Rattle.life_canon.specs.Universe.{Universe, IsBlankOutside, is_life, square}
-use Rattle.life_canon.specs.declared.pattern.Pattern.{Pattern}
+use Rattle.life_pattern.specs.Laws.{SquaresAreCentred}
+use Rattle.life_pattern.specs.Store.{IsTrimmed, content, universe_in}
+use Rattle.life_writer.specs.Texts.{IsOrdered}
+use Rattle.life_pattern.specs.Universe.{Universe, IsBlankOutside, is_life, square}
+use Rattle.life_pattern.specs.declared.pattern.Pattern.{Pattern}
 use Rattle.life_slide.proofs.MovedLemmas.{cell-below}
 use Rattle.life_forms.specs.Corners.{HasSidesUpTo, IsCorner, IsNearPlane, IsSquareAt, block_tree, square_start}
 use Rattle.life_forms.specs.declared.corners.Block.{Block}

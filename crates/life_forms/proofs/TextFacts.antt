@@ -1,9 +1,9 @@
 -- The least of the texts of eight images is that of the turned form.
 use Rattle.std.proofs.Common.{◌≡◌, ◌⊎◌, inl, inr, ℕ, ◌≤◌, Bool, true, false, true≢false, not, List, [], ◌∷◌, refl, sym, ap, ◌∙◌, subst}
-use Rattle.life_canon.specs.Lesser.{IsLesserText, IsUpTo}
-use Rattle.life_canon.specs.Listing.{canon_text}
-use Rattle.life_canon.specs.Universe.{Universe, IsSame, IsBlankOutside}
-use Rattle.life_canon.proofs.OrderFacts.{up-to-on}
+use Rattle.life_writer.specs.Lesser.{IsLesserText, IsUpTo}
+use Rattle.life_writer.specs.Listing.{canon_text}
+use Rattle.life_pattern.specs.Universe.{Universe, IsSame, IsBlankOutside}
+use Rattle.life_writer.proofs.OrderFacts.{up-to-on}
 use Rattle.life_forms.specs.Turns.{Turn, image, turn_of}
 use Rattle.life_forms.specs.Needed.{HasLargerForm}
 use Rattle.life_forms.specs.Images.{AreSmall, IsImageText, IsLeastOfTwo, IsLesserOfTwo, IsTurnedText}

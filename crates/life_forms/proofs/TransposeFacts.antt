@@ -11,12 +11,12 @@ use Rattle.life_quad.specs.Store.{Nodes}
 use Rattle.life_quad.specs.Turning.{turned_tree}
 use Rattle.life_quad.proofs.LawLemmas.{equal_by_plane, known_squares_are_full, trimmed_by_cells, trimmed_is_fixed, trimmed_is_lowest, trimming_keeps_cells, trimming_stops}
 use Rattle.life_quad.proofs.TurningLemmas.{depth-turned, full-turned, part-of-image, undone}
-use Rattle.life_canon.specs.Laws.{SquaresAreCentred, CentredSquaresTellCells}
-use Rattle.life_canon.specs.Listing.{canon_text, canonical_file, square_text}
-use Rattle.life_canon.specs.Store.{content, universe_in, IsTrimmed}
-use Rattle.life_canon.specs.Texts.{IsBoundingBox}
-use Rattle.life_canon.specs.Universe.{Universe, centred_square, least_level, whole}
-use Rattle.life_canon.specs.declared.pattern.Pattern.{Pattern}
+use Rattle.life_pattern.specs.Laws.{SquaresAreCentred, CentredSquaresTellCells}
+use Rattle.life_writer.specs.Listing.{canon_text, canonical_file, square_text}
+use Rattle.life_pattern.specs.Store.{content, universe_in, IsTrimmed}
+use Rattle.life_writer.specs.Texts.{IsBoundingBox}
+use Rattle.life_pattern.specs.Universe.{Universe, centred_square, least_level, whole}
+use Rattle.life_pattern.specs.declared.pattern.Pattern.{Pattern}
 use Rattle.life_slide.proofs.MovedLemmas.{cell-below}
 use Rattle.life_forms.specs.Forms.{IsMoved}
 use Rattle.life_forms.specs.Images.{AreSmall, IsImageText}

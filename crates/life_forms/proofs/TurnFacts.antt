@@ -1,7 +1,7 @@
 -- The eight turns: their table, and what they do to shifts and to the plane.
 use Rattle.std.proofs.Common.{◌≡◌, ℕ, zero, suc, ◌≤◌, Bool, true, false, refl, ap₂, ◌∙◌, ℤ, pos, negsuc, neg_ℤ, ◌+ℤ◌, arith, Contains, lit<}
 use Rattle.std.proofs.lemmas.Int.{ints}
-use Rattle.life_canon.specs.Universe.{Universe, IsBlankOutside, IsWithin, corner}
+use Rattle.life_pattern.specs.Universe.{Universe, IsBlankOutside, IsWithin, corner}
 use Rattle.life_forms.specs.Turns.{Turn, turn_of, every_turn, upright, opposite_coordinate, counted_coordinate, turned_column, turned_row, image, exactly_one, turn_after, inverse_turn}
 use Rattle.life_forms.specs.Forms.{IsShift, plane_end}
 use Rattle.life_forms.specs.Laws.{TurnsAreEight, TurnsAreClosed, TurnsHaveInverses, ImagesStayOnPlane, ImagesKeepShifts}

@@ -5,9 +5,9 @@ use Rattle.life_base.specs.declared.bounds.Bounds.{Bounds}
 use Rattle.life_base.specs.declared.cell.TheConstants.{MAX_LEVEL}
 use Rattle.life_quad.specs.Store.{eight}
 use Rattle.life_quad.specs.Turning.{turned_tree}
-use Rattle.life_canon.specs.Lesser.{IsLesserText}
-use Rattle.life_canon.specs.Listing.{rows_of, square_text, with_new}
-use Rattle.life_canon.specs.Universe.{Universe, is_life, square}
+use Rattle.life_writer.specs.Lesser.{IsLesserText}
+use Rattle.life_writer.specs.Listing.{rows_of, square_text, with_new}
+use Rattle.life_pattern.specs.Universe.{Universe, is_life, square}
 use Rattle.life_mc.specs.declared.line.Line.{Line}
 use Rattle.life_mc.specs.declared.line.Line.TheVariants.{Leaf}
 use Rattle.life_forms.specs.Images.{AreSmall, IsImageText}

@@ -2,9 +2,9 @@
 use Rattle.std.specs.Prelude.{◌≡◌, ◌⊎◌, ℕ, ◌^◌, Bool, true, false, List, ℤ, pos, neg_ℤ, ◌+ℤ◌, ◌≤ℤ◌, ◌<ℤ◌}
 use Rattle.life_base.specs.Tree.{Tree, is_blank_tree}
 use Rattle.life_base.specs.declared.bounds.Bounds.{Bounds}
-use Rattle.life_canon.specs.Lesser.{IsUpTo}
-use Rattle.life_canon.specs.Listing.{canon_text}
-use Rattle.life_canon.specs.Universe.{Universe, square}
+use Rattle.life_writer.specs.Lesser.{IsUpTo}
+use Rattle.life_writer.specs.Listing.{canon_text}
+use Rattle.life_pattern.specs.Universe.{Universe, square}
 use Rattle.life_forms.specs.Turns.{Turn, image, turn_of}
 use Rattle.life_forms.specs.Forms.{IsMoved, IsTurned}
 use Rattle.life_forms.specs.Needed.{HasLargerForm}

@@ -8,9 +8,9 @@ use Rattle.life_base.specs.declared.kind.Kind.TheVariants.{Full}
 use Rattle.life_quad.specs.Moves.{trimmed_square}
 use Rattle.life_quad.specs.Refused.{SomePart}
 use Rattle.life_quad.specs.Store.{Nodes}
-use Rattle.life_canon.specs.Store.{universe_in}
-use Rattle.life_canon.specs.Universe.{Universe, centred_square, whole}
-use Rattle.life_canon.specs.declared.pattern.Pattern.{Pattern}
+use Rattle.life_pattern.specs.Store.{universe_in}
+use Rattle.life_pattern.specs.Universe.{Universe, centred_square, whole}
+use Rattle.life_pattern.specs.declared.pattern.Pattern.{Pattern}
 use Rattle.life_forms.specs.Forms.{IsMoved}
 use Rattle.life_forms.specs.Turns.{Turn, image}
 

@@ -5,11 +5,11 @@ pub use Rattle.life_base.specs.Tree.{depth, quad, Tree, tree_cell}
 pub use Rattle.life_base.specs.declared.cell.TheConstants.{MAX_LEVEL}
 pub use Rattle.life_base.specs.declared.kind.Kind.TheVariants.{Full, Memory}
 pub use Rattle.life_base.specs.declared.rule.Rule.{Rule}
-pub use Rattle.life_canon.specs.Needs.{IsNew}
-pub use Rattle.life_canon.specs.Store.{IsTrimmed, universe_in, IsKnown, content}
-pub use Rattle.life_canon.specs.Lesser.{IsLesserText, IsUpTo}
-pub use Rattle.life_canon.specs.Texts.{IsOrdered}
-pub use Rattle.life_canon.specs.Universe.{Universe, is_life, square_universe, least_level}
+pub use Rattle.life_pattern.specs.Store.{IsNew}
+pub use Rattle.life_pattern.specs.Store.{IsTrimmed, universe_in, IsKnown, content}
+pub use Rattle.life_writer.specs.Lesser.{IsLesserText, IsUpTo}
+pub use Rattle.life_writer.specs.Texts.{IsOrdered}
+pub use Rattle.life_pattern.specs.Universe.{Universe, is_life, square_universe, least_level}
 pub use Rattle.life_forms.specs.Corners.{HasSidesUpTo, IsCorner, IsLesserOfThree, IsNearPlane, IsSquareAt, block_tree, corner_root, corner_tree, leaf_line, seated, square_start, with_leaf}
 pub use Rattle.life_forms.specs.Forms.{IsShift, IsTurnedShift, IsMoved, IsInPlace}
 pub use Rattle.life_forms.specs.Images.{AreSmall, IsCornerLeaf, IsImageText, IsLeastOfTwo, IsLesserOfTwo, IsLowerBound, IsMiddling, IsTurnedText, leaf_start}
@@ -24,7 +24,7 @@ pub use Rattle.life_quad.specs.Keeping.{AddsOnly, IsShortageKind}
 pub use Rattle.life_quad.specs.Store.{eight, stored_squares}
 pub use Rattle.life_slide.specs.Pieces.{IsNearMiddle}
 pub use Rattle.life_base.specs.Tree.{is_blank_tree}
-pub use Rattle.life_canon.specs.Listing.{number_of_quarter, place, rows_of, square_text}
-pub use Rattle.life_canon.specs.Universe.{square}
+pub use Rattle.life_writer.specs.Listing.{number_of_quarter, place, rows_of, square_text}
+pub use Rattle.life_pattern.specs.Universe.{square}
 pub use Rattle.life_quad.specs.Turning.{one_of_four, side_of, turned_half}
 pub use Rattle.life_quad.specs.Turning.{turned_tree}

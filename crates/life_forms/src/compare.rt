@@ -6,9 +6,9 @@ ghost use Rattle.life_forms.specs.Words.{OrMemory, fault_of, IsRule, Full, IsTri
 use crate::images::turned_text;
 use crate::patterns::{WITHOUT_LIMIT, brought, moved_of};
 use life_base::Fault;
-use life_canon::laws::texts_tell_universes;
-use life_canon::{Pattern, are_same};
+use life_pattern::{Pattern, are_same};
 use life_quad::{Shared, SharedSquares};
+use life_writer::laws::texts_tell_universes;
 use std::alloc::Global;
 
 /// Whether two patterns of one store have one rule and one generation, and a shift takes the cells of the one to those of the other: whether

@@ -8,9 +8,10 @@ use crate::lower_bounds::{above_texts, lower_bound, prefix_of};
 use crate::order::is_up_to;
 use crate::patterns::corner_form;
 use life_base::{Bounds, Fault};
-use life_canon::laws::{centred_squares_tell_cells, squares_are_centred};
-use life_canon::{Pattern, lesser_text, lesser_turned_text};
+use life_pattern::Pattern;
+use life_pattern::laws::{centred_squares_tell_cells, squares_are_centred};
 use life_quad::{Shared, Turn, bounds};
+use life_writer::{lesser_text, lesser_turned_text};
 use std::alloc::Global;
 
 /// The lesser of a text and of that of a pattern's root, with columns and rows counted from the other side or not. No image is made.

@@ -2,7 +2,7 @@
 //!
 //! This crate answers whether two patterns are the same up to translation, and whether they are the same up to rotation and reflection as well.
 //!
-//! Begin here, with a pattern that `life_canon` has read into a store:
+//! Begin here, with a pattern that `life_reader` has read into a store:
 //!
 //! 1. [`moved_of`] returns the moved form, a pattern in a store of its own: its bounding box begins at (0, 0), unless the box is too wide for that.
 //! 2. [`turned_text`] returns the canonical text of the turned form: of the eight images of the pattern, each moved, it is the text that is least byte by byte.

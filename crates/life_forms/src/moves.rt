@@ -5,7 +5,7 @@ ghost use Rattle.life_forms.specs.Words.{MAX_LEVEL, Rule, IsOrdered, square_univ
 ghost use Rattle.life_quad.specs.Grows.{Grows};
 
 use life_base::{Bounds, Kind};
-use life_canon::laws::{centred_squares_tell_cells, squares_are_centred};
+use life_pattern::laws::{centred_squares_tell_cells, squares_are_centred};
 use life_quad::{Id, SharedSquares, Squares};
 use life_slide::{moved_on_plane, moved_to_middle};
 use std::alloc::Global;

@@ -2,12 +2,12 @@
 
 ghost use Rattle.std.specs.Prelude.{◌≡◌, ◌≢◌, ◌⊎◌, ◌^◌, ◌≤◌, ℤ, min, false, true, Err, IfOk, IfErr, OnOk, MatchOption};
 ghost use Rattle.life_forms.specs.Words.{fault_of, depth, tree_cell, MAX_LEVEL, Full, Memory, OrMemory, largest_state, IsMemory, IsShortageKind, stored_squares, IsKnown, IsTrimmed, content, universe_in, least_level, square_universe, image, turn_of, turned_tree, is_blank_tree, AddsOnly, IsNew, IsSquareBox, IsMoved, IsMovedRoot, SomeOfMovedForm, HasLargerForm, HasLargeForm};
-ghost use Rattle.life_canon.specs.Store.{Keeps};
+ghost use Rattle.life_pattern.specs.Store.{Keeps};
 
 use crate::moves::moved_root;
 use life_base::{Bounds, Fault, Kind, Rule};
-use life_canon::laws::{centred_squares_tell_cells, squares_are_centred};
-use life_canon::{Pattern, least_level};
+use life_pattern::laws::{centred_squares_tell_cells, squares_are_centred};
+use life_pattern::{Pattern, least_level};
 use life_quad::{Id, Shared, SharedSquares, bounds};
 use std::alloc::Global;
 

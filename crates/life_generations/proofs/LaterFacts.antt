@@ -10,7 +10,7 @@ use Rattle.life_base.specs.declared.kind.Kind.TheVariants as kinds
 use Rattle.life_base.specs.declared.rule.Rule.{Rule}
 use Rattle.life_base.specs.declared.rule.Rule.TheVariants.{Life, Named}
 use Rattle.life_quad.specs.Keeping.{IsShortageFault}
-use Rattle.life_canon.specs.Universe.{Universe, corner}
+use Rattle.life_pattern.specs.Universe.{Universe, corner}
 use Rattle.life_leap.specs.After.{after}
 use Rattle.life_leap.proofs.AfterLemmas.{after-adds, after-none, after-one}
 use Rattle.life_later.specs.Course.{IsCourseFault, LeavesWithin}

@@ -2,11 +2,12 @@
 use Rattle.std.proofs.Common.{◌≡◌, ℕ, ◌+◌, List, sym, ◌∙◌, ap, subst, arith, ℤ}
 use Rattle.life_base.specs.Text.{lines_of}
 use Rattle.life_base.specs.declared.cell.TheConstants.{MAX_LEVEL}
-use Rattle.life_canon.specs.Files.{Reads, as_macrocell}
-use Rattle.life_canon.specs.Laws.{FilesAreOnPlane, FilesAreUnique, TextsAreFiles, TextsTellUniverses}
-use Rattle.life_canon.specs.Listing.{canonical_file, canon_text}
-use Rattle.life_canon.specs.Texts.{IsCanonical}
-use Rattle.life_canon.specs.Universe.{Universe, IsSame, macrocell_universe}
+use Rattle.life_pattern.specs.Files.{Reads, as_macrocell}
+use Rattle.life_pattern.specs.Laws.{FilesAreOnPlane, FilesAreUnique}
+use Rattle.life_writer.specs.Laws.{TextsAreFiles, TextsTellUniverses}
+use Rattle.life_writer.specs.Listing.{canonical_file, canon_text}
+use Rattle.life_writer.specs.Texts.{IsCanonical}
+use Rattle.life_pattern.specs.Universe.{Universe, IsSame, macrocell_universe}
 use Rattle.life_leap.proofs.AfterLemmas.{after-one}
 use Rattle.life_step.specs.Stepped.{IsLifeStep}
 use Rattle.life_generations.specs.Later.{IsStateAfter, IsLaterBy, IsTextLater}

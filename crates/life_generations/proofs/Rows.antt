@@ -6,7 +6,7 @@ use Rattle.life_base.specs.Sets.{OuterTotalistic}
 use Rattle.life_base.specs.declared.kind.Kind.TheVariants as kinds
 use Rattle.life_base.specs.declared.rule.Near.TheVariants.{Moore}
 use Rattle.life_base.specs.declared.rule.Rule.TheVariants.{Life, Named}
-use Rattle.life_canon.specs.Universe.{Universe}
+use Rattle.life_pattern.specs.Universe.{Universe}
 use Rattle.life_next.specs.Generation.{next_life}
 use Rattle.life_leap.specs.After.{after}
 use Rattle.life_later.specs.Course.{LeavesWithin}

@@ -7,10 +7,10 @@ use Rattle.life_base.specs.declared.cell.TheConstants.{MAX_LEVEL}
 use Rattle.life_base.specs.declared.kind.Kind.TheVariants as kinds
 use Rattle.life_base.specs.declared.rule.Rule.TheVariants.{Life}
 use Rattle.life_quad.specs.Store.{Nodes}
-use Rattle.life_canon.specs.Laws.{FilesAreOnPlane, PatternsFit}
-use Rattle.life_canon.specs.Store.{IsRead, content}
-use Rattle.life_canon.specs.Universe.{Universe, IsSame, square_universe}
-use Rattle.life_canon.specs.declared.pattern.Pattern.{Pattern}
+use Rattle.life_pattern.specs.Laws.{FilesAreOnPlane, PatternsFit}
+use Rattle.life_pattern.specs.Store.{IsRead, content}
+use Rattle.life_pattern.specs.Universe.{Universe, IsSame, square_universe}
+use Rattle.life_pattern.specs.declared.pattern.Pattern.{Pattern}
 use Rattle.life_leap.specs.After.{after}
 use Rattle.life_later.specs.Course.{LeavesWithin}
 use Rattle.life_step.specs.Stepped.{IsTextWith}

@@ -8,8 +8,8 @@ use Rattle.life_base.specs.declared.kind.Kind.TheVariants as kinds
 use Rattle.life_base.specs.declared.rule.Rule.{Rule}
 use Rattle.life_base.specs.declared.rule.Rule.TheVariants.{Life, Named}
 use Rattle.life_sweep.specs.Refused.{IfElse}
-use Rattle.life_canon.specs.Files.{Reads}
-use Rattle.life_canon.specs.Universe.{Universe}
+use Rattle.life_pattern.specs.Files.{Reads}
+use Rattle.life_pattern.specs.Universe.{Universe}
 use Rattle.life_leap.specs.After.{after}
 use Rattle.life_later.specs.Course.{LeavesWithin}
 use Rattle.life_step.specs.Stepped.{IsTextWith}

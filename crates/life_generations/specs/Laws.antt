@@ -1,8 +1,8 @@
 -- The laws of later generations.
 use Rattle.std.specs.Prelude.{◌≡◌, ◌↔◌, ℕ, ◌+◌, List}
 use Rattle.life_base.specs.declared.cell.TheConstants.{MAX_LEVEL}
-use Rattle.life_canon.specs.Texts.{IsCanonical}
-use Rattle.life_canon.specs.Universe.{Universe}
+use Rattle.life_writer.specs.Texts.{IsCanonical}
+use Rattle.life_pattern.specs.Universe.{Universe}
 use Rattle.life_step.specs.Stepped.{IsStepped}
 use Rattle.life_generations.specs.Later.{IsLaterBy, IsTextLater}
 

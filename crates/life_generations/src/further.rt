@@ -4,10 +4,11 @@ ghost use Rattle.std.specs.Prelude.{◌≡◌, ◌+◌, ◌^◌, ◌<◌, ◌≤
 ghost use Rattle.life_generations.specs.Words.{fault_of, ForEachFile, IsOfFile, IsTextLater, Keeps, LaterRefusal, RefusesFile, RefusesPattern};
 
 use life_base::{Fault, Kind, MAX_LEVEL, Rule};
-use life_canon::laws::{files_are_on_plane, patterns_fit};
-use life_canon::{Pattern, read};
 use life_later::later_in_stages;
+use life_pattern::Pattern;
+use life_pattern::laws::{files_are_on_plane, patterns_fit};
 use life_quad::Shared;
+use life_reader::read;
 use life_step::text_of_square;
 use std::alloc::Global;
 

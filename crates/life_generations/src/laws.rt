@@ -2,9 +2,8 @@
 
 ghost use Rattle.life_generations.specs.Words.{LaterAdds, LaterTextsAreUnique, NoGenerationIsCanonical, OneGenerationIsStep};
 
-use life_canon::laws::{
-    files_are_on_plane, files_are_unique, texts_are_files, texts_tell_universes,
-};
+use life_pattern::laws::{files_are_on_plane, files_are_unique};
+use life_writer::laws::{texts_are_files, texts_tell_universes};
 
 /// A file has one text so many generations later.
 pub fn later_texts_are_unique()

@@ -11,10 +11,10 @@ use Rattle.life_base.specs.declared.kind.Kind.TheVariants as kinds
 use Rattle.life_base.specs.declared.rule.Rule.{Rule}
 use Rattle.life_base.specs.declared.rule.Rule.TheVariants.{Life, Named}
 use Rattle.life_quad.specs.Store.{Nodes}
-use Rattle.life_canon.specs.Laws.{FilesAreOnPlane, FilesAreUnique, PatternsFit}
-use Rattle.life_canon.specs.Store.{IsRead, content}
-use Rattle.life_canon.specs.Universe.{Universe, IsBlankOutside, IsSame, IsWithin, corner, square_universe}
-use Rattle.life_canon.specs.declared.pattern.Pattern.{Pattern}
+use Rattle.life_pattern.specs.Laws.{FilesAreOnPlane, FilesAreUnique, PatternsFit}
+use Rattle.life_pattern.specs.Store.{IsRead, content}
+use Rattle.life_pattern.specs.Universe.{Universe, IsBlankOutside, IsSame, IsWithin, corner, square_universe}
+use Rattle.life_pattern.specs.declared.pattern.Pattern.{Pattern}
 use Rattle.life_leap.specs.Edge.{IsPlaneCoordinate}
 use Rattle.life_phases.specs.Laws.{IsWithinPlane}
 use Rattle.life_phases.specs.Periods.{IsPeriodFault, IsPeriodUpTo, LeavesFromMiddle}

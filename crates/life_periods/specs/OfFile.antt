@@ -8,11 +8,11 @@ use Rattle.life_base.specs.declared.rule.Rule.{Rule}
 use Rattle.life_base.specs.declared.rule.Rule.TheVariants.{Life, Named}
 use Rattle.life_quad.specs.Store.{Nodes}
 use Rattle.life_sweep.specs.Refused.{IfElse}
-use Rattle.life_canon.specs.Files.{Reads, Refuses}
-use Rattle.life_canon.specs.Store.{ForEachFile}
-use Rattle.life_canon.specs.Texts.{IsShownText}
-use Rattle.life_canon.specs.Universe.{Universe}
-use Rattle.life_canon.specs.declared.pattern.Pattern.{Pattern}
+use Rattle.life_pattern.specs.Files.{Reads, Refuses}
+use Rattle.life_pattern.specs.Store.{ForEachFile}
+use Rattle.life_writer.specs.Texts.{IsShownText}
+use Rattle.life_pattern.specs.Universe.{Universe}
+use Rattle.life_pattern.specs.declared.pattern.Pattern.{Pattern}
 use Rattle.life_phases.specs.Periods.{IsPeriodUpTo, LeavesFromMiddle}
 use Rattle.life_phases.specs.declared.period.Period.{Period}
 use Rattle.life_periods.specs.Line.{period_line}

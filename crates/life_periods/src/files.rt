@@ -4,10 +4,12 @@ ghost use Rattle.life_periods.specs.Words.{ForEachFile, IsOfFile, IsPeriodOfFile
 
 use crate::line::append_period;
 use life_base::{Fault, Kind, MAX_LEVEL, Rule};
-use life_canon::laws::{files_are_on_plane, patterns_fit};
-use life_canon::{Pattern, five_lines_of, read};
+use life_pattern::Pattern;
+use life_pattern::laws::{files_are_on_plane, patterns_fit};
 use life_phases::{Period, period_of};
 use life_quad::Shared;
+use life_reader::read;
+use life_writer::five_lines_of;
 use std::alloc::Global;
 
 /// The least period, up to `most` generations, of a pattern that was read into the store, as `period_of` of `life_phases` returns it. The store isn't changed.

@@ -20,7 +20,7 @@
 //! A file is refused for the first of these that holds: a fault of the file; a rule that is a name; a pattern that leaves the plane on the way, begun in its
 //! middle.
 //!
-//! It doesn't know tables, commands and devices. It reads files by `life_canon`, and finds periods by `life_phases`. Above it, `life_cli` does
+//! It doesn't know tables, commands and devices. It reads files by `life_reader`, and finds periods by `life_phases`. Above it, `life_cli` does
 //! `show --period` with it, and the rows of the crate `rows` test it.
 //!
 //! Read first: `specs/OfFile.antt` (the period of a file), `specs/Line.antt` (the line), and `src/files.rt`.

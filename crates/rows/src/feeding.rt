@@ -5,8 +5,11 @@ ghost use Rattle.life_canon.specs.Words.{IsOfFile, MAX_LEVEL};
 
 use crate::answer::{Answer, Show, show_dropped, show_outcome};
 use life_base::{Device, Fault};
-use life_canon::{Pattern, Reader, five_lines_of, read_from, rle_of, run_canon, run_canon_within};
+use life_canon::{run_canon, run_canon_within};
+use life_pattern::Pattern;
 use life_quad::Shared;
+use life_reader::{Reader, read_from};
+use life_writer::{five_lines_of, rle_of};
 use std::alloc::Global;
 use std::io::{self, Read};
 

@@ -8,8 +8,9 @@ use crate::patterns::{
 };
 use crate::row::number_of;
 use life_base::Fault;
-use life_canon::{canon, read, same, show, to_rle};
+use life_canon::{canon, same, show, to_rle};
 use life_quad::Shared;
+use life_reader::read;
 use std::alloc::Global;
 
 /// A call that makes a text of a file.

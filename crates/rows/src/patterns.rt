@@ -8,13 +8,16 @@ use crate::feeding::fed;
 use crate::stores::new_store;
 use crate::table::table_of;
 use life_base::{Fault, Kind, read_u64};
-use life_canon::{Pattern, canon, lesser_text, number, read, text_of};
+use life_canon::canon;
 use life_forms::{moved_of, turned_text};
 use life_mc::write_mc;
+use life_pattern::Pattern;
 use life_periods::{append_period, period_of_pattern};
 use life_quad::Shared;
+use life_reader::read;
 use life_step::{next_by_rows, next_by_rule, next_by_table, step_life, step_table};
 use life_table::Table;
+use life_writer::{lesser_text, number, text_of};
 use std::alloc::Global;
 
 /// Two texts, or why there are none.

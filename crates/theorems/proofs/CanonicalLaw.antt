@@ -1,10 +1,11 @@
 -- A canonical text is one of the files with which it is compared.
 use Rattle.std.proofs.Common.{◌≡◌, ℕ, List, ap, ◌∙◌, sym, subst}
 use Rattle.life_mc.specs.Reading.{IsMacrocell}
-use Rattle.life_canon.specs.Laws.{FilesAreOnPlane, TextsAreFiles, TextsKeepPatterns}
-use Rattle.life_canon.specs.Least.{IsLeastText}
-use Rattle.life_canon.specs.Listing.{canonical_file}
-use Rattle.life_canon.specs.Texts.{IsCanonical}
+use Rattle.life_pattern.specs.Laws.{FilesAreOnPlane}
+use Rattle.life_writer.specs.Laws.{TextsAreFiles, TextsKeepPatterns}
+use Rattle.life_writer.specs.Least.{IsLeastText}
+use Rattle.life_writer.specs.Listing.{canonical_file}
+use Rattle.life_writer.specs.Texts.{IsCanonical}
 use Rattle.claims.specs.Canonical.{IsTextOfPattern}
 use Rattle.claims.specs.Counting.{IsCanonicalText}
 use Rattle.claims.specs.Files.{pattern_of, SayOnePattern}

@@ -3,8 +3,8 @@ use Rattle.std.proofs.Common.{◌≡◌, ℕ, ◌^◌, List, sym, subst, arith, 
 use Rattle.life_base.specs.declared.cell.Cell.{Cell}
 use Rattle.life_base.specs.declared.fault.Fault.{Fault}
 use Rattle.life_base.specs.declared.kind.Kind.TheVariants.{TooManyCells}
-use Rattle.life_canon.specs.Store.{RefusesIn}
-use Rattle.life_canon.specs.Texts.{AreCellsOf, IsRleOf, FileHasMoreCells as LayerMoreCells}
+use Rattle.life_pattern.specs.Store.{RefusesIn}
+use Rattle.life_writer.specs.Texts.{AreCellsOf, IsRleOf, FileHasMoreCells as LayerMoreCells}
 use Rattle.life_quad.specs.Store.{Nodes}
 use Rattle.claims.specs.Pattern.{Pattern}
 use Rattle.claims.specs.Files.{pattern_of, claimed_fault_of, IsShortage}

@@ -11,18 +11,19 @@ use Rattle.life_base.specs.declared.rule.Rule.{Rule as LayerRule}
 use Rattle.life_rle.specs.Grammar.{IsRle}
 use Rattle.life_rle.proofs.PrefixLaws.{begins_as_rle, prefixes_are_files}
 use Rattle.life_base.specs.declared.fault.Fault.{Fault}
-use Rattle.life_canon.specs.Universe.{Universe, IsSame, macrocell_universe, is_life}
-use Rattle.life_canon.specs.Least.{IsLeastText, HasNoLeaves}
+use Rattle.life_pattern.specs.Universe.{Universe, IsSame, macrocell_universe, is_life}
+use Rattle.life_writer.specs.Least.{IsLeastText, HasNoLeaves}
 use Rattle.life_mc.specs.Cells.{node_lines as layer_node_lines}
 use Rattle.life_mc.proofs.NodeLines.{node_lines_counted}
 use Rattle.life_base.specs.declared.rule.Rule.TheVariants.{Life, Named}
 use Rattle.claims.specs.Rules.{Rule, is_counting}
 use Rattle.claims.specs.Counting.{claimed_node_lines, has_leaves, IsClaimedRival}
 use Rattle.claims.proofs.Back.{macrocell_back, no_leaves}
-use Rattle.life_canon.specs.Files.{as_macrocell, as_rle, Reads, is_macrocell, Accepted, Same as LayerSame}
-use Rattle.life_canon.specs.Texts.{IsCanonical, IsRleOf}
-use Rattle.life_canon.specs.Listing.{canon_text, canonical_file}
-use Rattle.life_canon.specs.Laws.{FilesAreOnPlane, TextsTellPatterns, TextsKeepPatterns, TextsAreFiles}
+use Rattle.life_pattern.specs.Files.{as_macrocell, as_rle, Reads, is_macrocell, Accepted, Same as LayerSame}
+use Rattle.life_writer.specs.Texts.{IsCanonical, IsRleOf}
+use Rattle.life_writer.specs.Listing.{canon_text, canonical_file}
+use Rattle.life_pattern.specs.Laws.{FilesAreOnPlane}
+use Rattle.life_writer.specs.Laws.{TextsTellPatterns, TextsKeepPatterns, TextsAreFiles}
 use Rattle.claims.specs.Pattern.{Pattern}
 use Rattle.claims.specs.Files.{pattern_of, macrocell_of, read_lines, end_of_rle, SayOnePattern}
 use Rattle.claims.specs.Rle.{with_rle_line}

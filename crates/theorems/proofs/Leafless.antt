@@ -11,9 +11,9 @@ use Rattle.life_mc.specs.Reading.{IsMacrocell, is_node_line, is_leaf, is_leaf_by
 use Rattle.life_mc.specs.declared.line.Line.{Line}
 use Rattle.life_mc.specs.declared.line.Line.TheVariants.{Leaf}
 use Rattle.life_mc.proofs.NodeLines.{node_lines_counted}
-use Rattle.life_canon.specs.Universe.{Universe, is_life, least_level, whole}
-use Rattle.life_canon.specs.Least.{HasNoLeaves}
-use Rattle.life_canon.specs.Listing.{canonical_file, line_of, lines_for, listed_squares}
+use Rattle.life_pattern.specs.Universe.{Universe, is_life, least_level, whole}
+use Rattle.life_writer.specs.Least.{HasNoLeaves}
+use Rattle.life_writer.specs.Listing.{canonical_file, line_of, lines_for, listed_squares}
 use Rattle.claims.specs.Counting.{has_leaves}
 use Rattle.claims.specs.Rules.{Rule as ReportedRule, is_counting}
 use Rattle.claims.proofs.RuleLaw.{rule_in}

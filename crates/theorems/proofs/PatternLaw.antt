@@ -9,10 +9,11 @@ use Rattle.life_base.specs.Text.{lines_of}
 use Rattle.life_base.specs.Rules.{rule_of as layer_rule_of, rule_text as layer_text}
 use Rattle.life_base.specs.declared.kind.Kind.{Kind}
 use Rattle.life_base.specs.declared.rule.Rule.{Rule as LayerRule}
-use Rattle.life_canon.specs.Files.{Reads, as_macrocell, as_rle, is_macrocell}
-use Rattle.life_canon.specs.Laws.{FilesAreOnPlane, TextsAreFiles}
-use Rattle.life_canon.specs.Listing.{canon_text, canonical_file}
-use Rattle.life_canon.specs.Universe.{Universe, IsOnPlane, macrocell_universe, rle_universe}
+use Rattle.life_pattern.specs.Files.{Reads, as_macrocell, as_rle, is_macrocell}
+use Rattle.life_pattern.specs.Laws.{FilesAreOnPlane}
+use Rattle.life_writer.specs.Laws.{TextsAreFiles}
+use Rattle.life_writer.specs.Listing.{canon_text, canonical_file}
+use Rattle.life_pattern.specs.Universe.{Universe, IsOnPlane, macrocell_universe, rle_universe}
 use Rattle.life_mc.specs.Macrocell.{largest_state as layer_largest}
 use Rattle.claims.specs.Rules.{Rule, claimed_rule_of, claimed_rule_text, claimed_largest_state}
 use Rattle.claims.specs.Pattern.{Pattern}

@@ -6,13 +6,15 @@ use Rattle.life_base.specs.Rules.{IsRule}
 use Rattle.life_base.specs.declared.rule.Rule.{Rule as LayerRule}
 use Rattle.life_quad.specs.Store.{Nodes}
 use Rattle.life_mc.specs.Macrocell.{largest_state}
-use Rattle.life_canon.specs.Universe.{Universe, IsSame, IsOnPlane}
-use Rattle.life_canon.specs.Laws.{FaultsStay, FilesAreOnPlane, PatternsFit, TextsTellUniverses}
-use Rattle.life_canon.specs.Listing.{canon_text}
-use Rattle.life_canon.specs.Feeding.{RefusesPrefix}
-use Rattle.life_canon.specs.Store.{IsRead, IsShortageOf, RefusesIn, universe_in}
-use Rattle.life_canon.specs.Texts.{IsCanonical}
-use Rattle.life_canon.specs.declared.pattern.Pattern.{Pattern}
+use Rattle.life_pattern.specs.Universe.{Universe, IsSame, IsOnPlane}
+use Rattle.life_reader.specs.Laws.{FaultsStay}
+use Rattle.life_pattern.specs.Laws.{FilesAreOnPlane, PatternsFit}
+use Rattle.life_writer.specs.Laws.{TextsTellUniverses}
+use Rattle.life_writer.specs.Listing.{canon_text}
+use Rattle.life_reader.specs.Feeding.{RefusesPrefix}
+use Rattle.life_pattern.specs.Store.{IsRead, IsShortageOf, RefusesIn, universe_in}
+use Rattle.life_writer.specs.Texts.{IsCanonical}
+use Rattle.life_pattern.specs.declared.pattern.Pattern.{Pattern}
 use Rattle.claims.specs.Files.{pattern_of, IsShortage as IsUnmet}
 use Rattle.theorems.specs.Joined.{all_bytes}
 use Rattle.theorems.proofs.RefusalLaw.{refuses_agree, refused_as, want_as}

@@ -2,7 +2,7 @@
 use Rattle.std.proofs.Common.{◌≡◌, ℕ, ◌^◌, Bool, true, false, ◌&&◌, refl, sym, ◌∙◌, arith, ℤ, pos, neg_ℤ, ◌≤ℤ◌, ◌<ℤ◌, int_le, int_lt, true≢false}
 use Rattle.std.proofs.lemmas.Int.{ints}
 use Rattle.std.proofs.lemmas.Bool.{and_from}
-use Rattle.life_canon.specs.Universe.{IsWithin, corner}
+use Rattle.life_pattern.specs.Universe.{IsWithin, corner}
 use Rattle.claims.specs.Pattern.{is_claimed_coordinate}
 use Rattle.life_base.proofs.Basics.{within_span}
 

@@ -11,9 +11,9 @@ use Rattle.life_rle.specs.Grammar.{IsRle, BreaksRle}
 use Rattle.life_rle.specs.Decided.{LacksHeader, HasBroken}
 use Rattle.life_rle.proofs.DecidedLaw.{decided as rle_decided}
 use Rattle.life_rle.proofs.FormatLaws.{broken_for_good}
-use Rattle.life_canon.specs.Universe.{Universe, rle_universe}
-use Rattle.life_canon.specs.Files.{Says, as_macrocell, as_rle, Accepts, Accepted, Breaks, Refuses, is_macrocell, missing_file_part}
-use Rattle.life_canon.specs.Store.{RefusesIn, IsShortageOf}
+use Rattle.life_pattern.specs.Universe.{Universe, rle_universe}
+use Rattle.life_pattern.specs.Files.{Says, as_macrocell, as_rle, Accepts, Accepted, Breaks, Refuses, is_macrocell, missing_file_part}
+use Rattle.life_pattern.specs.Store.{RefusesIn, IsShortageOf}
 use Rattle.life_quad.specs.Store.{Nodes}
 use Rattle.claims.specs.Pattern.{Pattern}
 use Rattle.claims.specs.Files.{IsShortage as IsUnmet, pattern_of, claimed_fault_at, read_lines, end_of_rle}

@@ -9,10 +9,11 @@ use Rattle.life_base.specs.declared.rule.Rule.{Rule as LayerRule}
 use Rattle.life_base.specs.declared.rule.Rule.TheVariants.{Life, Named}
 use Rattle.life_mc.specs.Cells.{node_lines as layer_node_lines}
 use Rattle.life_mc.proofs.NodeLines.{node_lines_counted}
-use Rattle.life_canon.specs.Universe.{Universe}
-use Rattle.life_canon.specs.Listing.{canon_text, canonical_file}
-use Rattle.life_canon.specs.Laws.{FilesAreOnPlane, FilesAreUnique, TextsAreFiles}
-use Rattle.life_canon.specs.Texts.{IsCanonical, box_text, IsShownText as LayerShown, IsBoxOf}
+use Rattle.life_pattern.specs.Universe.{Universe}
+use Rattle.life_writer.specs.Listing.{canon_text, canonical_file}
+use Rattle.life_pattern.specs.Laws.{FilesAreOnPlane, FilesAreUnique}
+use Rattle.life_writer.specs.Laws.{TextsAreFiles}
+use Rattle.life_writer.specs.Texts.{IsCanonical, box_text, IsShownText as LayerShown, IsBoxOf}
 use Rattle.claims.specs.Pattern.{Pattern}
 use Rattle.claims.specs.Files.{pattern_of}
 use Rattle.claims.specs.Counting.{claimed_node_lines}

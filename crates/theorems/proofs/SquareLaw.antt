@@ -10,8 +10,8 @@ use Rattle.life_base.specs.declared.rule.Rule.TheVariants.{Life, Named}
 use Rattle.life_mc.specs.Macrocell.{largest_state}
 use Rattle.life_mc.specs.Writing.{line_text, node_text, row_text, leaf_row_text}
 use Rattle.life_mc.specs.declared.line.Line.TheVariants.{Leaf}
-use Rattle.life_canon.specs.Universe.{square}
-use Rattle.life_canon.specs.Listing.{same_tree, is_in, is_small, with_new, with_all, place, number_of_quarter, rows_of, quad_line, line_of, walk as tree_walk}
+use Rattle.life_pattern.specs.Universe.{square}
+use Rattle.life_writer.specs.Listing.{same_tree, is_in, is_small, with_new, with_all, place, number_of_quarter, rows_of, quad_line, line_of, walk as tree_walk}
 use Rattle.claims.specs.Canonical.{Square, point, quarters, claimed_square_at, square_level, is_blank_square, same_square, claimed_walk, first_visits, child_number, state_rows, leaf_row, square_line}
 use Rattle.claims.proofs.Bits.{all_over, all_over_at, bit}
 use Rattle.claims.proofs.RuleLaw.{rule_in}

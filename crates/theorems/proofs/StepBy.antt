@@ -19,12 +19,12 @@ use Rattle.life_sweep.specs.Refused.{IfElse, HasStateFrom, fault_on}
 use Rattle.life_base.specs.Text.{lines_of}
 use Rattle.life_table.specs.Reading.{AreTable}
 use Rattle.life_quad.specs.Store.{Nodes}
-use Rattle.life_canon.specs.Files.{Reads, Refuses}
-use Rattle.life_canon.specs.Store.{IsShortageOf}
-use Rattle.life_canon.specs.Laws.{FilesAreOnPlane, FilesAreUnique}
-use Rattle.life_canon.specs.Listing.{canon_text}
-use Rattle.life_canon.specs.Texts.{IsCanonical}
-use Rattle.life_canon.specs.Universe.{Universe}
+use Rattle.life_pattern.specs.Files.{Reads, Refuses}
+use Rattle.life_pattern.specs.Store.{IsShortageOf}
+use Rattle.life_pattern.specs.Laws.{FilesAreOnPlane, FilesAreUnique}
+use Rattle.life_writer.specs.Listing.{canon_text}
+use Rattle.life_writer.specs.Texts.{IsCanonical}
+use Rattle.life_pattern.specs.Universe.{Universe}
 use Rattle.life_step.specs.Stepped.{IsSteppedBy as LayerSteppedBy}
 use Rattle.life_step.specs.Refusals.{TableRefusal, PatternHasMoreCells as LayerMoreCells, LeavesPlane as LayerLeaves, SomeAmbiguousCell, IsFirstAmbiguousCell as LayerFirst}
 use Rattle.claims.specs.ByTable.{IsClaimedStepBy, HasStateBeyond, IsFirstClaimedAmbiguous, LeavesPlaneBy, IsFirstReasonBy, rule_differs, last_generation, many_cells, state_beyond, two_states, leaves_plane, IsUnsteppedBy}

@@ -10,12 +10,12 @@ use Rattle.life_base.specs.declared.rule.Rule.{Rule as LayerRule}
 use Rattle.life_base.specs.declared.rule.Rule.TheVariants.{Life, Named}
 use Rattle.life_sweep.specs.Refused.{IfElse}
 use Rattle.life_next.specs.Generation.{next_life as layer_next}
-use Rattle.life_canon.specs.Universe.{Universe}
-use Rattle.life_canon.specs.Files.{Reads, Refuses}
-use Rattle.life_canon.specs.Listing.{canon_text}
-use Rattle.life_canon.specs.Store.{IsShortageOf}
-use Rattle.life_canon.specs.Laws.{FilesAreOnPlane, FilesAreUnique}
-use Rattle.life_canon.specs.Texts.{AreCellsOf, IsCanonical}
+use Rattle.life_pattern.specs.Universe.{Universe}
+use Rattle.life_pattern.specs.Files.{Reads, Refuses}
+use Rattle.life_writer.specs.Listing.{canon_text}
+use Rattle.life_pattern.specs.Store.{IsShortageOf}
+use Rattle.life_pattern.specs.Laws.{FilesAreOnPlane, FilesAreUnique}
+use Rattle.life_writer.specs.Texts.{AreCellsOf, IsCanonical}
 use Rattle.life_step.specs.Stepped.{IsStepped as LayerStepped}
 use Rattle.life_step.specs.Refusals.{RuleRefusal, LifeRefusal}
 use Rattle.claims.specs.Files.{pattern_of, claimed_fault_of, IsShortage as IsUnmet}

@@ -5,10 +5,11 @@ use Rattle.life_base.specs.DeviceRuns.{SourceRun, SinkRun}
 use Rattle.life_base.specs.Inputs.{ReadAll, CameBeyond}
 use Rattle.life_base.specs.Text.{lines_of}
 use Rattle.life_base.specs.declared.fault.Fault.{Fault}
-use Rattle.life_canon.specs.Laws.{FilesAreUnique}
-use Rattle.life_canon.specs.Running.{Wrote, RunRefuses, by_reading, by_writing, by_file, by_want, by_length, by_source}
-use Rattle.life_canon.specs.Listing.{canon_text}
-use Rattle.life_canon.specs.Texts.{IsCanonical}
+use Rattle.life_pattern.specs.Laws.{FilesAreUnique}
+use Rattle.life_canon.specs.Running.{Wrote, RunRefuses, by_reading, by_writing}
+use Rattle.life_reader.specs.Reading.{by_file, by_want, by_length, by_source}
+use Rattle.life_writer.specs.Listing.{canon_text}
+use Rattle.life_writer.specs.Texts.{IsCanonical}
 use Rattle.life_quad.specs.Store.{Nodes}
 use Rattle.theorems.specs.Streams.{IsStreamFault, no_file, want, too_many, unread, unwritten}
 use Rattle.theorems.proofs.RefusalLaw.{refuses_agree, want_as}

@@ -8,11 +8,11 @@ use Rattle.life_base.specs.declared.rule.Rule.TheVariants.{Life, Named}
 use Rattle.life_mc.specs.Macrocell.{largest_state}
 use Rattle.life_rle.specs.Written.{rle_text}
 use Rattle.life_mc.specs.Writing.{mc_text, node_text, generation_line_text}
-use Rattle.life_canon.specs.Universe.{Universe, IsOnPlane, IsWithin, IsBlankOutside, corner, centred_square, whole, least_level as layer_least}
-use Rattle.life_canon.specs.Laws.{FilesAreOnPlane}
-use Rattle.life_canon.specs.Texts.{IsCanonical, IsRleOf}
-use Rattle.life_canon.specs.Listing.{walk as tree_walk, canonical_file, canon_text, line_of, listed_squares, square_file, with_all}
-use Rattle.life_canon.proofs.WholeSquares.{IsLeastSquare, least_square}
+use Rattle.life_pattern.specs.Universe.{Universe, IsOnPlane, IsWithin, IsBlankOutside, corner, centred_square, whole, least_level as layer_least}
+use Rattle.life_pattern.specs.Laws.{FilesAreOnPlane}
+use Rattle.life_writer.specs.Texts.{IsCanonical, IsRleOf}
+use Rattle.life_writer.specs.Listing.{walk as tree_walk, canonical_file, canon_text, line_of, listed_squares, square_file, with_all}
+use Rattle.life_writer.proofs.WholeSquares.{IsLeastSquare, least_square}
 use Rattle.claims.specs.Pattern.{Pattern}
 use Rattle.claims.specs.Canonical.{Square, claimed_square_at, middle_square, is_in_middle, HoldsAllCells, claimed_least_level, claimed_walk, first_visits, square_line, claimed_square_text, IsTextOfPattern}
 use Rattle.claims.proofs.RuleLaw.{rule_in}

@@ -10,7 +10,7 @@ use crate::space::StoreOptions;
 use claims::laws::{tables_decide, tables_read, tables_refuse};
 use life_base::Fault;
 use life_canon::canon;
-use life_canon::laws::{files_are_on_plane, files_are_unique};
+use life_pattern::laws::{files_are_on_plane, files_are_unique};
 use life_step::step_table;
 use life_table::laws::grammars_agree;
 use life_table::{NameSeed, read_table_seeded};

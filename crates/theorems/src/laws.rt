@@ -2,7 +2,8 @@
 
 ghost use Rattle.theorems.specs.Words.{PatternsHaveFiles, PatternsOfFilesFit};
 
-use life_canon::laws::{files_are_on_plane, texts_are_files};
+use life_pattern::laws::files_are_on_plane;
+use life_writer::laws::texts_are_files;
 
 /// Each pattern whose rule is that of its own text, whose generation is below 2^64, whose states are those of the rule, and
 /// that has state 0 outside the plane, is the pattern of some file.

@@ -5,8 +5,9 @@ ghost use Rattle.theorems.specs.Words.{IsTextOfFile, SayOnePattern, IsStreamFaul
 
 use crate::space::StoreOptions;
 use life_base::{Fault, Kind, Sink, Source};
-use life_canon::laws::{files_are_on_plane, files_are_unique, texts_keep_patterns};
 use life_canon::{canon, run_canon};
+use life_pattern::laws::{files_are_on_plane, files_are_unique};
+use life_writer::laws::texts_keep_patterns;
 use std::alloc::Global;
 
 /// From a source that reports its bytes to a sink that reports what it holds, the canonical text of the file, which is a file of

@@ -9,7 +9,7 @@ use super::refusal::{FileRefusal, OpenedFile};
 use command_line::{KeyForm, Origin, origin_of};
 use file_hints::{Foreign, foreign_on};
 use life_base::{Fault, Kind, Source, read_within};
-use life_canon::laws::refusals_have_kinds;
+use life_pattern::laws::refusals_have_kinds;
 use pattern_sources::Seeds;
 use std::alloc::Global;
 use std::io::{ErrorKind, Result as IoResult};

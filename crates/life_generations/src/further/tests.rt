@@ -1,8 +1,8 @@
 //! Tests of `step_later`: patterns whose later generations were worked out by hand, and what is refused, in its order.
 use super::*;
-use life_canon::canon;
 use life_quad::Seed;
 use life_step::step_life;
+use life_writer::text_of;
 
 // How many squares a store may hold.
 const SPACE: u64 = 100_000;
@@ -13,12 +13,18 @@ fn later_text(alloc: Global, file: &[u8], generations: u64) -> Result<Vec<u8>, F
     step_later(alloc, &mut store, file, generations)
 }
 
+// The canonical text of a file.
+fn canonical_text(alloc: Global, store: &mut Shared, file: &[u8]) -> Result<Vec<u8>, Fault> {
+    let pattern = read(alloc, store, file)?;
+    text_of(alloc, store, &pattern)
+}
+
 // Whether a file has the canonical text of another file so many generations later.
 fn becomes(alloc: Global, file: &[u8], generations: u64, later: &[u8]) -> bool {
     let mut store = Shared::seeded(alloc, Seed::fixed(), SPACE);
     match (
         later_text(alloc, file, generations),
-        canon(alloc, &mut store, later),
+        canonical_text(alloc, &mut store, later),
     ) {
         (Ok(text), Ok(wanted)) => text.as_slice() == wanted.as_slice(),
         _ => false,

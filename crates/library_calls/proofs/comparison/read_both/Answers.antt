@@ -4,7 +4,7 @@ use Rattle.life_base.specs.declared.cell.TheConstants.{MAX_LEVEL}
 use Rattle.life_base.specs.Refusal.{fault_of}
 use Rattle.life_base.specs.declared.fault.Fault.{Fault}
 use Rattle.life_base.specs.declared.kind.Kind.TheVariants.{Full}
-use Rattle.life_canon.specs.Store.{IsRead, RefusesIn}
+use Rattle.life_pattern.specs.Store.{IsRead, RefusesIn}
 use Rattle.library_calls.proofs.FormFacts.{accepted-it, both-fit, first-low, first-read, read-both, second-low}
 use Rattle.library_calls.proofs.NeedFacts.{if-err, if-ok, on-ok}
 use Rattle.library_calls.proofs.comparison.read_both.Goals as goal

@@ -1,7 +1,7 @@
 use Rattle.std.proofs.Common.{◌∙◌}
 use Rattle.std.proofs.lemmas.Result.{IfOk-weaker, IfErr-weaker, err_from_is_err_and}
 use Rattle.life_base.specs.declared.cell.TheConstants.{MAX_LEVEL}
-use Rattle.life_canon.specs.Store.{IsRead, RefusesIn}
+use Rattle.life_pattern.specs.Store.{IsRead, RefusesIn}
 use Rattle.library_calls.specs.Texts.{SomeToRead}
 use Rattle.library_calls.proofs.Answering.{and-lacks}
 use Rattle.library_calls.proofs.NeedFacts.{file-fits, file-low, from-empty, if-err, if-ok, needed-only, on-ok, where-ok}

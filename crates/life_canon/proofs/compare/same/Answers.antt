@@ -1,8 +1,8 @@
 use Rattle.std.proofs.Common.{arith, inl, inr}
 use Rattle.life_base.specs.declared.cell.TheConstants.{MAX_LEVEL}
 use Rattle.life_quad.proofs.KeepingLemmas.{keeps-then, adds-as, adds-then}
-use Rattle.life_canon.proofs.Adding.{file-few}
-use Rattle.life_canon.proofs.CallFacts.{read-stays, same-read, read-equal}
+use Rattle.life_reader.proofs.Adding.{file-few}
+use Rattle.life_pattern.proofs.ReadFacts.{read-stays, same-read, read-equal}
 use Rattle.life_canon.proofs.compare.same.Goals as goal
 use Rattle.life_base.proofs.Results.{error_is, err_again}
 

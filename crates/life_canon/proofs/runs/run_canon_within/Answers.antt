@@ -9,15 +9,16 @@ use Rattle.life_base.specs.declared.fault.Fault.{Fault}
 use Rattle.life_base.specs.declared.kind.Kind.TheVariants.{WriteFault}
 use Rattle.life_mc.specs.Writing.{node_text, header_lines_text}
 use Rattle.life_quad.specs.Store.{Nodes}
-use Rattle.life_canon.specs.Listing.{canon_text, lines_for, listed_squares}
-use Rattle.life_canon.specs.Running.{HasRead, Wrote, by_reading, by_writing, by_want}
-use Rattle.life_canon.specs.Store.{content, universe_in}
-use Rattle.life_canon.specs.Universe.{least_level}
-use Rattle.life_canon.specs.declared.pattern.Pattern.{Pattern}
+use Rattle.life_writer.specs.Listing.{canon_text, lines_for, listed_squares}
+use Rattle.life_reader.specs.Reading.{HasRead, by_want}
+use Rattle.life_canon.specs.Running.{Wrote, by_reading, by_writing}
+use Rattle.life_pattern.specs.Store.{content, universe_in}
+use Rattle.life_pattern.specs.Universe.{least_level}
+use Rattle.life_pattern.specs.declared.pattern.Pattern.{Pattern}
 use Rattle.life_canon.proofs.CallFacts.{canonical-text}
-use Rattle.life_canon.proofs.Fits.{read-fits}
-use Rattle.life_canon.proofs.PieceFacts.{pieces-text}
-use Rattle.life_canon.proofs.Stored.{no-space, source-err, source-still, write-no-space}
+use Rattle.life_pattern.proofs.Fits.{read-fits}
+use Rattle.life_writer.proofs.PieceFacts.{pieces-text}
+use Rattle.life_reader.proofs.Stored.{no-space, source-err, source-still, write-no-space}
 use Rattle.life_canon.proofs.runs.run_canon_within.Goals as goal
 
 -- the prefix and the lines of the pattern that was read are its text
@@ -44,16 +45,19 @@ as_it_was (Ok x) writer = tt
 as_it_was (Err fault) writer = λ other. refl
 
 pub deliver_squares-requires-clause-known : goal.deliver_squares-requires-clause-known
-deliver_squares-requires-clause-known g c
-    = (read-fits c.in_ok-pattern.ensures.reads.pattern.bytes c.read_source.new.store c.in_ok-pattern.pattern c.in_ok-pattern.ensures.reads.pattern.is).known
+deliver_squares-requires-clause-known g c =
+    let reads = c.in_ok-pattern.ensures.reads.pattern in
+    (read-fits reads.bytes c.read_from_within.new.store c.in_ok-pattern.pattern reads.is).known
 
 pub deliver_squares-requires-clause-states : goal.deliver_squares-requires-clause-states
-deliver_squares-requires-clause-states g c
-    = (read-fits c.in_ok-pattern.ensures.reads.pattern.bytes c.read_source.new.store c.in_ok-pattern.pattern c.in_ok-pattern.ensures.reads.pattern.is).states
+deliver_squares-requires-clause-states g c =
+    let reads = c.in_ok-pattern.ensures.reads.pattern in
+    (read-fits reads.bytes c.read_from_within.new.store c.in_ok-pattern.pattern reads.is).states
 
 pub deliver_squares-requires-clause-level : goal.deliver_squares-requires-clause-level
-deliver_squares-requires-clause-level g c
-    = (read-fits c.in_ok-pattern.ensures.reads.pattern.bytes c.read_source.new.store c.in_ok-pattern.pattern c.in_ok-pattern.ensures.reads.pattern.is).level
+deliver_squares-requires-clause-level g c =
+    let reads = c.in_ok-pattern.ensures.reads.pattern in
+    (read-fits reads.bytes c.read_from_within.new.store c.in_ok-pattern.pattern reads.is).level
 
 pub deliver_squares-requires-clause-bound : goal.deliver_squares-requires-clause-bound
 deliver_squares-requires-clause-bound g c = λ q k l s. c.in_ok-numbers.ensures.bound q k.0 l s

@@ -1,5 +1,5 @@
 use Rattle.std.proofs.lemmas.Result.{IfOk-weaker}
-use Rattle.life_canon.proofs.Stored.{no-space, reads-err, reads-still}
+use Rattle.life_reader.proofs.Stored.{no-space, reads-err, reads-still}
 use Rattle.life_canon.proofs.summary.show.Goals as goal
 
 pub five_lines_of-requires : goal.five_lines_of-requires

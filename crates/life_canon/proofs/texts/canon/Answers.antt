@@ -1,8 +1,8 @@
 use Rattle.std.proofs.Common.{inl, inr}
 use Rattle.std.proofs.lemmas.Result.{IfOk-weaker, IfErr-weaker}
 use Rattle.life_canon.proofs.CallFacts.{canonical-text, least-text}
-use Rattle.life_canon.proofs.Fits.{read-fits}
-use Rattle.life_canon.proofs.Stored.{no-space, reads-err, reads-still}
+use Rattle.life_pattern.proofs.Fits.{read-fits}
+use Rattle.life_reader.proofs.Stored.{no-space, reads-err, reads-still}
 use Rattle.life_canon.proofs.texts.canon.Goals as goal
 
 pub text_of-requires : goal.text_of-requires

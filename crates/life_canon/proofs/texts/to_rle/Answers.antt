@@ -1,6 +1,6 @@
 use Rattle.std.proofs.lemmas.Result.{IfOk-weaker}
 use Rattle.life_canon.proofs.CallFacts.{rle-fault}
-use Rattle.life_canon.proofs.Stored.{not-stored, reads-err, reads-still}
+use Rattle.life_reader.proofs.Stored.{not-stored, reads-err, reads-still}
 use Rattle.life_canon.proofs.texts.to_rle.Goals as goal
 
 pub rle_of-requires : goal.rle_of-requires

@@ -2,7 +2,7 @@ use Rattle.std.proofs.Common.{inl, inr, ap}
 use Rattle.std.proofs.lemmas.Result.{err_from_is_err_and}
 use Rattle.life_base.specs.Refusal.{fault_of}
 use Rattle.life_quad.proofs.LawLemmas.{known_squares_are_full}
-use Rattle.life_canon.specs.Store.{universe_in}
+use Rattle.life_pattern.specs.Store.{universe_in}
 use Rattle.life_forms.proofs.ComparingFacts.{moved-again, shifts-reported}
 use Rattle.life_forms.proofs.PlaneFacts.{outside-blank}
 use Rattle.life_forms.proofs.compare.are_shifts.Goals as goal

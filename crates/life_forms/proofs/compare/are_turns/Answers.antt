@@ -1,5 +1,5 @@
 use Rattle.std.proofs.Common.{sym, ◌∙◌, rules}
-use Rattle.life_canon.specs.Store.{universe_in}
+use Rattle.life_pattern.specs.Store.{universe_in}
 use Rattle.life_forms.proofs.ComparingFacts.{on-plane, turns-reported}
 use Rattle.life_forms.proofs.compare.are_turns.Goals as goal
 

@@ -2,8 +2,8 @@ use Rattle.std.proofs.Common.{◌≡◌, Option, Some, None, IfSome, ℤ, pos, �
 use Rattle.std.proofs.lemmas.Int.{ints}
 use Rattle.life_base.specs.Tree.{tree_cell}
 use Rattle.life_quad.proofs.LawLemmas.{known_squares_are_full}
-use Rattle.life_canon.specs.Store.{content}
-use Rattle.life_canon.specs.Universe.{square}
+use Rattle.life_pattern.specs.Store.{content}
+use Rattle.life_pattern.specs.Universe.{square}
 use Rattle.life_slide.proofs.MovedLemmas.{bottom-read, left-read, right-read, top-read}
 use Rattle.life_forms.specs.Corners.{IsNearPlane, square_start}
 use Rattle.life_forms.proofs.PatternFacts.{root-high}

@@ -2,8 +2,8 @@ use Rattle.std.proofs.Common.{◌≡◌, ℤ, pos, ◌+ℤ◌, ◌∙◌, arith,
 use Rattle.std.proofs.lemmas.Int.{ints}
 use Rattle.life_base.specs.Tree.{tree_cell}
 use Rattle.life_quad.specs.Store.{eight}
-use Rattle.life_canon.specs.Store.{content}
-use Rattle.life_canon.specs.Universe.{square}
+use Rattle.life_pattern.specs.Store.{content}
+use Rattle.life_pattern.specs.Universe.{square}
 use Rattle.life_forms.specs.Corners.{IsNearPlane}
 use Rattle.life_forms.proofs.SmallCorners.{block-is}
 use Rattle.life_forms.proofs.corners.block_near.Goals as goal

@@ -1,5 +1,5 @@
 use Rattle.life_quad.proofs.LawLemmas.{known_squares_are_full}
-use Rattle.life_canon.specs.Store.{content}
+use Rattle.life_pattern.specs.Store.{content}
 use Rattle.life_forms.proofs.PlaneFacts.{columns-ordered, rows-ordered}
 use Rattle.life_forms.proofs.corners.cells_in.Goals as goal
 

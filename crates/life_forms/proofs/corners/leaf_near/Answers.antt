@@ -3,7 +3,7 @@ use Rattle.std.proofs.lemmas.Int.{ints}
 use Rattle.life_base.specs.Tree.{depth, tree_cell}
 use Rattle.life_pieces.specs.Pieces.{square_from}
 use Rattle.life_quad.proofs.LawLemmas.{known_squares_are_full}
-use Rattle.life_canon.specs.Store.{content}
+use Rattle.life_pattern.specs.Store.{content}
 use Rattle.life_slide.specs.Pieces.{IsNearMiddle}
 use Rattle.life_slide.proofs.MovedLemmas.{bottom-read, left-read, right-read, top-read}
 use Rattle.life_forms.proofs.CornerFacts.{adjacent-columns, adjacent-rows, near-column, near-row}

@@ -1,5 +1,5 @@
 use Rattle.std.proofs.Common.{ℕ, List, subst}
-use Rattle.life_canon.specs.Lesser.{IsLesserText}
+use Rattle.life_writer.specs.Lesser.{IsLesserText}
 use Rattle.life_forms.proofs.corners.lesser_text_of_corner.Goals as goal
 
 pub returns-clause-text : goal.returns-clause-text

@@ -3,7 +3,7 @@ use Rattle.std.proofs.lemmas.Result.{IfOk-weaker}
 use Rattle.life_base.specs.Tree.{Tree, is_blank_tree}
 use Rattle.life_quad.specs.Store.{eight}
 use Rattle.life_quad.proofs.TurningLemmas.{blank-image}
-use Rattle.life_canon.specs.Listing.{square_text}
+use Rattle.life_writer.specs.Listing.{square_text}
 use Rattle.life_forms.specs.Corners.{block_tree, corner_root, corner_tree, seated}
 use Rattle.life_forms.specs.declared.corners.Corner.{Corner}
 use Rattle.life_forms.proofs.CornerFacts.{life-low}

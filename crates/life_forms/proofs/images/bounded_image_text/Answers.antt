@@ -1,8 +1,8 @@
 use Rattle.std.proofs.Common.{◌^◌, ℕ, List, min, IfSome, inl, refl, subst, subst₂}
 use Rattle.life_base.specs.declared.cell.TheConstants.{MAX_LEVEL}
-use Rattle.life_canon.specs.Lesser.{IsUpTo}
-use Rattle.life_canon.specs.Store.{universe_in}
-use Rattle.life_canon.proofs.OrderFacts.{up-to-itself, up-to-on}
+use Rattle.life_writer.specs.Lesser.{IsUpTo}
+use Rattle.life_pattern.specs.Store.{universe_in}
+use Rattle.life_writer.proofs.OrderFacts.{up-to-itself, up-to-on}
 use Rattle.life_forms.specs.Images.{IsLowerBound}
 use Rattle.life_forms.proofs.images.bounded_image_text.Goals as goal
 

@@ -1,6 +1,6 @@
 use Rattle.std.proofs.Common.{Result, Ok, Err, IfOk, OnOk}
 use Rattle.life_base.specs.declared.cell.TheConstants.{MAX_LEVEL}
-use Rattle.life_canon.specs.Store.{universe_in}
+use Rattle.life_pattern.specs.Store.{universe_in}
 use Rattle.life_forms.proofs.TextFacts.{least-of-lesser}
 use Rattle.life_forms.proofs.images.image_text.Goals as goal
 

@@ -1,5 +1,5 @@
 use Rattle.std.proofs.Common.{List, ℕ, Result, Ok, Err, IfOk, subst}
-use Rattle.life_canon.specs.Lesser.{IsLesserText}
+use Rattle.life_writer.specs.Lesser.{IsLesserText}
 use Rattle.life_forms.proofs.TransposeFacts.{upright-text}
 use Rattle.life_forms.proofs.images.lesser_corner_text.Goals as goal
 

@@ -2,7 +2,7 @@ use Rattle.std.proofs.Common.{true, false, lit≤, Result, Ok, Err, OnOk, ◌^�
 use Rattle.std.proofs.lemmas.Result.{IfOk-weaker}
 use Rattle.life_base.specs.declared.cell.TheConstants.{MAX_LEVEL}
 use Rattle.life_quad.proofs.LawLemmas.{known_squares_are_full}
-use Rattle.life_canon.specs.Store.{universe_in}
+use Rattle.life_pattern.specs.Store.{universe_in}
 use Rattle.life_slide.proofs.MovedLemmas.{cell-below}
 use Rattle.life_forms.proofs.PlaneFacts.{outside-blank}
 use Rattle.life_forms.specs.Turns.{turn_of}

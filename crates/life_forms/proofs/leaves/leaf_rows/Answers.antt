@@ -1,8 +1,8 @@
 use Rattle.std.proofs.Common.{◌≡◌, ◌++◌, ◌/◌, ◌%◌, ◌^◌, ◌∙◌, arith, refl}
 use Rattle.life_quad.specs.Store.{eight, four}
-use Rattle.life_canon.specs.Rows.{rows_side_by_side}
-use Rattle.life_canon.proofs.LeafWords.{rows-of_word}
-use Rattle.life_canon.proofs.RowFacts.{leaf_rows}
+use Rattle.life_writer.specs.Rows.{rows_side_by_side}
+use Rattle.life_writer.proofs.LeafWords.{rows-of_word}
+use Rattle.life_writer.proofs.RowFacts.{leaf_rows}
 use Rattle.life_forms.proofs.leaves.leaf_rows.Goals as goal
 
 pub returns : goal.returns

@@ -1,14 +1,14 @@
 use Rattle.std.proofs.Common.{◌≡◌, ◌++◌, ◌/◌, ◌%◌, List, ℕ, false, true, refl, sym, ap, ◌∙◌, subst}
 use Rattle.life_base.specs.Tree.{is_blank_tree}
-use Rattle.life_canon.specs.Lesser.{IsUpTo}
-use Rattle.life_canon.specs.Listing.{rows_of, square_text}
+use Rattle.life_writer.specs.Lesser.{IsUpTo}
+use Rattle.life_writer.specs.Listing.{rows_of, square_text}
 use Rattle.life_mc.specs.Writing.{header_lines_text, node_text}
 use Rattle.life_mc.specs.declared.line.Line.TheVariants.{Leaf}
 use Rattle.life_quad.specs.Store.{eight, four}
 use Rattle.life_quad.specs.Turning.{turned_tree}
 use Rattle.life_quad.proofs.TurningLemmas.{blank-image}
 use Rattle.life_base.specs.declared.rule.Rule.{Rule}
-use Rattle.life_canon.specs.Universe.{is_life}
+use Rattle.life_pattern.specs.Universe.{is_life}
 use Rattle.life_forms.specs.Turns.{Turn, turn_of}
 use Rattle.life_forms.proofs.CornerFacts.{life-low}
 use Rattle.life_forms.proofs.LeafFacts.{text-of-leaf}

@@ -1,6 +1,6 @@
 use Rattle.std.proofs.Common.{List, ℕ, inl, inr, refl, subst₂}
-use Rattle.life_canon.specs.Lesser.{IsUpTo}
-use Rattle.life_canon.proofs.OrderFacts.{up-to-itself}
+use Rattle.life_writer.specs.Lesser.{IsUpTo}
+use Rattle.life_writer.proofs.OrderFacts.{up-to-itself}
 use Rattle.life_forms.proofs.lower_bounds.lesser_of.Goals as goal
 
 pub returns-then-is_up_to : goal.returns-then-is_up_to

@@ -3,9 +3,9 @@ use Rattle.life_base.specs.declared.rule.Rule.{Rule}
 use Rattle.life_base.specs.declared.rule.Rule.TheVariants.{Life, Named}
 use Rattle.life_mc.specs.Macrocell.{largest_state}
 use Rattle.life_mc.specs.Squares.{HasStatesUpTo}
-use Rattle.life_canon.specs.Universe.{is_life}
+use Rattle.life_pattern.specs.Universe.{is_life}
 use Rattle.life_quad.proofs.LawLemmas.{known_squares_are_full}
-use Rattle.life_canon.specs.Store.{content, universe_in}
+use Rattle.life_pattern.specs.Store.{content, universe_in}
 use Rattle.life_quad.specs.Store.{eight}
 use Rattle.life_slide.proofs.MovedLemmas.{cell-below}
 use Rattle.life_forms.proofs.AreaFacts.{most_parts}

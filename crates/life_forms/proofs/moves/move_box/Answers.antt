@@ -4,7 +4,7 @@ use Rattle.life_base.specs.Tree.{tree_cell}
 use Rattle.life_quad.proofs.GrowsLemmas.{grows-as, only-grows}
 use Rattle.life_quad.specs.Refused.{SomePart}
 use Rattle.life_quad.specs.Turning.{turned_tree}
-use Rattle.life_canon.specs.Universe.{Universe}
+use Rattle.life_pattern.specs.Universe.{Universe}
 use Rattle.life_forms.specs.Cells.{IsWay}
 use Rattle.life_forms.specs.Needed.{IsMovedRoot, SomeOfMovedRoot}
 use Rattle.life_forms.specs.Turns.{turn_of}

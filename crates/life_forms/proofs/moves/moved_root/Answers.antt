@@ -4,7 +4,7 @@ use Rattle.life_base.proofs.Squares.{full-blank, is_blank-blank}
 use Rattle.life_quad.proofs.GrowsLemmas.{grows-same}
 use Rattle.life_quad.proofs.TurningLemmas.{blank-image, blank-turned}
 use Rattle.life_quad.specs.Turning.{turned_tree}
-use Rattle.life_canon.specs.Universe.{Universe}
+use Rattle.life_pattern.specs.Universe.{Universe}
 use Rattle.life_forms.specs.Needed.{IsMovedRoot}
 use Rattle.life_forms.specs.Turns.{turn_of}
 use Rattle.life_forms.proofs.MirrorFacts.{depth-mirrored, full-mirrored, low-mirrored, mirrored, mirrored-universe}

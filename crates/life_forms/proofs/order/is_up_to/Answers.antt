@@ -1,7 +1,7 @@
 use Rattle.std.proofs.Common.{◌≡◌, Bool, true, false, not, [], refl, sym, ap, ◌∙◌, subst, true≢false, append-nil, Ordering, Less, Equal, Greater, is_gt}
 use Rattle.std.specs.Ordering.{is_lt}
-use Rattle.life_canon.specs.Lesser.{IsUpTo}
-use Rattle.life_canon.proofs.OrderFacts.{old-is-lesser}
+use Rattle.life_writer.specs.Lesser.{IsUpTo}
+use Rattle.life_writer.proofs.OrderFacts.{old-is-lesser}
 use Rattle.life_forms.proofs.order.is_up_to.Goals as goal
 
 fails : (b : Bool) → not b ≡ true → b ≡ false

@@ -1,4 +1,4 @@
-use Rattle.life_canon.specs.Store.{content}
+use Rattle.life_pattern.specs.Store.{content}
 use Rattle.life_forms.proofs.PatternFacts.{cell-up-to}
 use Rattle.life_forms.proofs.patterns.brought.Goals as goal
 

@@ -10,8 +10,8 @@ use Rattle.life_quad.specs.Keeping.{IsShortageKind}
 use Rattle.life_quad.specs.Store.{Nodes, stored_squares}
 use Rattle.life_quad.specs.Turning.{turned_tree}
 use Rattle.life_quad.proofs.LawLemmas.{known_squares_are_full}
-use Rattle.life_canon.specs.Store.{content, universe_in}
-use Rattle.life_canon.specs.Universe.{Universe, least_level, square_universe}
+use Rattle.life_pattern.specs.Store.{content, universe_in}
+use Rattle.life_pattern.specs.Universe.{Universe, least_level, square_universe}
 use Rattle.life_forms.specs.Forms.{IsMoved}
 use Rattle.life_forms.specs.Needed.{HasLargerForm, IsMovedRoot}
 use Rattle.life_forms.specs.Turns.{Turn, image, turn_of}

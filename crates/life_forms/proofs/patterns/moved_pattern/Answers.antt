@@ -3,9 +3,9 @@ use Rattle.life_base.specs.Tree.{Tree}
 use Rattle.life_quad.proofs.KeepingLemmas.{adds-as}
 use Rattle.life_quad.proofs.LawLemmas.{known_squares_are_full}
 use Rattle.life_quad.specs.Turning.{turned_tree}
-use Rattle.life_canon.specs.Needs.{IsNew}
-use Rattle.life_canon.specs.Store.{content}
-use Rattle.life_canon.specs.Universe.{square_universe}
+use Rattle.life_pattern.specs.Store.{IsNew}
+use Rattle.life_pattern.specs.Store.{content}
+use Rattle.life_pattern.specs.Universe.{square_universe}
 use Rattle.life_forms.specs.Needed.{IsMovedRoot, SomeOfMovedRoot}
 use Rattle.life_forms.specs.Turns.{image, turn_of}
 use Rattle.life_forms.proofs.MirrorFacts.{image-moved, image-trimmed, root-deep}

@@ -7,9 +7,9 @@ use Rattle.life_base.specs.declared.fault.Fault.{Fault}
 use Rattle.life_base.specs.declared.kind.Kind.TheVariants as kinds
 use Rattle.life_mc.specs.Macrocell.{largest_state}
 use Rattle.life_quad.proofs.KeepingLemmas.{keeps-same, keeps-then}
-use Rattle.life_canon.specs.Files.{Reads}
-use Rattle.life_canon.specs.Store.{content, IsRead}
-use Rattle.life_canon.specs.Universe.{Universe, least_level}
+use Rattle.life_pattern.specs.Files.{Reads}
+use Rattle.life_pattern.specs.Store.{content, IsRead}
+use Rattle.life_pattern.specs.Universe.{Universe, least_level}
 use Rattle.life_leap.proofs.AfterLemmas.{after-binary}
 use Rattle.life_later.specs.Course.{LeavesWithin}
 use Rattle.life_generations.specs.Later.{LaterRefusal}

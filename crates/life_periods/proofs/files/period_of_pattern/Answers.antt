@@ -3,8 +3,8 @@ use Rattle.std.proofs.lemmas.Result.{IfErr-weaker}
 use Rattle.life_base.specs.Tree.{depth}
 use Rattle.life_base.proofs.Results.{if_ok_two}
 use Rattle.life_mc.specs.Macrocell.{largest_state}
-use Rattle.life_canon.specs.Store.{content}
-use Rattle.life_canon.specs.Universe.{least_level}
+use Rattle.life_pattern.specs.Store.{content}
+use Rattle.life_pattern.specs.Universe.{least_level}
 use Rattle.life_periods.proofs.FileFacts.{name-refused, pattern-refused, period-read}
 use Rattle.life_periods.proofs.files.period_of_pattern.Goals as goal
 

@@ -1,4 +1,4 @@
-use Rattle.life_canon.specs.Feeding.{Stands}
+use Rattle.life_reader.specs.Feeding.{Stands}
 use Rattle.rows.proofs.feeding.fed.Given as goal
 
 -- the store that was lent has the squares of the reader

@@ -1,4 +1,4 @@
-use Rattle.life_canon.proofs.Fits.{read-fits}
+use Rattle.life_pattern.proofs.Fits.{read-fits}
 use Rattle.rows.proofs.patterns.text_of_file.Goals as goal
 
 pub text_of_pattern-requires-clause-trimmed : goal.text_of_pattern-requires-clause-trimmed

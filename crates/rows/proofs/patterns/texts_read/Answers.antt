@@ -1,4 +1,4 @@
-use Rattle.life_canon.proofs.Fits.{read-fits}
+use Rattle.life_pattern.proofs.Fits.{read-fits}
 use Rattle.rows.proofs.patterns.texts_read.Goals as goal
 
 pub texts_of-requires : goal.texts_of-requires

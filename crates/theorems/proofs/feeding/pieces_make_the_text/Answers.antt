@@ -1,5 +1,5 @@
 use Rattle.std.proofs.Common.{List, ℕ, sym, subst, ◌∙◌}
-use Rattle.life_canon.specs.Texts.{IsCanonical}
+use Rattle.life_writer.specs.Texts.{IsCanonical}
 use Rattle.theorems.specs.Joined.{all_bytes}
 use Rattle.theorems.proofs.StreamLaw.{one_text}
 use Rattle.std.proofs.lemmas.Result.{err_from_is_err_and}

@@ -1,7 +1,7 @@
 use Rattle.std.proofs.lemmas.Result.{err_from_is_err_and}
 use Rattle.theorems.proofs.RefusalLaw.{map_err}
 use Rattle.std.proofs.Common.{inr, ◌+◌, ◌≡◌, ◌∙◌, ◌++◌, ℕ, List, sym, ap, subst, take}
-use Rattle.life_canon.specs.Texts.{IsCanonical}
+use Rattle.life_writer.specs.Texts.{IsCanonical}
 use Rattle.theorems.specs.Joined.{all_bytes}
 use Rattle.theorems.proofs.FileLaw.{map_ok}
 use Rattle.theorems.proofs.PieceLaw.{joined_more, read_text, joined_all, refused_so_far, refused_whole}

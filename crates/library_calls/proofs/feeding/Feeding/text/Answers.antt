@@ -1,7 +1,7 @@
 use Rattle.std.proofs.Common.{◌≡◌, ◌∙◌, false, [], ap, subst}
 use Rattle.std.proofs.lemmas.Result.{IfOk-weaker, IfErr-weaker, err_from_is_err_and}
 use Rattle.life_base.specs.declared.cell.TheConstants.{MAX_LEVEL}
-use Rattle.life_canon.specs.Store.{IsRead, RefusesIn}
+use Rattle.life_pattern.specs.Store.{IsRead, RefusesIn}
 use Rattle.library_calls.specs.Outputs.{Piecewise, IsOutputText, RefusesTextOf}
 use Rattle.library_calls.specs.Texts.{Fits, SomeToRead}
 use Rattle.library_calls.proofs.NeedFacts.{end-low, file-fits, if-err, if-ok, on-ok, only-more, where-ok}

@@ -3,9 +3,9 @@ use Rattle.std.proofs.lemmas.Result.{err_from_is_err_and}
 use Rattle.file_hints.specs.Damage.{warning_of}
 use Rattle.life_base.specs.declared.cell.TheConstants.{MAX_LEVEL}
 use Rattle.life_base.specs.declared.fault.Fault.{Fault}
-use Rattle.life_canon.specs.Feeding.{RefusesPrefix}
-use Rattle.life_canon.specs.Space.{HoldsPrefix}
-use Rattle.life_canon.specs.Store.{IsShortageOf}
+use Rattle.life_reader.specs.Feeding.{RefusesPrefix}
+use Rattle.life_reader.specs.Space.{HoldsPrefix}
+use Rattle.life_pattern.specs.Store.{IsShortageOf}
 use Rattle.library_calls.specs.Outputs.{Piecewise, RefusesPiece}
 use Rattle.library_calls.proofs.NeedFacts.{if-err, on-ok, piece-low}
 use Rattle.library_calls.proofs.StreamFacts.{piece-fault}

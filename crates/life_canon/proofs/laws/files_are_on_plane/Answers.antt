@@ -1,7 +1,0 @@
-use Rattle.std.proofs.Common.{arith, lit≤, lit<}
-use Rattle.life_canon.proofs.TextLaws as law
-use Rattle.life_canon.proofs.TreeWords.{below_top}
-use Rattle.life_canon.proofs.laws.files_are_on_plane.Goals as goal
-
-pub returns : goal.returns
-returns c = law.files_are_on_plane below_top (omega arith) (lit< tt) (lit≤ tt)

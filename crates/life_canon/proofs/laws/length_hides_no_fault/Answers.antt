@@ -1,5 +1,0 @@
-use Rattle.life_canon.proofs.RefusedPrefixes as law
-use Rattle.life_canon.proofs.laws.length_hides_no_fault.Goals as goal
-
-pub returns : goal.returns
-returns c = law.length_hides_no_fault

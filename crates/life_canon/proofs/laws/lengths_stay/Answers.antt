@@ -1,5 +1,0 @@
-use Rattle.life_canon.proofs.RunFacts as law
-use Rattle.life_canon.proofs.laws.lengths_stay.Goals as goal
-
-pub returns : goal.returns
-returns c = law.lengths_stay

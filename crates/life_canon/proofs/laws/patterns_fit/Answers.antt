@@ -1,5 +1,0 @@
-use Rattle.life_canon.proofs.Fits.{read-fits, read-same}
-use Rattle.life_canon.proofs.laws.patterns_fit.Goals as goal
-
-pub returns : goal.returns
-returns c = λ bytes store pattern h. (read-fits bytes store pattern h, read-same bytes store pattern h)

@@ -1,5 +1,0 @@
-use Rattle.life_quad.proofs.LawLemmas.{trimming_ignores_growth as growth}
-use Rattle.life_canon.proofs.laws.trimming_ignores_growth.Goals as goal
-
-pub returns : goal.returns
-returns c = growth

@@ -1,5 +1,0 @@
-use Rattle.life_canon.proofs.TextLaws as law
-use Rattle.life_canon.proofs.laws.wider_plane_keeps_texts.Goals as goal
-
-pub returns : goal.returns
-returns c = law.wider_plane_keeps_texts

@@ -1,5 +1,0 @@
-use Rattle.life_canon.proofs.WiderPlanes as law
-use Rattle.life_canon.proofs.laws.wider_planes_keep_files.Goals as goal
-
-pub returns : goal.returns
-returns c = law.wider_planes_keep_files

@@ -1,5 +1,0 @@
-use Rattle.std.proofs.Common.{rules}
-use Rattle.life_canon.proofs.prefix.FilePrefix.fault_here.Goals as goal
-
-pub returns : goal.returns
-returns c = search rules

@@ -1,5 +1,0 @@
-use Rattle.std.proofs.Common.{rules}
-use Rattle.life_canon.proofs.reader.Reader.new.Goals as goal
-
-pub returns-clause-spent : goal.returns-clause-spent
-returns-clause-spent c = search rules

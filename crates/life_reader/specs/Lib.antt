@@ -1,0 +1,13 @@
+pub mod Filling
+pub mod Waiting
+pub mod Building
+pub mod Needs
+pub mod Space
+pub mod Calls
+pub mod Taking
+pub mod Feeding
+pub mod Prefixes
+pub mod Reading
+pub mod ReadWhole
+pub mod Laws
+pub mod Words

@@ -1,0 +1,7 @@
+use Rattle.std.proofs.Common.{arith, lit≤, lit<}
+use Rattle.life_writer.proofs.TextLaws as law
+use Rattle.life_pattern.proofs.TreeWords.{below_top}
+use Rattle.life_writer.proofs.laws.texts_are_fixed.Goals as goal
+
+pub returns : goal.returns
+returns c = law.texts_are_fixed below_top (omega arith) (lit< tt) (lit≤ tt)

@@ -1,0 +1,13 @@
+pub mod Listing
+pub mod Lesser
+pub mod LesserLaws
+pub mod Closed
+pub mod Counting
+pub mod Least
+pub mod Texts
+pub mod Pieces
+pub mod PieceLaws
+pub mod Walking
+pub mod Laws
+pub mod Rows
+pub mod Words
