@@ -4,18 +4,21 @@ A must-fail edit is a deliberate bug: the prover has to refuse the crate with it
 prover judges each function by itself. Its proof rests on its own body and on the contracts of the functions that it calls, and an edit changes no contract. So
 one check (a round) can try many edits, over the work that the proof of the crate has left:
 
-- The first round leaves all functions as they are, and has a copy of a function for each edit of its body, under another name, with the function's contract
-  and proof files (scripts/proving/copies.py).
-- Later rounds change the functions themselves: for edits that can't be such a copy, at most one edit of a function.
+- In the first round most edits change a copy of their function, which stands beside it under another name, with the function's contract and proof files
+  (scripts/proving/copies.py). So it tries any number of edits of a function.
+- Edits that can't be such a copy change the functions themselves, in this round and in later ones: at most one edit of a function in each.
+
+A round asks for the modules that it changes (`rattle check --only`), with whatever their functions call. For all else the crate's proof, over which the round
+is tried, has just been made.
 
 What makes a refusal count:
 
 1. An edit is refused if the prover says that the copy, or a function which the edit changes, fails *by itself*: it isn't proved, and not because it calls
    another function that isn't; or it names a goal of this function that nothing proved; or a file of this function's own proof has an error.
 2. If that function only waits for another one, the round says nothing of the edit, and a later round tries it again.
-3. The control: in the first round every function of the crate has to be proved. In a later one every function that no edit changes has to be proved, or to wait
-   for another one. If such a function fails by itself, nothing that this round said counts. Its edits are tried again in two halves, those of the first round
-   as edits of the functions themselves, and in the end one by one by the toolchain's rule, `must_fail` of `rt`.
+3. The control: every function of these modules that no edit changes has to be proved, or to wait for another one. If such a function fails by itself, nothing
+   that this round said counts. Its edits are tried again, those of the first round as edits of the functions themselves, then in two halves, and in the end one
+   by one by the toolchain's rule, `must_fail` of `rt`.
 4. An edit whose function is still proved is tried alone, also by the toolchain's rule. Only that rule says that an edit isn't refused.
 
 An edit that changes no function of `src/` is tried alone from the beginning."""
@@ -34,6 +37,8 @@ rt = toolchain.load()
 
 # What the prover says of a function: its name, and whether it is proved.
 VERDICT = re.compile(r"^(?:fn|impl|struct|enum) (\S+?): (.*)$")
+# The last line of a check that ended with 0 or with 1.
+VERDICTS = {0: re.compile(r"logic=proved |only=\d+ proved=\d+$"), 1: re.compile(r"logic=not-proved|only=\d+ proved=\d+$")}
 # The verdicts that say that a function fails by itself.
 FAILS = re.compile(r"not proved|no proof|.*`search` did not prove .*")
 # An error in a proof file that only names what the edit took away.
@@ -57,11 +62,16 @@ def unpack(checked, folder):
                 it.write(part)
 
 
+def linked(path, to):
+    """Copies a file of kept work: by a link if it is the proof of a module, which a check replaces and doesn't change."""
+    return os.link(path, to) if path.endswith(".oantt") else shutil.copy2(path, to)
+
+
 @contextlib.contextmanager
 def copy_of(kept):
     """A copy of kept work, beside it, since a check adds to what it is given."""
     with tempfile.TemporaryDirectory(dir=os.path.dirname(kept)) as place:
-        yield shutil.copytree(kept, f"{place}/kept")
+        yield shutil.copytree(kept, f"{place}/kept", copy_function=linked)
 
 
 def name_of(function):
@@ -80,7 +90,6 @@ class Edit:
         self.label = f"must-fail {crate.name}/{os.path.basename(path)}"
         self.pairs, self.functions, self.refused, self.said = [], set(), None, ""
         self.had_company = False  # whether a round that refused another edit had this one too
-        self.was_copied = False  # whether a round that counts had a copy of its function
         _, problem = rt.read_edit(path, crate.folder)
         if problem:
             self.decide(False, f"BAD EDIT: {problem}")
@@ -134,8 +143,15 @@ def own_errors(function, lines):
     return [it for it in lines if re.match(rf"(\./)?proofs/{inside}/[^/]*:\d+:\d+: error", it)]
 
 
+def asked_for(texts):
+    """The words by which `rattle` checks the modules of changed files alone: none if the root of the crate is changed, or a definition."""
+    modules = {"::".join(copies.module_of(it)) for it in texts if it.startswith("src/")}
+    is_whole = "" in modules or any(it.startswith("specs/") for it in texts)
+    return [] if is_whole else [word for it in sorted(modules) for word in ("--only", it)]
+
+
 class Check:
-    """One check of a crate with texts in place of its own, over a copy of kept work: what the prover says of each function."""
+    """One check of a crate with texts in place of its own, over a copy of kept work: what the prover says of each function of their modules."""
 
     def __init__(self, crate, texts, kept, flags):
         with copy_of(kept) as copy, tempfile.TemporaryDirectory(prefix=f"rt-edit-{os.getpid()}-") as place:
@@ -146,14 +162,14 @@ class Check:
                 os.makedirs(os.path.dirname(f"{place}/{path}"), exist_ok=True)
                 with open(f"{place}/{path}", "w", encoding="utf-8") as it:
                     it.write(text)
-            words = [*rt.rtlib.guarded(), rt.rtlib.RATTLE, "check", *crate.words(flags, keeps=False), "--incremental", copy]
+            words = [*rt.rtlib.guarded(), rt.rtlib.RATTLE, "check", *crate.words(flags, keeps=False), "--incremental", copy, *asked_for(texts)]
             ran = subprocess.run(words, cwd=place, stdin=subprocess.DEVNULL, stdout=subprocess.PIPE, stderr=subprocess.STDOUT, text=True, errors="replace",
                                  check=False)
         self.lines = ran.stdout.rstrip("\n").split("\n")
         self.verdicts = {it[1]: it[2] for it in map(VERDICT.match, self.lines) if it}
         could_read = not any(rt.unread(it, texts) for it in self.lines) and not rt.rtlib.STALE.search(ran.stdout)
         # (if no edit of a round is a bug, the crate is still proved)
-        self.has_verdict = could_read and (ran.returncode, self.lines[-1].split(" ")[0]) in ((1, "logic=not-proved"), (0, "logic=proved"))
+        self.has_verdict = could_read and ran.returncode in VERDICTS and bool(VERDICTS[ran.returncode].match(self.lines[-1]))
 
     def fails(self, function):
         """Whether a function fails by itself."""
@@ -176,48 +192,35 @@ class Check:
         edit.decide(True, f"refused, as it must be{f' ({ONLY_NAMES})' if self.only_names(failing) else ''}: {why}")
 
 
-class RoundOfCopies:
-    """One check of a crate with a copy of a function for each edit."""
-
-    def __init__(self, crate, copied, texts, kept, flags):
-        self.copied, self.check = copied, Check(crate, texts, kept, flags)
-        names = {it.name for it in copied}
-        verdicts = self.check.verdicts
-        are_there = names <= set(map(name_of, verdicts))
-        self.counts = self.check.has_verdict and are_there and all(verdicts[it].startswith("proved") for it in verdicts if name_of(it) not in names)
-
-    def judge(self):
-        """Decides each edit whose copy the prover refuses, but not if a proof file of the copy only names what isn't there: a later round tries such an edit."""
-        for it in self.copied:
-            failing = [name for name in self.check.verdicts if name_of(name) == it.name and self.check.fails(name)]
-            if failing and not self.check.only_names(failing):
-                self.check.refuses(it.edit, failing)
-            it.edit.was_copied = it.edit.refused is not None or not failing
-
-
 class Round:
-    """One check of a crate with several edits of its functions: those that it tries, and those that are left for a later round."""
+    """One check of a crate with several edits: those in `copied` as copies of their functions, whose texts are given, and others in the functions themselves. Of
+    the edits of one function all but one are left for a later round."""
 
-    def __init__(self, crate, edits, kept, flags):
-        self.edits, self.left, self.changed, texts = [], [], set(), {}
+    def __init__(self, crate, copied, texts, edits, kept, flags):
+        self.functions_of, self.left = {it.edit: {it.name} for it in copied}, []
+        self.copied, self.changed = {it.edit for it in copied}, {it.name for it in copied}
         for edit in edits:
             more = None if edit.functions & self.changed else edit.applied(texts)
             if more is None:
                 self.left.append(edit)
             else:
-                texts, self.changed = more, self.changed | edit.functions
-                self.edits.append(edit)
+                texts, self.functions_of[edit] = more, edit.functions
+                self.changed |= edit.functions
+        self.edits = [*self.functions_of]
         self.check = Check(crate, texts, kept, flags)
-        self.counts = self.check.has_verdict and not self.strays()
+        self.counts = self.check.has_verdict and {it.name for it in copied} <= set(map(name_of, self.check.verdicts)) and not self.strays()
 
     def strays(self):
         """The functions that fail by themselves though no edit changes them."""
         return [it for it in self.check.verdicts if self.check.fails(it) and name_of(it) not in self.changed]
 
     def judge(self, edit):
-        """Decides the edit if the prover refuses it. Otherwise returns whether its function waits, so that a later round may decide."""
-        mine = [it for it in self.check.verdicts if name_of(it) in edit.functions]
+        """Decides the edit if the prover refuses it. Otherwise returns whether a later round may decide: its function waits, or fails only because a proof file
+        of the copy names what isn't there."""
+        mine = [it for it in self.check.verdicts if name_of(it) in self.functions_of[edit]]
         failing = [it for it in mine if self.check.fails(it)]
+        if failing and edit in self.copied and self.check.only_names(failing):
+            return True
         if failing:
             self.check.refuses(edit, failing)
             return False
@@ -235,43 +238,31 @@ class Trial:
 
     def run(self):
         """Decides each edit."""
-        self.round_of_copies()
-        # (what is still proved as a copy would be proved again)
-        waiting = [[it for it in self.edits if it.refused is None and it.functions and not it.was_copied]]
+        edits = [it for it in self.edits if it.refused is None and it.functions]
+        waiting = self.round(edits, *copies.copied(self.crate.folder, edits, self.groups))
         while waiting:
-            edits = waiting.pop()
-            if edits:
-                waiting += self.round(edits)
+            waiting += self.round(waiting.pop())
         for edit in self.edits:
             if edit.refused is None:
                 self.alone(edit)
         return self.edits
 
-    def round_of_copies(self):
-        """Tries the edits together that can be copies of functions."""
-        copied, texts = copies.copied(self.crate.folder, [it for it in self.edits if it.refused is None], self.groups)
-        if len(copied) < 2:
-            return
-        made = RoundOfCopies(self.crate, copied, texts, self.kept, self.flags)
-        self.checks += 1
-        if made.counts:
-            made.judge()
-            for it in copied:
-                it.edit.had_company = any(other.edit.refused for other in copied)
-
-    def round(self, edits):
-        """Tries edits together, and returns the lists to try after that."""
-        made = Round(self.crate, edits, self.kept, self.flags)
+    def round(self, edits, copied=(), texts=None):
+        """Tries edits together, some as copies of their functions, and returns the lists to try after that."""
+        if not edits:
+            return []
+        are_copied = {it.edit for it in copied}
+        made = Round(self.crate, copied, texts or {}, [it for it in edits if it not in are_copied], self.kept, self.flags)
         self.checks += 1
         if not made.counts:
             half = len(made.edits) // 2
-            return [made.left, made.edits[:half], made.edits[half:]] if half else [made.left]
+            return [edits] if copied else [made.left, made.edits[:half], made.edits[half:]] if half else [made.left]
         waits = [it for it in made.edits if made.judge(it)]
         some_refused = any(it.refused for it in made.edits)
         for edit in made.edits:
             edit.had_company = edit.had_company or some_refused
-        # (a round that decided nothing would say the same again)
-        again = waits if some_refused else []
+        # (a round that decided nothing would say the same again, but for the edits that were copies)
+        again = [it for it in waits if some_refused or it in are_copied]
         return [[*made.left, *again]]
 
     def alone(self, edit):

@@ -19,9 +19,16 @@ from shared import counting  # noqa: E402
 TOP = os.path.dirname(os.path.dirname(os.path.dirname(os.path.abspath(__file__))))
 GATE = os.path.join(TOP, "scripts", "gate")
 
-SMALL = """\
+LIBRARY = """\
 //! Four functions.
 #![tactic(auto)]
+
+mod numbers;
+
+pub use numbers::{after, after_next, sum, ten};
+"""
+NUMBERS = """\
+//! Numbers.
 
 ghost use Rattle.std.specs.Prelude.{◌≡◌, ◌+◌, ◌<◌};
 
@@ -66,11 +73,12 @@ fn main(rt: HostRuntime) -> std::io::Result<()> {
     Ok(())
 }
 """
-EDIT = "file: src/lib.rt\nold: {}\nnew: {}\n"
+EDIT = "file: src/numbers.rt\nold: {}\nnew: {}\n"
 FILES = {
     "HANDLES": "Handles allowed: none.\n",
     "crates.txt": "small:\nhello: small\n",
-    "crates/small/src/lib.rt": SMALL,
+    "crates/small/src/lib.rt": LIBRARY,
+    "crates/small/src/numbers.rt": NUMBERS,
     "crates/small/must-fail/after_is_two_more.edit": EDIT.format("    u64::from(number) + 1", "    u64::from(number) + 2"),
     # (edits of one function, and of one that calls it)
     "crates/small/must-fail/after_is_the_number.edit": EDIT.format("    u64::from(number) + 1", "    u64::from(number)"),
@@ -101,7 +109,7 @@ checked = gate.Gate.check_again
 
 def changed(self, crate, *given):
     found = checked(self, crate, *given)
-    path = f"{crate.folder}/src/lib.rt"
+    path = f"{crate.folder}/src/numbers.rt"
     if crate.name == "small":
         with open(path, encoding="utf-8") as it:
             text = it.read()
@@ -115,7 +123,6 @@ gate.Gate.check_again = changed
 OTHER_RT = "#!/usr/bin/env python3\nimport sys\n\nif __name__ == '__main__':\n    print('this is rt', *sys.argv[1:])\n"
 REFUSES_ALL = """
 gate.trials.Round.judge = lambda self, edit: edit.decide(True, 'refused, as it must be')
-gate.trials.RoundOfCopies.judge = lambda self: [it.edit.decide(True, 'refused, as it must be') for it in self.copied]
 """
 # The same only for edits that aren't copies of functions.
 REFUSES_CHANGED = """
@@ -171,26 +178,26 @@ def main():
                 it.write(text)
         subprocess.run(["git", "init", "-q", folder], check=True)
         os.chmod(folder, 0o755)
-        row("what is right passes", run(folder, GATE), 0, r"^small: 5 of 5 edits refused in 3 checks, and 1 harmless not refused ",
+        row("what is right passes", run(folder, GATE), 0, r"^small: 5 of 5 edits refused in 2 checks, and 1 harmless not refused ",
             r"^hello is proved \(1 functions\) ", r"^rt: hello ran, and wrote what its file stdout has$", r"^\d+ passed, 0 failed$")
-        changed = os.path.join(folder, "crates/small/src/lib.rt")
+        changed = os.path.join(folder, "crates/small/src/numbers.rt")
         row("nothing changed", run(folder, GATE, "changed"), 0, r"^0 functions, 0 edits refused; ", r"^0 passed, 0 failed$")
-        for name, text, is_seen in (("a comment of a crate", SMALL.replace("Ten.", "The number ten."), False),
-                                    ("what others see of a crate", SMALL.replace("result ≡ 10 }", "result ≡ 5 + 5 }"), True)):
+        for name, text, is_seen in (("a comment of a crate", NUMBERS.replace("Ten.", "The number ten."), False),
+                                    ("what others see of a crate", NUMBERS.replace("result ≡ 10 }", "result ≡ 5 + 5 }"), True)):
             with open(changed, "w", encoding="utf-8") as it:
                 it.write(text)
             found = run(folder, GATE, "changed")
             row(f"{name} changed", found, 0, r"^small is proved over kept work, in ", r"^small: 5 of 5 edits refused in ", r"^\d+ passed, 0 failed$")
             counting.row(f"{name} changed: the crate above it", [] if ("hello is proved over kept work" in found[1]) == is_seen else [found[1][-900:]])
         with open(changed, "w", encoding="utf-8") as it:
-            it.write(SMALL)
+            it.write(NUMBERS)
         row("a file that changes after its proof", run(folder, "-c", BROKEN, CHANGES_A_FILE, "changed"), 0, r"^small: 5 of 5 edits refused in ", r"^\d+ passed, 0 failed$")
         row("it is proved by the next run", run(folder, GATE, "changed"), 0, r"^small is proved over kept work, in ", r"^\d+ passed, 0 failed$")
         with open(changed, "w", encoding="utf-8") as it:
-            it.write(f"{SMALL}\n#[cfg(test)]\nmod tests;\n")
+            it.write(f"{NUMBERS}\n#[cfg(test)]\nmod tests;\n")
         row("a file of tests is missing", run(folder, GATE, "changed"), 1, r"^FAILED  small isn't proved any more: ", r"^\d+ passed, [1-9]\d* failed$")
         with open(changed, "w", encoding="utf-8") as it:
-            it.write(SMALL)
+            it.write(NUMBERS)
         row("a script that loses an edit", run(folder, "-c", BROKEN, LOSES_AN_EDIT, "edits"), 1,
             r"^FAILED  the edit small/after_is_the_number.edit isn't refused$", r"^\d+ passed, [1-9]\d* failed$")
         for name, text in (("everything", REFUSES_ALL), ("every edit that is no copy", REFUSES_CHANGED)):
