@@ -17,7 +17,7 @@ INHERENT = re.compile(r"(?:<.*?>)?\s*(\w+)(?:<.*>)?\s*(?:where.*)?$")
 def parts_of(lines, first, last):
     """A function with its attributes and comments: what comes before its body, and its body, which is empty where the function is written in one line."""
     above = first
-    while above and re.match(r"\s*(///|#\[)", lines[above - 1]):
+    while above and source.ABOVE.match(lines[above - 1]):
         above -= 1
     indent = re.match(r"\s*", lines[first])[0]
     begin = next((at + 1 for at in range(first, last) if lines[at] == indent + "{" or lines[at].endswith(" {")), None)

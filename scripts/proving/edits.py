@@ -4,9 +4,9 @@ A must-fail edit is a deliberate bug: the prover has to refuse the crate with it
 prover judges each function by itself. Its proof rests on its own body and on the contracts of the functions that it calls, and an edit changes no contract. So
 one check (a round) can try many edits, over the work that the proof of the crate has left:
 
-- In the first round most edits change a copy of their function, which stands beside it under another name, with the function's contract and proof files
-  (scripts/proving/copies.py). So it tries any number of edits of a function.
-- Edits that can't be such a copy change the functions themselves, in this round and in later ones: at most one edit of a function in each.
+- The first round leaves all functions as they are, and has a copy of a function for each edit of its body, under another name, with the function's contract
+  and proof files (scripts/proving/copies.py).
+- Later rounds change the functions themselves: for edits that can't be such a copy, at most one edit of a function.
 
 A round asks for the modules that it changes (`rattle check --only`), with whatever their functions call. For all else the crate's proof, over which the round
 is tried, has just been made.
@@ -151,9 +151,10 @@ def asked_for(texts):
 
 
 class Check:
-    """One check of a crate with texts in place of its own, over a copy of kept work: what the prover says of each function of their modules."""
+    """One check of a crate with texts in place of its own, over a copy of kept work: what the prover says of each function of their modules. It says nothing if
+    the prover couldn't read a file that an edit names. (A proof file of a copy is as readable as the one it is made from.)"""
 
-    def __init__(self, crate, texts, kept, flags):
+    def __init__(self, crate, texts, edits, kept, flags):
         with copy_of(kept) as copy, tempfile.TemporaryDirectory(prefix=f"rt-edit-{os.getpid()}-") as place:
             for part in rt.rtlib.PARTS:
                 if os.path.isdir(f"{crate.folder}/{part}"):
@@ -167,7 +168,8 @@ class Check:
                                  check=False)
         self.lines = ran.stdout.rstrip("\n").split("\n")
         self.verdicts = {it[1]: it[2] for it in map(VERDICT.match, self.lines) if it}
-        could_read = not any(rt.unread(it, texts) for it in self.lines) and not rt.rtlib.STALE.search(ran.stdout)
+        named = {path for edit in edits for path, _, _ in edit.pairs}
+        could_read = not any(rt.unread(it, named) for it in self.lines) and not rt.rtlib.STALE.search(ran.stdout)
         # (if no edit of a round is a bug, the crate is still proved)
         self.has_verdict = could_read and ran.returncode in VERDICTS and bool(VERDICTS[ran.returncode].match(self.lines[-1]))
 
@@ -193,8 +195,8 @@ class Check:
 
 
 class Round:
-    """One check of a crate with several edits: those in `copied` as copies of their functions, whose texts are given, and others in the functions themselves. Of
-    the edits of one function all but one are left for a later round."""
+    """One check of a crate with several edits: those of `copied` as copies of their functions, whose texts are given, or others in the functions themselves. Of
+    the edits of one function all but one are left for a later round then."""
 
     def __init__(self, crate, copied, texts, edits, kept, flags):
         self.functions_of, self.left = {it.edit: {it.name} for it in copied}, []
@@ -207,7 +209,7 @@ class Round:
                 texts, self.functions_of[edit] = more, edit.functions
                 self.changed |= edit.functions
         self.edits = [*self.functions_of]
-        self.check = Check(crate, texts, kept, flags)
+        self.check = Check(crate, texts, self.edits, kept, flags)
         self.counts = self.check.has_verdict and {it.name for it in copied} <= set(map(name_of, self.check.verdicts)) and not self.strays()
 
     def strays(self):
@@ -239,7 +241,10 @@ class Trial:
     def run(self):
         """Decides each edit."""
         edits = [it for it in self.edits if it.refused is None and it.functions]
-        waiting = self.round(edits, *copies.copied(self.crate.folder, edits, self.groups))
+        copied, texts = copies.copied(self.crate.folder, edits, self.groups)
+        again = self.round([it.edit for it in copied], copied, texts)
+        # (what is still proved as a copy would be proved again)
+        waiting = [[it for it in edits if it not in {other.edit for other in copied}] + sum(again, [])]
         while waiting:
             waiting += self.round(waiting.pop())
         for edit in self.edits:
@@ -248,11 +253,10 @@ class Trial:
         return self.edits
 
     def round(self, edits, copied=(), texts=None):
-        """Tries edits together, some as copies of their functions, and returns the lists to try after that."""
+        """Tries edits together, all as copies of their functions if there are copies, and returns the lists to try after that."""
         if not edits:
             return []
-        are_copied = {it.edit for it in copied}
-        made = Round(self.crate, copied, texts or {}, [it for it in edits if it not in are_copied], self.kept, self.flags)
+        made = Round(self.crate, copied, texts or {}, [] if copied else edits, self.kept, self.flags)
         self.checks += 1
         if not made.counts:
             half = len(made.edits) // 2
@@ -261,8 +265,8 @@ class Trial:
         some_refused = any(it.refused for it in made.edits)
         for edit in made.edits:
             edit.had_company = edit.had_company or some_refused
-        # (a round that decided nothing would say the same again, but for the edits that were copies)
-        again = [it for it in waits if some_refused or it in are_copied]
+        # (a round of changed functions that decided nothing would say the same again)
+        again = waits if some_refused or copied else []
         return [[*made.left, *again]]
 
     def alone(self, edit):

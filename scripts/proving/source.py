@@ -5,7 +5,7 @@ import re
 
 FUNCTION = re.compile(r"^(\s*)(?:pub(?:\([^)]*\))?\s+)?(?:const\s+)?(?:unsafe\s+)?(?:extern\s+\"C\"\s+)?fn\s+(\w+)")
 CYCLE = re.compile(r"#\[cycle\((\w+)\)\]")
-ATTRIBUTE = re.compile(r"\s*#\[")
+ABOVE = re.compile(r"\s*(#\[|//)")
 
 
 def functions(text):
@@ -33,7 +33,7 @@ def cycles(folder):
             lines = text.split("\n")
             for first, _, function in functions(text):
                 above = first
-                while above and ATTRIBUTE.match(lines[above - 1]):
+                while above and ABOVE.match(lines[above - 1]):
                     above -= 1
                 for cycle in CYCLE.findall("\n".join(lines[above:first])):
                     found.setdefault(cycle, set()).add(function)
