@@ -15,7 +15,8 @@ What makes a refusal count:
 
 1. An edit is refused if the prover says that the copy, or a function which the edit changes, fails *by itself*: it isn't proved, and not because it calls
    another function that isn't; or it names a goal of this function that nothing proved; or a file of this function's own proof has an error.
-2. If that function only waits for another one, the round says nothing of the edit, and a later round tries it again.
+   Functions that call each other in a cycle have one proof. If a round has edits of several of them, a goal named after the function has to fail.
+2. If that function only waits for another one, or no such goal is named after it, the round says nothing of the edit, and a later round tries it again.
 3. The control: every function of these modules that no edit changes has to be proved, or to wait for another one. If such a function fails by itself, nothing
    that this round said counts. Its edits are tried again, those of the first round as edits of the functions themselves, then in two halves, and in the end one
    by one by the toolchain's rule, `must_fail` of `rt`.
@@ -83,21 +84,23 @@ def name_of(function):
 
 
 class Edit:
-    """An edit of a crate: its pairs of texts by file, the functions that it changes, and once it is decided whether it is refused, and what to say."""
+    """An edit of a crate: its pairs of texts by file, the functions that it changes, of which it has texts of its `own` and which are in a cycle with these, and
+    once it is decided whether it is refused, and what to say."""
 
     def __init__(self, path, crate, groups):
         self.path, self.folder = path, crate.folder
         self.label = f"must-fail {crate.name}/{os.path.basename(path)}"
-        self.pairs, self.functions, self.refused, self.said = [], set(), None, ""
+        self.pairs, self.own, self.refused, self.said = [], set(), None, ""
+        self.is_apart = False  # whether a round that had another edit of the same cycle of calls couldn't tell
         self.had_company = False  # whether a round that refused another edit had this one too
         _, problem = rt.read_edit(path, crate.folder)
         if problem:
+            self.functions = set()
             self.decide(False, f"BAD EDIT: {problem}")
             return
         self.read()
-        for group in groups:
-            if group & self.functions:
-                self.functions |= group
+        # the functions that it changes, and those of their cycles
+        self.functions = self.own.union(*(it for it in groups if it & self.own))
 
     def read(self):
         texts, name, old = {}, None, None
@@ -112,7 +115,7 @@ class Edit:
                 new = line.removeprefix("new:").removeprefix(" ")
                 text = self.text_of(name, texts)
                 if name.startswith("src/"):
-                    self.functions |= source.changed_functions(text, old, new)
+                    self.own |= source.changed_functions(text, old, new)
                 texts[name] = text.replace(old, new)
                 self.pairs.append((name, old, new))
 
@@ -181,6 +184,12 @@ class Check:
     def errors_of(self, failing):
         return [error for it in failing for error in own_errors(it, self.lines)]
 
+    def names_goal_of(self, functions, failing):
+        """Whether a goal that is named after one of these functions fails, of a cycle of calls that fails."""
+        goals = re.findall(r"^(?:\./)?proofs/(?:\S*/)?\+[^/\s]+/[^/\s]+: error: `([^`]*)`:", "\n".join(self.lines), re.M)
+        goals += [goal for it in failing for goal in re.findall(r"`([^`]*)`", self.verdicts[it].partition(" did not prove ")[2])]
+        return any(goal.startswith(f"{it}-") for goal in goals for it in functions)
+
     def only_names(self, failing):
         """Whether these functions fail only because a proof file names what isn't there."""
         errors = self.errors_of(failing)
@@ -202,7 +211,8 @@ class Round:
         self.functions_of, self.left = {it.edit: {it.name} for it in copied}, []
         self.copied, self.changed = {it.edit for it in copied}, {it.name for it in copied}
         for edit in edits:
-            more = None if edit.functions & self.changed else edit.applied(texts)
+            clashes = any(it.own & edit.own or it.functions & edit.functions and (it.is_apart or edit.is_apart) for it in self.functions_of)
+            more = None if clashes else edit.applied(texts)
             if more is None:
                 self.left.append(edit)
             else:
@@ -216,12 +226,18 @@ class Round:
         """The functions that fail by themselves though no edit changes them."""
         return [it for it in self.check.verdicts if self.check.fails(it) and name_of(it) not in self.changed]
 
+    def shares_a_cycle(self, edit):
+        return edit not in self.copied and any(it is not edit and it.functions & edit.functions for it in self.edits)
+
     def judge(self, edit):
         """Decides the edit if the prover refuses it. Otherwise returns whether a later round may decide: its function waits, or fails only because a proof file
-        of the copy names what isn't there."""
+        of the copy names what isn't there, or it can't be told which function of a cycle of calls fails."""
         mine = [it for it in self.check.verdicts if name_of(it) in self.functions_of[edit]]
         failing = [it for it in mine if self.check.fails(it)]
         if failing and edit in self.copied and self.check.only_names(failing):
+            return True
+        if failing and self.shares_a_cycle(edit) and not self.check.names_goal_of(edit.own, failing):
+            edit.is_apart = True
             return True
         if failing:
             self.check.refuses(edit, failing)
@@ -266,7 +282,7 @@ class Trial:
         for edit in made.edits:
             edit.had_company = edit.had_company or some_refused
         # (a round of changed functions that decided nothing would say the same again)
-        again = waits if some_refused or copied else []
+        again = [it for it in waits if some_refused or copied or it.is_apart]
         return [[*made.left, *again]]
 
     def alone(self, edit):
