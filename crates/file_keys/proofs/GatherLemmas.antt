@@ -1,5 +1,5 @@
 -- What runs of the command `duplicates` come to and keep, one file after another.
-use Rattle.std.proofs.Common.{◌≡◌, ℕ, max, List, [], ◌∷◌, ◌++◌, ◌⊎◌, Bool, true, false, map, Option, Result, refl, sym, ap, ap₂, ◌∙◌, subst, arith, append_assoc, append-nil}
+use Rattle.std.proofs.Common.{◌≡◌, ℕ, max, List, [], ◌∷◌, ◌++◌, ◌⊎◌, Bool, true, false, Option, Result, refl, sym, ap, ap₂, ◌∙◌, subst, arith, append_assoc, append-nil}
 use Rattle.std.specs.Io.KnownBytes.{Appends}
 use Rattle.std.proofs.lemmas.Grind.{flat_map-append}
 use Rattle.std.proofs.lemmas.List.{map-append}
@@ -13,8 +13,8 @@ use Rattle.life_base.specs.declared.kind.Kind.TheVariants as kinds
 use Rattle.file_keys.specs.Duplicates.{broken_off, classes_in, classes_of, Gathers, kept_groups, PutsFile, RanDuplicates, through, with_outcome}
 use Rattle.pattern_sources.specs.Faults.{fault_line, refusal_of, status_of, Reports}
 use Rattle.file_keys.specs.Groups.{group_names, groups_text, IsGroupStatus, status_by}
-use Rattle.file_keys.specs.KeyRuns.{bytes_of_name, error_line, errors_of, greatest_status, IsReportedAs, list_word, Listed, Name, names_among, names_in, names_of, outcome_status, ReadsList, Processed, Takes, TakesAll, TellsOn, Took, Word, words_of_plan}
-use Rattle.file_keys.specs.Keys.{end_byte_of_name, IsStatus}
+use Rattle.file_keys.specs.KeyRuns.{bytes_of_name, error_line, errors_of, greatest_status, IsReportedAs, list_word, Name, names_among, names_of, outcome_status, ReadsList, Processed, Takes, TakesAll, TellsOn, Took, words_of_plan}
+use Rattle.file_keys.specs.Keys.{IsStatus}
 use Rattle.file_keys.specs.declared.duplicates.gathered.Gathered.{Gathered}
 use Rattle.file_keys.specs.declared.keys.outcome.Outcome.{Outcome}
 use Rattle.file_keys.specs.declared.keys.refusal.OpenedFile.{OpenedFile}
@@ -48,7 +48,7 @@ module _ {F R E : Type 0} (step : F → Origin → Result (OpenedFile R) IoError
   }
 
   -- files, and then further ones
-  pub gathers_more : (form : KeyForm) (names rest last : List Name) (f g h : F) (x y z : E) (a b c : Gathered)
+  gathers_more : (form : KeyForm) (names rest last : List Name) (f g h : F) (x y z : E) (a b c : Gathered)
       → Gathers step remaining reads_failed contents failures stalled form names rest f g x y a b
       → Gathers step remaining reads_failed contents failures stalled form rest last g h y z b c
       → Gathers step remaining reads_failed contents failures stalled form names last f h x z a c
@@ -95,31 +95,6 @@ module _ {F R E : Type 0} (step : F → Origin → Result (OpenedFile R) IoError
       gathers_more form names rest rest' f g h x y z a b c before
       (subst (λ l. Gathers step remaining reads_failed contents failures stalled form l rest' g h y z b c) (sym split)
       (gathers_one form name reported rest' g h y z b c these (subst (λ l. PutsFile contents failures stalled y z b c l reported) is puts)))
-
-  -- all files
-  pub gathers_all : (form : KeyForm) (names rest : List Name) (f g : F) (x y : E) (a b : Gathered) → rest ≡ []
-      → Gathers step remaining reads_failed contents failures stalled form names rest f g x y a b
-      → Gathers step remaining reads_failed contents failures stalled form names [] f g x y a b
-  gathers_all form names rest f g x y a b none p =
-      subst (λ l. Gathers step remaining reads_failed contents failures stalled form names l f g x y a b) none p
-
-  -- the files of the words, and then those of the list
-  pub gathers_both : (form form' : KeyForm) (zero_ended : Bool) (words : List (List ℕ)) (list : List ℕ) (f g h : F) (x y z : E) (a b c : Gathered)
-      → form' ≡ form
-      → Gathers step remaining reads_failed contents failures stalled form (map Word words) [] f g x y a b
-      → Gathers step remaining reads_failed contents failures stalled form' (map Listed (names_in (end_byte_of_name zero_ended) list)) [] g h y z b c
-      → Gathers step remaining reads_failed contents failures stalled form (names_among zero_ended words list) [] f h x z a c
-  gathers_both form form' zero_ended words list f g h x y z a b c is_form p q =
-      let more = map Listed (names_in (end_byte_of_name zero_ended) list) in
-      gathers_more form (names_among zero_ended words list) more [] f g h x y z a b c (record {
-        processed = p.processed;
-        split = ap (λ l. l ++ more) (p.split ∙ append-nil (names_of p.processed));
-        takes = p.takes;
-        reported = p.reported;
-        status = p.status;
-        kept = p.kept;
-      })
-      (subst (λ k. Gathers step remaining reads_failed contents failures stalled k more [] g h y z b c) is_form q)
 
 module _ {F R W E : Type 0} (step : F → Origin → Result (OpenedFile R) IoError → F → Type 0) (remaining : R → Option (List ℕ)) (reads_failed : R → ℕ)
     (held : W → Option (List ℕ)) (w-failures : W → ℕ) (w-stalled : W → Bool)

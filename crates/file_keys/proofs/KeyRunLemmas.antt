@@ -1,5 +1,5 @@
 -- What runs of the command `keys` come to and write, one after another.
-use Rattle.std.proofs.Common.{None, OnErr, IsTrue, ◌↔◌, ◌≤◌, zero, suc, Bor, get_or, drop, drop-cons, add-one, ◌+◌, length, ◌<◌, ◌≡◌, ℕ, max, List, [], ◌∷◌, ◌++◌, ◌⊎◌, inl, inr, Bool, true, false, map, filter, not, Option, Result, Ok, Err, ◌^◌, IfOk, IfErr, OnOk, Some, refl, sym, ap, ◌∙◌, subst, arith, append_assoc, append-nil, take_all}
+use Rattle.std.proofs.Common.{None, OnErr, IsTrue, ◌↔◌, ◌≤◌, zero, suc, Bor, ◌+◌, length, ◌≡◌, ℕ, max, List, [], ◌∷◌, ◌++◌, ◌⊎◌, inl, inr, Bool, true, false, map, not, Option, Result, Ok, Err, ◌^◌, IfOk, IfErr, OnOk, Some, refl, sym, ap, ◌∙◌, subst, arith, append_assoc, append-nil, take_all}
 use Rattle.std.specs.List.{FoldsTo}
 use Rattle.std.specs.Io.KnownBytes.{Appends, Keeps}
 use Rattle.std.proofs.KnownBytes.{Appends-nil, Appends-trans}
@@ -9,25 +9,23 @@ use Rattle.std.specs.declared.io.Error.{Error as IoError}
 use Rattle.std.specs.declared.io.ErrorKind.TheVariants as io
 use Rattle.file_hints.specs.declared.foreign.Foreign.{Foreign}
 use Rattle.life_base.specs.DeviceRuns.{sink_run, source_run, SourceRun}
-use Rattle.life_base.specs.Text.{is_empty}
 use Rattle.life_base.specs.Inputs.{CameBeyond, ReadAll}
 use Rattle.life_base.specs.Refusal.{fault_of}
 use Rattle.life_base.specs.declared.kind.Kind.TheVariants as kinds
 use Rattle.life_base.specs.Writing.{WritesPrefix, WritesText}
 use Rattle.life_base.specs.declared.cell.TheConstants.{MAX_LEVEL}
-use Rattle.life_base.specs.declared.fault.Fault.{Fault}
 use Rattle.life_base.specs.declared.kind.Kind.{Kind}
 use Rattle.life_base.proofs.WritingLemmas.{prefix-after, prefix-grows}
 use Rattle.pattern_sources.specs.Faults.{fault_line, refusal_of, status_of, Reports}
 use Rattle.life_pattern.specs.Laws.{RefusalsHaveKinds}
 use Rattle.pattern_sources.specs.Sources.{by_length, by_source, by_want, HasNoText, HasText, InputRefuses, RefusesInForm}
-use Rattle.file_keys.specs.KeyRuns.{broken_off, bytes_of_name, by_call, by_name, by_reading, Comes, greatest_status, IsOutcomeOf, IsReportedAs, LacksBytes, LacksList, list_word, Listed, Name, names_among, names_in, names_of, outcome_status, output_line, output_of, KeysRan, ReadsList, report_line, reports_of, style_of, Processed, Takes, TakesAll, TakesFiles, TellsOn, through, Took, Word, words_of_plan, WritesFiles}
+use Rattle.file_keys.specs.KeyRuns.{broken_off, bytes_of_name, by_call, by_name, by_reading, Comes, greatest_status, IsOutcomeOf, IsReportedAs, LacksBytes, LacksList, list_word, Name, names_among, names_of, outcome_status, output_line, output_of, KeysRan, ReadsList, report_line, reports_of, style_of, Processed, Takes, TakesAll, TakesFiles, TellsOn, through, Took, words_of_plan, WritesFiles}
 use Rattle.command_line.specs.Origins.{OpenerGives}
 use Rattle.command_line.specs.declared.origins.Origin.{Origin}
 use Rattle.command_line.specs.declared.plans.KeyForm.{KeyForm}
 use Rattle.command_line.specs.declared.plans.KeysPlan.{KeysPlan}
 use Rattle.file_hints.specs.Refused.{foreign_on}
-use Rattle.file_keys.specs.Keys.{end_byte_of_name, IsKeyIn, IsStatus, pieces_of}
+use Rattle.file_keys.specs.Keys.{IsKeyIn, IsStatus}
 use Rattle.file_keys.specs.declared.keys.outcome.Outcome.{Outcome}
 use Rattle.file_keys.specs.declared.keys.refusal.OpenedFile.{OpenedFile}
 use Rattle.file_keys.specs.declared.keys.refusal.FileRefusal.{FileRefusal}
@@ -224,33 +222,6 @@ module _ {F R W E : Type 0} (step : F → Origin → Result (OpenedFile R) IoErr
     writes = record { written = p.writes.written; reported = p.writes.reported; status = p.writes.status };
   }
 
-  -- nor what follows
-  pub takes_longer : (form : KeyForm) (names rest more : List Name) (f g : F) (u v : W) (x y : E) (a b : Outputs) (result : Result (Unit {0}) Kind)
-      → TakesFiles step remaining reads_failed held contents failures stalled form names rest f g u v x y a b result
-      → TakesFiles step remaining reads_failed held contents failures stalled form (names ++ more) (rest ++ more) f g u v x y a b result
-  takes_longer form names rest more f g u v x y a b result p = record {
-    processed = p.processed;
-    split = ap (λ l. l ++ more) p.split ∙ append_assoc (names_of p.processed) rest more;
-    takes = p.takes;
-    writes = p.writes;
-  }
-
-  -- the files of the words, and then those of the list
-  pub takes_both : (form form' : KeyForm) (is_zero : Bool) (words : List (List ℕ)) (list : List ℕ) (rest last : List Name) (f g h : F) (u v w : W)
-      (x y z : E) (a b c : Outputs) (result : Result (Unit {0}) Kind) → form' ≡ form → b.style ≡ a.style → rest ≡ []
-      → TakesFiles step remaining reads_failed held contents failures stalled form (map Word words) rest f g u v x y a b (Ok tt)
-      → TakesFiles step remaining reads_failed held contents failures stalled form' (map Listed (names_in (end_byte_of_name is_zero) list)) last g h v w y z b c
-      result
-      → TakesFiles step remaining reads_failed held contents failures stalled form (names_among is_zero words list) last f h u w x z a c result
-  takes_both form form' is_zero words list rest last f g h u v w x y z a b c result is_form is_style all p q =
-      let more = map Listed (names_in (end_byte_of_name is_zero) list) in
-      let first = subst (λ l. TakesFiles step remaining reads_failed held contents failures stalled form (map Word words ++ more)
-      (l ++ more) f g u v x y a b (Ok tt)) all
-      (takes_longer form (map Word words) rest more f g u v x y a b (Ok tt) p) in
-      let second = subst (λ k. TakesFiles step remaining reads_failed held contents failures stalled k more last g h v w y z b c result) is_form q in
-      takes_more step remaining reads_failed held contents failures stalled form (names_among is_zero words list) more last f g h u v w x y z a b c result
-      is_style first second
-
   -- a flush hands on what was written, or fails, and then all of it was written
   pub takes_flushed : (form : KeyForm) (names rest : List Name) (f g : F) (u v w : W) (x y : E) (a b : Outputs) (result : Result (Unit {0}) Kind)
       → TakesFiles step remaining reads_failed held contents failures stalled form names rest f g u v x y a b (Ok tt) → Keeps (held v) (held w)
@@ -269,21 +240,6 @@ module _ {F R W E : Type 0} (step : F → Origin → Result (OpenedFile R) IoErr
         within = omega arith;
         written = subst (Appends (held u) (held w)) (sym (take_all (length s) s (omega arith))) all;
       }
-
--- a name of a list that isn't empty, and the names after it
-pub names_next : (end end' : ℕ) (list name behind : List ℕ) → end ≡ end' → pieces_of end list ≡ name ∷ pieces_of end behind → 0 < length name
-    → map Listed (names_in end' list) ≡ Listed name ∷ map Listed (names_in end' behind)
-names_next end end' list [] behind same is some = absurd (omega (arith, some))
-names_next end end' list (b ∷ name) behind same is some =
-    subst (λ e. map Listed (names_in e list) ≡ Listed (b ∷ name) ∷ map Listed (names_in e behind)) same
-    (ap (λ (pieces : List (List ℕ)). map Listed (filter (λ (piece : List ℕ). not (is_empty piece)) pieces)) is)
-
--- the words from one of them on
-pub words_next : (words : List (Bor (List ℕ))) (i : ℕ) (d : Bor (List ℕ)) → i < length words
-    → map Word (map (λ (word : Bor (List ℕ)). word.now) (drop i words))
-    ≡ Word (get_or words i d).now ∷ map Word (map (λ (word : Bor (List ℕ)). word.now) (drop (i + 1) words))
-words_next words i d lt = ap (λ l. map Word (map (λ (word : Bor (List ℕ)). word.now) l)) (drop-cons words i d lt)
-    ∙ ap (λ n. Word (get_or words i d).now ∷ map Word (map (λ (word : Bor (List ℕ)). word.now) (drop n words))) (sym (add-one i))
 
 -- the list of a run was read
 pub list_read : {F R B : Type 0} (step : F → Origin → Result (OpenedFile R) IoError → F → Type 0) (remaining : R → Option (List ℕ)) (reads_failed : R → ℕ)

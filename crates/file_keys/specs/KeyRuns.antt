@@ -1,5 +1,5 @@
 -- What a run of the command `keys` comes to, file by file, and what it writes of that. The project's own.
-use Rattle.std.specs.Prelude.{◌≡◌, ◌⊎◌, ◌↔◌, ◌^◌, ℕ, Bool, true, false, not, max, List, [], ◌∷◌, ◌++◌, map, filter, flat_map, option_map, Option, Some, None, Result, Ok, Err, OnOk, IsUtf8, if◌then◌else◌}
+use Rattle.std.specs.Prelude.{◌≡◌, ◌⊎◌, ◌↔◌, ◌^◌, ℕ, Bool, true, false, not, max, drop, List, [], ◌∷◌, ◌++◌, map, filter, flat_map, option_map, Option, Some, None, Result, Ok, Err, OnOk, IsUtf8, if◌then◌else◌}
 use Rattle.std.specs.List.{FoldsTo}
 use Rattle.std.specs.IoError.{error_kind}
 use Rattle.std.specs.Io.KnownBytes.{Appends}
@@ -20,6 +20,9 @@ use Rattle.file_hints.specs.Refused.{foreign_on}
 use Rattle.file_keys.specs.Keys.{without_advice, end_byte_of_name, IsKeyIn, key_line, pieces_of, refused_line, unopened_line}
 use Rattle.file_keys.specs.Objects.{object_text}
 use Rattle.command_line.specs.Origins.{OpenerGives, IsOriginOf}
+use Rattle.file_keys.specs.declared.keys.names.FileName.{FileName}
+use Rattle.file_keys.specs.declared.keys.names.FileName.TheVariants as words
+use Rattle.file_keys.specs.declared.keys.names.Names.{Names}
 use Rattle.file_keys.specs.declared.keys.outputs.Outputs.{Outputs}
 use Rattle.file_keys.specs.declared.keys.refusal.OpenedFile.{OpenedFile}
 use Rattle.file_keys.specs.declared.keys.runs.KeyRun.{KeyRun}
@@ -189,6 +192,18 @@ pub record CanTake {F : Type 0} (is_callable : F → Type 0) (run : KeyRun F) (o
 -- the names of a run: the words, and then those in the list
 abbrev pub names_among : Bool → (words : List (List ℕ)) (list : List ℕ) → List Name
 names_among zero words list = map Word words ++ map Listed (names_in (end_byte_of_name zero) list)
+
+-- the same of a name as the code has it
+abbrev pub name_of : FileName → Name
+name_of (words.Word word) = Word word.now
+name_of (words.Listed name) = Listed name.now
+
+-- the names of a list that are still to be processed, and those of a run
+abbrev pub names_in_list : Names → List Name
+names_in_list names = map Listed (names_in names.end names.list.now)
+
+abbrev pub names_left : Names → List Name
+names_left names = map Word (map (λ word. word.now) (drop names.at names.words.now)) ++ names_in_list names
 
 -- the words of a plan that name files, and the one that names a list
 abbrev pub words_of_plan : KeysPlan → List (List ℕ)

@@ -2,11 +2,11 @@
 pub use Rattle.file_keys.specs.Duplicates.{CanGather, classes_in, Gathers, kept_groups, kept_names, next_names, PutsFile, RanDuplicates, with_name, with_outcome}
 pub use Rattle.file_keys.specs.Groups.{ended_name, groups_text, GroupsAreByKey, IsGroupStatus, names_text, status_by}
 pub use Rattle.file_keys.specs.Json.{control_text, hex_digits, json_byte, json_text, json_name}
-pub use Rattle.file_keys.specs.KeyRuns.{CanBegin, CanTake, Comes, error_line, IsOutcomeOf, IsReportedAs, LacksBytes, LacksList, Listed, names_among, names_in, outcome_line}
-pub use Rattle.file_keys.specs.KeyRuns.{outcome_status, output_line, KeysRan, ReadsList, report_line, style_by, style_of, Takes, TakesNames, TellsOn, Word, WritesFiles}
+pub use Rattle.file_keys.specs.KeyRuns.{bytes_of_name, CanBegin, CanTake, Comes, error_line, IsOutcomeOf, IsReportedAs, LacksBytes, LacksList, Listed, name_of, names_among, names_in_list, names_left, outcome_line}
+pub use Rattle.file_keys.specs.KeyRuns.{outcome_status, output_line, KeysRan, ReadsList, report_line, style_by, style_of, Takes, TakesNames, TellsOn, WritesFiles}
 pub use Rattle.file_hints.specs.Refused.{advice_words, foreign_on}
 pub use Rattle.file_hints.specs.Warnings.{warning_sentence}
-pub use Rattle.file_keys.specs.Keys.{advice_lead, without_advice, end_byte_of_name, escaped_name, escaped_byte, fault_text, is_special, IsHashedText, IsKeyIn, IsKeyOf, IsStatus, key_line, name_mark, pieces_of, reason_of}
+pub use Rattle.file_keys.specs.Keys.{advice_lead, without_advice, escaped_name, escaped_byte, fault_text, is_special, IsHashedText, IsKeyIn, IsKeyOf, IsStatus, key_line, name_mark, pieces_of, reason_of}
 pub use Rattle.file_keys.specs.Keys.{refused_line, unopened_line}
 pub use Rattle.file_keys.specs.Objects.{fault_members, key_members, kind_member, line_member, members_text, object_head, object_text, reason_member}
 pub use Rattle.file_keys.specs.Pieces.{piece_text, pieces_text, replacement_of}

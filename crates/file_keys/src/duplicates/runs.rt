@@ -1,15 +1,15 @@
 //! The command `duplicates`: its files, one after another, and then the groups.
 
-ghost use Rattle.std.specs.Prelude.{◌≡◌, [], false, map};
-ghost use Rattle.file_keys.specs.Words.{sink_run, CanBegin, CanGather, end_byte_of_name, Gathers, IsGroupStatus, Listed, names_in, RanDuplicates, Word};
+ghost use Rattle.std.specs.Prelude.{◌≡◌, []};
+ghost use Rattle.file_keys.specs.Words.{sink_run, CanBegin, CanGather, Gathers, IsGroupStatus, names_left, RanDuplicates};
 
 use super::gathered::Gathered;
 use super::texts::write_groups;
 use crate::keys::files::Files;
-use crate::keys::names::first_name;
+use crate::keys::names::Names;
 use crate::keys::outputs::break_off;
 use crate::keys::refusal::OpenedFile;
-use command_line::{KeysPlan, Origin, origin_of};
+use command_line::{KeysPlan, Origin};
 use life_base::{Sink, Source};
 use pattern_sources::{Seeds, refuse};
 use std::alloc::Global;
@@ -26,40 +26,18 @@ impl<'a, R: Source + Drop, F: FnMut(Origin<'_>) -> IoResult<OpenedFile<R>> + Dro
     'a,
     F,
 > {
-    /// Takes the files that the words name.
-    fn take_words<E: Sink>(&mut self, words: &[&'a str], err: &mut E)
-        requires { CanGather F.IsAlwaysCallable self.old (E.failures err.old) }
-        ensures can { CanGather F.IsAlwaysCallable self.new (E.failures err.new) }
-        ensures form { self.new.files.form ≡ self.old.files.form }
-        ensures gathers { Gathers F.step R.remaining R.failures E.contents E.failures E.stalled
-            self.old.files.form (map Word (map (λ word. word.now) words.now)) []
-            self.old.files.opener self.new.files.opener err.old err.new self.old.gathered
-            self.new.gathered }
-    {
-        for word in words {
-            let outcome = self.files.outcome(origin_of(word));
-            self.gathered.put(word.as_bytes(), outcome, err);
-        }
-    }
-
-    /// Takes the files that a list names, whose names end in NUL or in LF.
-    fn take_list<E: Sink>(&mut self, list: &'a [u8], zero: bool, err: &mut E)
+    /// Takes the files that these names name.
+    fn take_all<E: Sink>(&mut self, mut names: Names<'_, 'a>, err: &mut E)
         requires { CanGather F.IsAlwaysCallable self.old (E.failures err.old) }
         ensures can { CanGather F.IsAlwaysCallable self.new (E.failures err.new) }
         ensures gathers { Gathers F.step R.remaining R.failures E.contents E.failures E.stalled
-            self.old.files.form (map Listed (names_in (end_byte_of_name zero) list.now)) []
+            self.old.files.form (names_left names.entry) []
             self.old.files.opener self.new.files.opener err.old err.new self.old.gathered
             self.new.gathered }
     {
-        let end = if zero { b'\0' } else { b'\n' };
-        let mut rest = list;
-        while !rest.is_empty() {
-            let (name, behind) = first_name(rest, end);
-            rest = behind;
-            if !name.is_empty() {
-                let outcome = self.files.listed_outcome(name);
-                self.gathered.put(name, outcome, err);
-            }
+        while let Some(name) = names.next_name() {
+            let outcome = self.files.take(name);
+            self.gathered.put(name.bytes(), outcome, err);
         }
     }
 }
@@ -102,8 +80,8 @@ where
         files,
         gathered: Gathered::new(alloc, seeds),
     };
-    run.take_words(plan.files.as_slice(), err);
-    run.take_list(list.as_slice(), plan.zero, err);
+    let names = Names::new(plan.files.as_slice(), list.as_slice(), plan.zero);
+    run.take_all(names, err);
     match write_groups(out, &run.gathered.groups, plan.zero) {
         Ok(()) => run.gathered.final_status(),
         Err(kind) => break_off(run.gathered.tells, err, kind),

@@ -1,9 +1,10 @@
 //! What the files of the command `keys` come to.
 
 ghost use Rattle.std.specs.Prelude.{◌≡◌, ◌^◌, IfErr, IfOk, OnOk, Some, option_map};
-ghost use Rattle.file_keys.specs.Words.{source_run, Comes, IsOutcomeOf, LacksBytes, LacksList, Listed, ReadAll, ReadsList, Takes};
+ghost use Rattle.file_keys.specs.Words.{source_run, Comes, IsOutcomeOf, LacksBytes, LacksList, Listed, name_of, ReadAll, ReadsList, Takes};
 
 use super::key_of;
+use super::names::FileName;
 use super::outcome::Outcome;
 use super::refusal::{FileRefusal, OpenedFile};
 use command_line::{KeyForm, Origin, origin_of};
@@ -68,7 +69,7 @@ fn list_bytes<R: Source>(alloc: Global, source: &mut R) -> Result<Vec<u8>, Kind>
 
 impl<R: Source + Drop, F: FnMut(Origin<'_>) -> IoResult<OpenedFile<R>> + Drop> Files<F> {
     /// Opens what a name names, and reads it to its end.
-    pub(crate) fn outcome(&mut self, origin: Origin<'_>) -> Outcome
+    fn outcome(&mut self, origin: Origin<'_>) -> Outcome
         requires callable { F.IsAlwaysCallable self.old.opener }
         ensures callable { F.IsAlwaysCallable self.new.opener }
         ensures comes { (given : _) × F.step self.old.opener origin.entry given self.new.opener
@@ -91,7 +92,7 @@ impl<R: Source + Drop, F: FnMut(Origin<'_>) -> IoResult<OpenedFile<R>> + Drop> F
     }
 
     /// The same of a name in a list, which is a file, and can't be opened where it is no UTF-8 text.
-    pub(crate) fn listed_outcome(&mut self, name: &[u8]) -> Outcome
+    fn listed_outcome(&mut self, name: &[u8]) -> Outcome
         requires callable { F.IsAlwaysCallable self.old.opener }
         ensures callable { F.IsAlwaysCallable self.new.opener }
         ensures takes { Takes F.step R.remaining R.failures self.old.form self.old.opener
@@ -101,6 +102,20 @@ impl<R: Source + Drop, F: FnMut(Origin<'_>) -> IoResult<OpenedFile<R>> + Drop> F
         match str::from_utf8(name) {
             Ok(text) => self.outcome(Origin::File(text)),
             Err(_) => Outcome::Unopened(ErrorKind::InvalidData),
+        }
+    }
+
+    /// Opens what a name of a run names, and reads it to its end.
+    pub(crate) fn take(&mut self, name: FileName<'_>) -> Outcome
+        requires callable { F.IsAlwaysCallable self.old.opener }
+        ensures callable { F.IsAlwaysCallable self.new.opener }
+        ensures takes { Takes F.step R.remaining R.failures self.old.form self.old.opener
+            (record { name = name_of name.entry; outcome = result }) self.new.opener }
+        ensures form { self.new.form ≡ self.old.form }
+    {
+        match name {
+            FileName::Word(word) => self.outcome(origin_of(word)),
+            FileName::Listed(bytes) => self.listed_outcome(bytes),
         }
     }
 

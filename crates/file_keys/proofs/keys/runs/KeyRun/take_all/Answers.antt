@@ -1,48 +1,46 @@
-use Rattle.std.proofs.Common.{◌++◌, map}
+use Rattle.std.proofs.Common.{◌∙◌, refl}
 use Rattle.std.proofs.lemmas.Result.{err_from_is_err_and}
-use Rattle.file_keys.specs.Keys.{end_byte_of_name}
-use Rattle.file_keys.specs.KeyRuns.{Listed, names_in}
-use Rattle.file_keys.proofs.KeyRunLemmas.{hears_on, on_ok, takes_both, takes_err, takes_flushed, takes_longer}
+use Rattle.file_keys.specs.KeyRuns.{names_left}
+use Rattle.file_keys.proofs.KeyRunLemmas.{hears_on, on_ok, takes_err, takes_flushed, takes_next, takes_none}
 use Rattle.file_keys.proofs.keys.runs.KeyRun.take_all.Goals as goal
 
-pub take_words-requires : goal.take_words-requires
-take_words-requires g c = record { callable = c.requires.callable; works = c.requires.works; hears = c.requires.hears }
+pub loop-name-init : goal.loop-name-init
+loop-name-init g c = record { can = c.requires; stalled = refl; style = refl; form = refl; took = takes_none _ _ _ _ _ _ _ _ _ _ _ _ _ c.requires.hears }
 
-pub take_list-requires : goal.take_list-requires
-take_list-requires g c = record {
-  callable = c.in_ok-take_words.ensures.callable;
-  works = c.in_ok-take_words.ensures.sink.works;
-  hears = hears_on _ _ _ _ _ _ _ _ c.in_ok-take_words.ensures.took.2.writes.reported;
+pub loop-name-preserved : goal.loop-name-preserved
+loop-name-preserved g c = record {
+  can = record {
+    callable = c.take-outcome.ensures.callable;
+    works = c.in_ok-put.ensures.sink.works;
+    hears = hears_on _ _ _ _ _ _ _ _ c.in_ok-put.ensures.processed.2.reported;
+  };
+  stalled = c.in_ok-put.ensures.sink.stalled ∙ c.loop-name.invariant.stalled;
+  style = c.in_ok-put.ensures.style ∙ c.loop-name.invariant.style;
+  form = c.take-outcome.ensures.form ∙ c.loop-name.invariant.form;
+  took = takes_next _ _ _ _ _ _ _ _ _ _ _ _ _ _ _ _ _ _ _ _ _ _ _ _ _ _ _ _ c.loop-name.invariant.form c.loop-name.invariant.style
+      c.in-Some.ensures c.bytes.ensures c.loop-name.invariant.took c.take-outcome.ensures.takes c.in_ok-put.ensures.processed;
 }
 
-pub returns-in_err-take_words-clause-took : goal.returns-in_err-take_words-clause-took
-returns-in_err-take_words-clause-took g c =
+pub returns-in_err-put-clause-took : goal.returns-in_err-put-clause-took
+returns-in_err-put-clause-took g c =
     let p = err_from_is_err_and c.from_residual.result c.from_residual.ensures.1 in
-    let first = c.in_err-take_words.ensures.took in
     rw p.1 (
-      first.0 ++ map Listed (names_in (end_byte_of_name c.args.zero) c.args.list.now),
+      names_left c.next_name.new.self,
       tt,
-      takes_err _ _ _ _ _ _ _ _ _ _ _ _ _ _ _ _ _ _ _ _ (takes_longer _ _ _ _ _ _ _ _ _ _ _ _ _ _ _ _ _ _ _ _ first.2),
+      takes_err _ _ _ _ _ _ _ _ _ _ _ _ _ _ _ _ _ _ _ _ (takes_next _ _ _ _ _ _ _ _ _ _ _ _ _ _ _ _ _ _ _ _ _ _ _ _ _ _ _ _
+          c.loop-name.invariant.form c.loop-name.invariant.style c.in-Some.ensures c.bytes.ensures c.loop-name.invariant.took
+          c.take-outcome.ensures.takes c.in_err-put.ensures.processed),
     )
 
-pub returns-in_err-take_list-clause-took : goal.returns-in_err-take_list-clause-took
-returns-in_err-take_list-clause-took g c =
-    let p = err_from_is_err_and c.from_residual-in_err-take_list.result c.from_residual-in_err-take_list.ensures.1 in
-    let first = c.in_ok-take_words.ensures.took in
-    let second = c.in_err-take_list.ensures.took in
-    rw p.1 (
-      second.0,
-      tt,
-      takes_err _ _ _ _ _ _ _ _ _ _ _ _ _ _ _ _ _ _ _ _ (takes_both _ _ _ _ _ _ _ _ _ c.args.zero _ c.args.list.now _ _ _ _ _ _ _ _ _ _ _ _ _ _ _
-          c.in_ok-take_words.ensures.form c.in_ok-take_words.ensures.style first.1 first.2 second.2),
-    )
+pub returns-in_err-put-clause-sink : goal.returns-in_err-put-clause-sink
+returns-in_err-put-clause-sink g c =
+    let p = err_from_is_err_and c.from_residual.result c.from_residual.ensures.1 in
+    let left = c.in_err-put.ensures.sink in
+    rw p.1 (record { works = tt; kind = p.2 ∙ left.kind; cause = left.cause; stalled = tt; failed = λ is. left.failed is ∙ c.loop-name.invariant.stalled })
 
 pub returns-clause-took : goal.returns-clause-took
-returns-clause-took g c =
-    let first = c.in_ok-take_words.ensures.took in
-    let second = c.in_ok-take_list.ensures.took in (
-      second.0,
-      on_ok _ c.flush.result second.1,
-      takes_flushed _ _ _ _ _ _ _ _ _ _ _ _ _ _ _ _ _ _ _ _ (takes_both _ _ _ _ _ _ _ _ _ c.args.zero _ c.args.list.now _ _ _ _ _ _ _ _ _ _ _ _ _ _ _
-          c.in_ok-take_words.ensures.form c.in_ok-take_words.ensures.style first.1 first.2 second.2) c.flush.ensures.bytes,
-    )
+returns-clause-took g c = (
+  names_left c.loop-name.names,
+  on_ok _ c.flush.result c.in_default.ensures,
+  takes_flushed _ _ _ _ _ _ _ _ _ _ _ _ _ _ _ _ _ _ _ _ c.loop-name.invariant.took c.flush.ensures.bytes,
+)
