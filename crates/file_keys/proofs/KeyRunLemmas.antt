@@ -340,11 +340,12 @@ broken_tells contents failures stalled true x y z s t p q r = elim (q refl) [
 broken_tells contents failures stalled false x y z s t p q r =
     subst (λ last. Reports (sink_run contents failures stalled x last) (s ++ t)) (sym (r refl)) (inr (prefix-grows _ _ s t p.0, p.1))
 
-pub names_same : (z z' : Bool) (words words' : List (Bor (List ℕ))) (list list' : List ℕ) → z ≡ z' → words ≡ words' → list ≡ list'
-    → names_among z (map (λ (word : Bor (List ℕ)). word.now) words) list ≡ names_among z' (map (λ (word : Bor (List ℕ)). word.now) words') list'
-names_same z z' words words' list list' p q r = ap (λ e. names_among e (map (λ (word : Bor (List ℕ)). word.now) words) list) p
-    ∙ ap (λ w. names_among z' (map (λ (word : Bor (List ℕ)). word.now) w) list) q
-    ∙ ap (λ l. names_among z' (map (λ (word : Bor (List ℕ)). word.now) words') l) r
+-- the names of a run are those among its arguments and its list, and these are the same as others
+pub names_same : (names : List Name) (z : Bool) (words words' : List (Bor (List ℕ))) (list list' : List ℕ)
+    → names ≡ names_among z (map (λ (word : Bor (List ℕ)). word.now) words) list → words ≡ words' → list ≡ list'
+    → names ≡ names_among z (map (λ (word : Bor (List ℕ)). word.now) words') list'
+names_same names z words words' list list' is p q = is ∙ ap (λ w. names_among z (map (λ (word : Bor (List ℕ)). word.now) w) list) p
+    ∙ ap (λ l. names_among z (map (λ (word : Bor (List ℕ)). word.now) words') l) q
 
 pub from_none : (m n g : ℕ) → n ≡ max m g → m ≡ 0 → n ≡ g
 from_none m n g is none = omega (arith, is, none)

@@ -14,7 +14,7 @@ returns-in-Ok-take_all-clause-ran g c =
     ran_through (goal.F-step g) g.R.Source.remaining g.R.Source.failures g.W.Sink.contents g.W.Sink.failures g.W.Sink.stalled g.E.Sink.contents
     g.E.Sink.failures
     g.E.Sink.stalled c.args.plan.now c.args.opener c.list.new.self.opener c.take_all.new.self.files.opener c.in-Ok.list.items _ _ _ _ _ _ _ _ _ _
-    c.in-Ok.ensures.ok c.list.ensures.form (c.new-names.ensures ∙ names_same _ _ _ _ _ _ refl c.as_slice.ensures.value c.as_slice-2.ensures.value)
+    c.in-Ok.ensures.ok c.list.ensures.form (names_same _ _ _ _ _ _ c.new-names.ensures c.as_slice.ensures.value c.as_slice-2.ensures.value)
     (c.new.ensures.style ∙ c.by.ensures) c.new.ensures.tells c.new.ensures.status took.1 took.2 c.in-Ok-take_all.ensures.flushed
 
 pub returns-in-Ok-take_all-clause-status : goal.returns-in-Ok-take_all-clause-status
@@ -27,6 +27,6 @@ returns-clause-ran g c =
     let took = c.in-Err-take_all.ensures.took in
     ran_broken (goal.F-step g) g.R.Source.remaining g.R.Source.failures g.W.Sink.contents g.W.Sink.failures g.W.Sink.stalled g.E.Sink.contents g.E.Sink.failures
     g.E.Sink.stalled c.args.plan.now c.args.opener c.list.new.self.opener c.take_all.new.self.files.opener c.in-Ok.list.items _ _ _ _ _ _ _ _ _ _ _ _ _
-    c.in-Ok.ensures.ok c.list.ensures.form (c.new-names.ensures ∙ names_same _ _ _ _ _ _ refl c.as_slice.ensures.value c.as_slice-2.ensures.value)
+    c.in-Ok.ensures.ok c.list.ensures.form (names_same _ _ _ _ _ _ c.new-names.ensures c.as_slice.ensures.value c.as_slice-2.ensures.value)
     (c.new.ensures.style ∙ c.by.ensures) c.new.ensures.tells took.2 c.in-Err-take_all.ensures.sink.kind c.in-Err-take_all.ensures.sink.cause
     c.break_off.ensures.reported c.break_off.ensures.silent c.break_off.ensures.status
