@@ -193,7 +193,7 @@ pub record CanTake {F : Type 0} (is_callable : F → Type 0) (run : KeyRun F) (o
 abbrev pub names_among : Bool → (words : List (List ℕ)) (list : List ℕ) → List Name
 names_among zero words list = map Word words ++ map Listed (names_in (end_byte_of_name zero) list)
 
--- the same of a name as the code has it
+-- a name of a run, by how the code has it
 abbrev pub name_of : FileName → Name
 name_of (words.Word word) = Word word.now
 name_of (words.Listed name) = Listed name.now
