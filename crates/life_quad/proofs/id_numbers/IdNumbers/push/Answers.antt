@@ -1,3 +1,4 @@
+use Rattle.std.proofs.lemmas.Grind.{common_steps}
 use Rattle.std.proofs.Common.{◌≡◌, ◌+◌, ◌<◌, ◌++◌, ◌∷◌, [], ap, sym, ◌∙◌, subst, arith, length, length-append, length-set, map, Contains}
 use Rattle.life_quad.specs.IdMap.{value_of_id}
 use Rattle.life_quad.specs.Store.{id_of}
@@ -33,3 +34,6 @@ invariant_of-self c =
       subst (λ n. n < 4294967296) (sym (length-set numbers index (c.self.inside.count + 1))) c.self.invariant.2,
       c.self.invariant.3,
     )
+
+pub returns-clause-number : goal.returns-clause-number
+returns-clause-number c = grind (arith, common_steps)
