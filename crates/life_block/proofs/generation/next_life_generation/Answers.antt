@@ -1,4 +1,4 @@
-use Rattle.std.proofs.Common.{◌≡◌, ◌≤◌, ◌⊎◌, ℤ, Some, None, IfOk, IfErr, sym, ◌∙◌, subst, arith}
+use Rattle.std.proofs.Common.{◌≡◌, ◌≤◌, ◌⊎◌, ℤ, Some, None, IfOk, IfErr, sym, ◌∙◌, subst, arith, rules}
 use Rattle.std.proofs.lemmas.Result.{IfOk-weaker}
 use Rattle.life_base.specs.Sets.{OuterTotalistic}
 use Rattle.life_base.specs.Tree.{depth, tree_cell}
@@ -97,3 +97,6 @@ pub returns-clause-adds : goal.returns-clause-adds
 returns-clause-adds g c =
     let low = c.level.ensures in
     adds-as _ c.in_ok-next_life_square.ensures.adds (λ P. of_square (omega (arith, low.level, low.low, c.if-level-eq-MAX_LEVEL.false)))
+
+pub returns-then-branch-from-clause-refusals : goal.returns-then-branch-from-clause-refusals
+returns-then-branch-from-clause-refusals g c = search rules

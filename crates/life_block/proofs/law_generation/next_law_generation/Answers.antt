@@ -1,4 +1,4 @@
-use Rattle.std.proofs.Common.{◌≤◌, ◌⊎◌, Ok, Some, IfErr, ap, arith}
+use Rattle.std.proofs.Common.{◌≤◌, ◌⊎◌, Ok, Some, IfErr, ap, arith, rules}
 use Rattle.std.proofs.lemmas.Result.{err_from_is_err_and}
 use Rattle.life_base.specs.Tree.{tree_cell}
 use Rattle.life_quad.specs.Cells.{population}
@@ -40,3 +40,6 @@ returns-clause-adds g c =
     of-equals (λ l s. AddsOnly g.S.Squares.stored (λ P. SomeNext P (g.L.Law.answers l) (tree_cell (g.S.Squares.content s c.args.id))) s
     c.next_generation.new.squares)
     c.in_ok-next.ensures.same (c.in_ok-next.ensures.unchanged (ap Ok c.in_default.is)) c.next_generation.ensures.adds
+
+pub returns-then-count-from-clause-refusals : goal.returns-then-count-from-clause-refusals
+returns-then-count-from-clause-refusals g c = search rules
