@@ -194,9 +194,9 @@ abbrev pub names_among : Bool → (words : List (List ℕ)) (list : List ℕ) �
 names_among zero words list = map Word words ++ map Listed (names_in (end_byte_of_name zero) list)
 
 -- a name of a run, by how the code has it
-abbrev pub name_of : FileName → Name
-name_of (words.Word word) = Word word.now
-name_of (words.Listed name) = Listed name.now
+abbrev pub name_of_file : FileName → Name
+name_of_file (words.Word word) = Word word.now
+name_of_file (words.Listed name) = Listed name.now
 
 -- the names of a list that are still to be processed, and those of a run
 abbrev pub names_in_list : Names → List Name

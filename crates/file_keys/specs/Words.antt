@@ -2,7 +2,7 @@
 pub use Rattle.file_keys.specs.Duplicates.{CanGather, classes_in, Gathers, kept_groups, kept_names, next_names, PutsFile, RanDuplicates, with_name, with_outcome}
 pub use Rattle.file_keys.specs.Groups.{ended_name, groups_text, GroupsAreByKey, IsGroupStatus, names_text, status_by}
 pub use Rattle.file_keys.specs.Json.{control_text, hex_digits, json_byte, json_text, json_name}
-pub use Rattle.file_keys.specs.KeyRuns.{bytes_of_name, CanBegin, CanTake, Comes, error_line, IsOutcomeOf, IsReportedAs, LacksBytes, LacksList, Listed, name_of, names_among, names_in_list, names_left, outcome_line}
+pub use Rattle.file_keys.specs.KeyRuns.{bytes_of_name, CanBegin, CanTake, Comes, error_line, IsOutcomeOf, IsReportedAs, LacksBytes, LacksList, Listed, name_of_file, names_among, names_in_list, names_left, outcome_line}
 pub use Rattle.file_keys.specs.KeyRuns.{outcome_status, output_line, KeysRan, ReadsList, report_line, style_by, style_of, Takes, TakesNames, TellsOn, WritesFiles}
 pub use Rattle.file_hints.specs.Refused.{advice_words, foreign_on}
 pub use Rattle.file_hints.specs.Warnings.{warning_sentence}

@@ -1,7 +1,7 @@
 //! What the files of the command `keys` come to.
 
 ghost use Rattle.std.specs.Prelude.{◌≡◌, ◌^◌, IfErr, IfOk, OnOk, Some, option_map};
-ghost use Rattle.file_keys.specs.Words.{source_run, Comes, IsOutcomeOf, LacksBytes, LacksList, Listed, name_of, ReadAll, ReadsList, Takes};
+ghost use Rattle.file_keys.specs.Words.{source_run, Comes, IsOutcomeOf, LacksBytes, LacksList, Listed, name_of_file, ReadAll, ReadsList, Takes};
 
 use super::key_of;
 use super::names::FileName;
@@ -110,7 +110,7 @@ impl<R: Source + Drop, F: FnMut(Origin<'_>) -> IoResult<OpenedFile<R>> + Drop> F
         requires callable { F.IsAlwaysCallable self.old.opener }
         ensures callable { F.IsAlwaysCallable self.new.opener }
         ensures takes { Takes F.step R.remaining R.failures self.old.form self.old.opener
-            (record { name = name_of name.entry; outcome = result }) self.new.opener }
+            (record { name = name_of_file name.entry; outcome = result }) self.new.opener }
         ensures form { self.new.form ≡ self.old.form }
     {
         match name {

@@ -1,7 +1,7 @@
 //! The names of a run: its arguments, and then those in its list.
 
 ghost use Rattle.std.specs.Prelude.{◌≡◌, ◌<◌, ◌∷◌, [], length, map, MatchOption};
-ghost use Rattle.file_keys.specs.Words.{bytes_of_name, Listed, name_of, names_among, names_in_list, names_left, pieces_of};
+ghost use Rattle.file_keys.specs.Words.{bytes_of_name, Listed, name_of_file, names_among, names_in_list, names_left, pieces_of};
 
 use memchr::memchr;
 
@@ -17,7 +17,7 @@ pub enum FileName<'a> {
 impl<'a> FileName<'a> {
     /// The bytes of the name.
     pub(crate) fn bytes(self) -> &'a [u8]
-        ensures { result.now ≡ bytes_of_name (name_of self.entry) }
+        ensures { result.now ≡ bytes_of_name (name_of_file self.entry) }
     {
         match self {
             FileName::Word(word) => word.as_bytes(),
@@ -85,7 +85,7 @@ impl<'w, 'a> Names<'w, 'a> {
     /// Takes the next name, if there is one.
     pub(crate) fn next_name(&mut self) -> Option<FileName<'a>>
         ensures { MatchOption result (names_left self.old ≡ [])
-            (λ name. names_left self.old ≡ name_of name ∷ names_left self.new) }
+            (λ name. names_left self.old ≡ name_of_file name ∷ names_left self.new) }
     {
         if let Some(word) = self.words.get(self.at) {
             self.at += 1;
