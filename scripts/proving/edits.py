@@ -8,8 +8,8 @@ one check (a round) can try many edits, over the work that the proof of the crat
   and proof files (scripts/proving/copies.py).
 - Later rounds change the functions themselves: for edits that can't be such a copy, at most one edit of a function.
 
-A round asks for the modules that it changes (`rattle check --only`), with whatever their functions call. For all else the crate's proof, over which the round
-is tried, has just been made.
+A round asks for the modules that it changes (`rattle check --only`), with whatever their functions call. For all else there is the proof of the crate, over
+which the round is tried.
 
 What makes a refusal count:
 
